@@ -1,0 +1,98 @@
+-- The size of a box, one axis at a time.
+use Rattle.std.proofs.Common.{◌≡◌, ℕ, ◌+◌, ◌*◌, ◌<◌, ◌≤◌, ◌^◌, suc, zero, List, [], ◌∷◌, ◌++◌, length, take, drop, get_or, sym, ◌∙◌, ◌/◌, ◌%◌, ap, arith}
+use Rattle.std.proofs.Math.Seq.{take-suc}
+use Rattle.std.proofs.Math.Nat.{mul-le-mul_left, div-lt_iff_lt-mul}
+use Rattle.std.proofs.lemmas.Nat.{div-add-mod'}
+use Rattle.std.proofs.lemmas.List.{take_all, take-append-drop}
+use Rattle.ndarray.specs.Index.{size}
+use Rattle.ndarray.specs.Limits.{nonzero_size}
+
+pub size-append : (ns ms : List ℕ) → size (ns ++ ms) ≡ size ns * size ms
+size-append [] ms = omega arith
+size-append (n ∷ ns) ms = ap (λ x. n * x) (size-append ns ms) ∙ omega arith
+
+-- ---- the size, one axis at a time
+
+pub size-take_more : (ns : List ℕ) (k : ℕ) → k < length ns → size (take (k + 1) ns) ≡ size (take k ns) * get_or ns k 0
+size-take_more ns k h =
+    let e : k + 1 ≡ suc k = omega arith in
+    ap (λ x. size (take x ns)) e
+    ∙ (ap size (take-suc ns k 0 h)
+    ∙ (size-append (take k ns) (get_or ns k 0 ∷ []) ∙ omega arith))
+
+pub size-le : (ns : List ℕ) → size ns ≤ nonzero_size ns
+size-le [] = omega arith
+size-le (zero ∷ ns) = omega arith
+size-le (suc n ∷ ns) = mul-le-mul_left (suc n) (size-le ns)
+
+nonzero-pos : (ns : List ℕ) → 0 < nonzero_size ns
+nonzero-pos [] = omega arith
+nonzero-pos (zero ∷ ns) = nonzero-pos ns
+nonzero-pos (suc n ∷ ns) = let p = nonzero-pos ns in let m = mul-le-mul_left n p in omega arith
+
+nonzero-take : (ns : List ℕ) (k : ℕ) → nonzero_size (take k ns) ≤ nonzero_size ns
+nonzero-take ns zero = nonzero-pos ns
+nonzero-take [] (suc k) = omega arith
+nonzero-take (zero ∷ ns) (suc k) = nonzero-take ns k
+nonzero-take (suc n ∷ ns) (suc k) = mul-le-mul_left (suc n) (nonzero-take ns k)
+
+pub size-take_fits : (ns : List ℕ) (k : ℕ) → nonzero_size ns < 2 ^ 63 → size (take k ns) < 2 ^ 64
+size-take_fits ns k h = let a = size-le (take k ns) in let b = nonzero-take ns k in omega arith
+
+pub size-take_all : (ns : List ℕ) (k : ℕ) → length ns ≤ k → size (take k ns) ≡ size ns
+size-take_all ns k h = ap size (take_all k ns h)
+
+pub ruleset sizes = (size-take_more, size-take_fits, size-take_all)
+
+-- ---- the limit, one axis at a time
+
+pub nonzero-append : (ns ms : List ℕ) → nonzero_size (ns ++ ms) ≡ nonzero_size ns * nonzero_size ms
+nonzero-append [] ms = omega arith
+nonzero-append (zero ∷ ns) ms = nonzero-append ns ms
+nonzero-append (suc n ∷ ns) ms = ap (λ x. suc n * x) (nonzero-append ns ms) ∙ omega arith
+
+nonzero-one : (n : ℕ) → 0 < n → nonzero_size (n ∷ []) ≡ n
+nonzero-one zero h = absurd (omega arith)
+nonzero-one (suc n) h = omega arith
+
+nonzero-take_more : (ns : List ℕ) (k : ℕ) → k < length ns → nonzero_size (take (k + 1) ns) ≡ nonzero_size (take k ns) * nonzero_size (get_or ns k 0 ∷ [])
+nonzero-take_more ns k h =
+    let e : k + 1 ≡ suc k = omega arith in
+    ap (λ x. nonzero_size (take x ns)) e ∙ (ap nonzero_size (take-suc ns k 0 h) ∙ nonzero-append (take k ns) (get_or ns k 0 ∷ []))
+
+module _ (ns : List ℕ) (k all len : ℕ) (here : k < length ns) (so_far : all ≡ nonzero_size (take k ns)) (el : len ≡ get_or ns k 0) where
+  pub limit_stop : 0 < all → 0 < len → 9223372036854775807 / all < len → nonzero_size ns < 2 ^ 63 → ⊥
+  limit_stop pa pl q h =
+      let m : 9223372036854775807 < len * all = (div-lt_iff_lt-mul pa).0 q in
+      let e = nonzero-take_more ns k here in
+      let o = nonzero-one (get_or ns k 0) (omega arith) in
+      let e2 : nonzero_size (take (k + 1) ns) ≡ len * all = e ∙ (ap (λ x. nonzero_size (take k ns) * x) (o ∙ sym el) ∙ (ap (λ x. x * len) (sym so_far) ∙ omega arith)) in
+      let b = nonzero-take ns (k + 1) in
+      omega arith
+
+  pub limit_more : 0 < all → 0 < len → len ≤ 9223372036854775807 / all → (0 < all * len) × (all * len < 2 ^ 63) × (all * len ≡ nonzero_size (take (k + 1) ns))
+  limit_more pa pl q =
+      let e = nonzero-take_more ns k here in
+      let o = nonzero-one (get_or ns k 0) (omega arith) in
+      let e2 : all * len ≡ nonzero_size (take (k + 1) ns) = sym (e ∙ (ap (λ x. nonzero_size (take k ns) * x) (o ∙ sym el) ∙ ap (λ x. x * len) (sym so_far))) in
+      let m : all * 1 ≤ all * len = mul-le-mul_left all pl in
+      let d : 9223372036854775807 / all * all + 9223372036854775807 % all ≡ 9223372036854775807 = div-add-mod' 9223372036854775807 all in
+      let m2 : all * len ≤ all * (9223372036854775807 / all) = mul-le-mul_left all q in
+      (omega arith, omega arith, e2)
+
+  pub limit_same : len ≡ 0 → all ≡ nonzero_size (take (k + 1) ns)
+  limit_same z =
+      let e = nonzero-take_more ns k here in
+      let o : nonzero_size (get_or ns k 0 ∷ []) ≡ 1 = ap (λ x. nonzero_size (x ∷ [])) (sym el ∙ z) in
+      so_far ∙ sym (e ∙ (ap (λ x. nonzero_size (take k ns) * x) o ∙ omega arith))
+
+nonzero-drop : (ns : List ℕ) (k : ℕ) → nonzero_size (drop k ns) ≤ nonzero_size ns
+nonzero-drop ns k =
+    let e = ap nonzero_size (take-append-drop k ns) in
+    let a = nonzero-append (take k ns) (drop k ns) in
+    let p = nonzero-pos (take k ns) in
+    let m : nonzero_size (drop k ns) * 1 ≤ nonzero_size (drop k ns) * nonzero_size (take k ns) = mul-le-mul_left (nonzero_size (drop k ns)) p in
+    omega arith
+
+pub size-drop_fits : (ns : List ℕ) (k : ℕ) → nonzero_size ns < 2 ^ 63 → size (drop k ns) < 2 ^ 64
+size-drop_fits ns k h = let a = size-le (drop k ns) in let b = nonzero-drop ns k in omega arith

@@ -1,0 +1,4 @@
+-- What only `base` speaks of: places and strides.
+pub mod Places
+pub mod Storage
+pub mod Strides

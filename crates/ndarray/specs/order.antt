@@ -1,0 +1,2 @@
+-- What only `order` speaks of.
+pub mod Steps

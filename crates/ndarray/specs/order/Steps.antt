@@ -1,0 +1,41 @@
+-- Inside `order`: where a walk stands in its box.
+use Rattle.std.specs.Prelude.{ℕ, ◌+◌, ◌-◌, ◌*◌, ◌<◌, ◌≤◌, List, [], ◌∷◌, length, take, drop}
+use Rattle.ndarray.specs.Index.{InBox, size}
+use Rattle.ndarray.specs.Orders.{box_in}
+use Rattle.ndarray.specs.declared.base.shape.Order.{Order}
+use Rattle.ndarray.specs.declared.base.shape.Order.TheVariants.{RowMajor, ColumnMajor}
+
+-- how many index lists come before this one in row order
+unfoldable pub rank : List ℕ → List ℕ → ℕ
+rank [] is = 0
+rank (n ∷ ns) [] = 0
+rank (n ∷ ns) (i ∷ is) = i * size ns + rank ns is
+
+-- how many index lists come before this one in column order
+unfoldable pub column_rank : List ℕ → List ℕ → ℕ
+column_rank [] is = 0
+column_rank (n ∷ ns) [] = 0
+column_rank (n ∷ ns) (i ∷ is) = i + n * column_rank ns is
+
+abbrev pub rank_in : Order → List ℕ → List ℕ → ℕ
+rank_in RowMajor ns is = rank ns is
+rank_in ColumnMajor ns is = column_rank ns is
+
+-- the axis that varies p-th fastest, of n
+abbrev pub axis_in : Order → ℕ → ℕ → ℕ
+axis_in RowMajor n p = n - 1 - p
+axis_in ColumnMajor n p = p
+
+-- the size of the box of the p axes that vary fastest
+abbrev pub block_in : Order → List ℕ → ℕ → ℕ
+block_in RowMajor ns p = size (drop (length ns - p) ns)
+block_in ColumnMajor ns p = size (take p ns)
+
+-- the next `left` index lists of the order, from is on
+abbrev pub walk_rest : Order → List ℕ → List ℕ → ℕ → List (List ℕ)
+walk_rest order ns is left = take left (drop (rank_in order ns is) (box_in order ns))
+
+-- a walk at is, with `left` index lists to go, stands in its box
+pub record WalkStands (order : Order) (ns is : List ℕ) (left : ℕ) : Type 0 where
+  pub within : 0 < left → InBox ns is
+  pub fits : 0 < left → rank_in order ns is + left ≤ size ns

@@ -1,0 +1,13 @@
+//! The core: dimensions, shapes, arrays and views, and what they mean.
+
+pub mod array;
+pub mod axis;
+pub mod dim_max;
+pub mod dimension;
+pub mod error;
+pub mod into_dimension;
+pub(crate) mod layout;
+pub mod making;
+pub mod shape;
+pub mod storage;
+pub mod views;

@@ -1,0 +1,140 @@
+//! Arrays and views, and what they mean: their lengths and their cells.
+
+ghost use Rattle.std.specs.Prelude.{◌≡◌, List, ℕ, ◌<◌, length, slice_index, ◌↔◌, IsSome, Some};
+ghost use Rattle.std.specs.Option.{option_copied};
+ghost use Rattle.ndarray.specs.Index.{InBox, size};
+ghost use Rattle.ndarray.specs.Grid.{cell, IsGrid, IsKnownByCells};
+ghost use Rattle.ndarray.specs.Limits.{IsWithinLimit};
+
+use crate::base::axis::Axis;
+use crate::base::dimension::{Dimension, Lengths};
+use crate::base::into_dimension::IntoDimension;
+use crate::base::layout::Layout;
+use crate::base::storage::{Data, ViewRepr};
+use std::marker::Model;
+
+/// An array of any number of axes, over a storage `S` and with lengths of the type `D`.
+///
+/// A contract sees an array as its lengths and its cells, and nothing else of it.
+#[derive(Drop)]
+pub struct ArrayBase<S: Data, D: Lengths> {
+    pub(crate) storage: S,
+    pub(crate) layout: Layout<D>,
+}
+
+/// A reading view.
+pub type ArrayView<'a, A, D> = ArrayBase<ViewRepr<'a, A>, D>;
+
+impl<S: Data, D: Lengths> Model for ArrayBase<S, D> {
+    ghost use Rattle.ndarray.specs.Grid.{Grid};
+
+    ghost Value = { Grid S.Elem };
+
+    ghost use Rattle.ndarray.specs.base.Places.{grid_at, Reaches};
+
+    ghost view = { λ a. grid_at (S.at a.storage) (D.numbers a.layout.dim) a.layout.start (D.numbers a.layout.strides) };
+
+    ghost invariant = { λ a. Reaches S.apart (S.at a.storage) (D.numbers a.layout.dim) a.layout.start (D.numbers a.layout.strides) };
+}
+
+impl<S: Data, D: Lengths> ArrayBase<S, D> {
+    /// The number of axes.
+    pub fn ndim(&self) -> usize
+        ensures { result ≡ length self.now.lengths }
+    {
+        self.layout.dim.ndim()
+    }
+
+    /// The lengths, that of axis 0 first.
+    pub fn shape(&self) -> &[usize]
+        ensures { result.now ≡ self.now.lengths }
+    {
+        self.layout.dim.slice()
+    }
+
+    /// The lengths as a dimension.
+    pub fn raw_dim(&self) -> D
+        ensures lengths { D.numbers result ≡ self.now.lengths }
+        ensures limit { IsWithinLimit self.now.lengths }
+        ensures whole { IsGrid self.now }
+    {
+        self.layout.dim.copied()
+    }
+
+    /// The number of cells.
+    pub fn len(&self) -> usize
+        ensures size { result ≡ size self.now.lengths }
+        ensures cells { result ≡ length self.now.cells }
+    {
+        self.layout.dim.size()
+    }
+
+    /// The length of an axis, which the caller owes to be below the number of axes.
+    pub fn len_of(&self, axis: Axis) -> usize
+        requires { axis.0 < length self.now.lengths }
+        ensures { result ≡ slice_index self.now.lengths axis.0 }
+    {
+        self.layout.dim.axis(axis.0)
+    }
+
+    /// The cell at an index list, or `None` outside the box.
+    pub(crate) fn cell(&self, index: &D) -> Option<&S::Elem>
+        ensures value { option_copied result ≡ cell self.now (D.numbers index.now) }
+        ensures within { IsSome result ↔ InBox self.now.lengths (D.numbers index.now) }
+    {
+        match self.layout.find(index) {
+            Some(place) => Some(self.storage.element(place)),
+            None => None,
+        }
+    }
+
+    /// A reading view of the same lengths and cells.
+    ///
+    /// An array is known by its lengths and its cells, so the view is the same array.
+    pub fn view(&self) -> ArrayView<'_, S::Elem, D>
+        ensures same { result ≡ self.now }
+        ensures whole { IsGrid result }
+        ensures known { IsKnownByCells result }
+    {
+        ArrayBase {
+            storage: self.storage.seen(),
+            layout: self.layout.copied(),
+        }
+    }
+}
+
+impl<S: Data, D: Dimension> ArrayBase<S, D> {
+    /// The cell at an index list, or `None` exactly outside the box.
+    ///
+    /// ```
+    /// let view = ArrayView::from_shape((2, 3), &[1, 2, 3, 4, 5, 6])?;
+    /// assert_eq!(view.get((1, 0)), Some(&4));
+    /// assert_eq!(view.get((0, 3)), None);
+    /// ```
+    pub fn get<I: IntoDimension<Dim = D>>(&self, index: I) -> Option<&S::Elem>
+        ensures value { option_copied result ≡ cell self.now (I.written_numbers index) }
+        ensures within { IsSome result ↔ InBox self.now.lengths (I.written_numbers index) }
+    {
+        self.cell(&index.into_dimension())
+    }
+}
+
+impl<'a, A, D: Lengths> ArrayView<'a, A, D> {
+    /// The same view once more.
+    pub(crate) fn again(&self) -> ArrayView<'a, A, D>
+        ensures { result ≡ self.now }
+    {
+        ArrayBase {
+            storage: self.storage,
+            layout: self.layout.copied(),
+        }
+    }
+
+    /// The cell at an index list of the box.
+    pub(crate) fn item(&self, index: &D) -> &'a A
+        requires { InBox self.now.lengths (D.numbers index.now) }
+        ensures { cell self.now (D.numbers index.now) ≡ Some result.now }
+    {
+        self.storage.get(self.layout.place(index))
+    }
+}

@@ -1,0 +1,399 @@
+//! The dimension of the broadcast of two.
+
+ghost use Rattle.std.specs.Prelude.{ℕ, max};
+ghost use Rattle.std.proofs.Common.{rules, arith};
+
+use crate::base::dimension::{Dimension, Ix0, Ix1, Ix2, Ix3, Ix4, Ix5, Ix6, IxDyn, Lengths};
+
+/// A dimension that may be broadcast with another one.
+pub trait DimMax<Other: Dimension>: Dimension {
+    /// The dimension of the two broadcast together: the larger of two fixed numbers of axes, and
+    /// `IxDyn` where one of them is `IxDyn`.
+    type Output: Dimension;
+
+    ghost larger_has_both: { (n m : ℕ) → Self.has_axes n → Other.has_axes m → Self.Output.has_axes (max n m) };
+}
+
+impl DimMax<Ix0> for Ix0 {
+    type Output = Ix0;
+
+    ghost larger_has_both = { Prim.search rules };
+}
+
+impl DimMax<Ix1> for Ix0 {
+    type Output = Ix1;
+
+    ghost larger_has_both = { Prim.search rules };
+}
+
+impl DimMax<Ix2> for Ix0 {
+    type Output = Ix2;
+
+    ghost larger_has_both = { Prim.search rules };
+}
+
+impl DimMax<Ix3> for Ix0 {
+    type Output = Ix3;
+
+    ghost larger_has_both = { Prim.search rules };
+}
+
+impl DimMax<Ix4> for Ix0 {
+    type Output = Ix4;
+
+    ghost larger_has_both = { Prim.search rules };
+}
+
+impl DimMax<Ix5> for Ix0 {
+    type Output = Ix5;
+
+    ghost larger_has_both = { Prim.search rules };
+}
+
+impl DimMax<Ix6> for Ix0 {
+    type Output = Ix6;
+
+    ghost larger_has_both = { Prim.search rules };
+}
+
+impl DimMax<IxDyn> for Ix0 {
+    type Output = IxDyn;
+
+    ghost larger_has_both = { Prim.search rules };
+}
+
+impl DimMax<Ix0> for Ix1 {
+    type Output = Ix1;
+
+    ghost larger_has_both = { Prim.search rules };
+}
+
+impl DimMax<Ix1> for Ix1 {
+    type Output = Ix1;
+
+    ghost larger_has_both = { Prim.search rules };
+}
+
+impl DimMax<Ix2> for Ix1 {
+    type Output = Ix2;
+
+    ghost larger_has_both = { Prim.search rules };
+}
+
+impl DimMax<Ix3> for Ix1 {
+    type Output = Ix3;
+
+    ghost larger_has_both = { Prim.search rules };
+}
+
+impl DimMax<Ix4> for Ix1 {
+    type Output = Ix4;
+
+    ghost larger_has_both = { Prim.search rules };
+}
+
+impl DimMax<Ix5> for Ix1 {
+    type Output = Ix5;
+
+    ghost larger_has_both = { Prim.search rules };
+}
+
+impl DimMax<Ix6> for Ix1 {
+    type Output = Ix6;
+
+    ghost larger_has_both = { Prim.search rules };
+}
+
+impl DimMax<IxDyn> for Ix1 {
+    type Output = IxDyn;
+
+    ghost larger_has_both = { Prim.search rules };
+}
+
+impl DimMax<Ix0> for Ix2 {
+    type Output = Ix2;
+
+    ghost larger_has_both = { Prim.search rules };
+}
+
+impl DimMax<Ix1> for Ix2 {
+    type Output = Ix2;
+
+    ghost larger_has_both = { Prim.search rules };
+}
+
+impl DimMax<Ix2> for Ix2 {
+    type Output = Ix2;
+
+    ghost larger_has_both = { Prim.search rules };
+}
+
+impl DimMax<Ix3> for Ix2 {
+    type Output = Ix3;
+
+    ghost larger_has_both = { Prim.search rules };
+}
+
+impl DimMax<Ix4> for Ix2 {
+    type Output = Ix4;
+
+    ghost larger_has_both = { Prim.search rules };
+}
+
+impl DimMax<Ix5> for Ix2 {
+    type Output = Ix5;
+
+    ghost larger_has_both = { Prim.search rules };
+}
+
+impl DimMax<Ix6> for Ix2 {
+    type Output = Ix6;
+
+    ghost larger_has_both = { Prim.search rules };
+}
+
+impl DimMax<IxDyn> for Ix2 {
+    type Output = IxDyn;
+
+    ghost larger_has_both = { Prim.search rules };
+}
+
+impl DimMax<Ix0> for Ix3 {
+    type Output = Ix3;
+
+    ghost larger_has_both = { Prim.search rules };
+}
+
+impl DimMax<Ix1> for Ix3 {
+    type Output = Ix3;
+
+    ghost larger_has_both = { Prim.search rules };
+}
+
+impl DimMax<Ix2> for Ix3 {
+    type Output = Ix3;
+
+    ghost larger_has_both = { Prim.search rules };
+}
+
+impl DimMax<Ix3> for Ix3 {
+    type Output = Ix3;
+
+    ghost larger_has_both = { Prim.search rules };
+}
+
+impl DimMax<Ix4> for Ix3 {
+    type Output = Ix4;
+
+    ghost larger_has_both = { Prim.search rules };
+}
+
+impl DimMax<Ix5> for Ix3 {
+    type Output = Ix5;
+
+    ghost larger_has_both = { Prim.search rules };
+}
+
+impl DimMax<Ix6> for Ix3 {
+    type Output = Ix6;
+
+    ghost larger_has_both = { Prim.search rules };
+}
+
+impl DimMax<IxDyn> for Ix3 {
+    type Output = IxDyn;
+
+    ghost larger_has_both = { Prim.search rules };
+}
+
+impl DimMax<Ix0> for Ix4 {
+    type Output = Ix4;
+
+    ghost larger_has_both = { Prim.search rules };
+}
+
+impl DimMax<Ix1> for Ix4 {
+    type Output = Ix4;
+
+    ghost larger_has_both = { Prim.search rules };
+}
+
+impl DimMax<Ix2> for Ix4 {
+    type Output = Ix4;
+
+    ghost larger_has_both = { Prim.search rules };
+}
+
+impl DimMax<Ix3> for Ix4 {
+    type Output = Ix4;
+
+    ghost larger_has_both = { Prim.search rules };
+}
+
+impl DimMax<Ix4> for Ix4 {
+    type Output = Ix4;
+
+    ghost larger_has_both = { Prim.search rules };
+}
+
+impl DimMax<Ix5> for Ix4 {
+    type Output = Ix5;
+
+    ghost larger_has_both = { Prim.search rules };
+}
+
+impl DimMax<Ix6> for Ix4 {
+    type Output = Ix6;
+
+    ghost larger_has_both = { Prim.search rules };
+}
+
+impl DimMax<IxDyn> for Ix4 {
+    type Output = IxDyn;
+
+    ghost larger_has_both = { Prim.search rules };
+}
+
+impl DimMax<Ix0> for Ix5 {
+    type Output = Ix5;
+
+    ghost larger_has_both = { Prim.search rules };
+}
+
+impl DimMax<Ix1> for Ix5 {
+    type Output = Ix5;
+
+    ghost larger_has_both = { Prim.search rules };
+}
+
+impl DimMax<Ix2> for Ix5 {
+    type Output = Ix5;
+
+    ghost larger_has_both = { Prim.search rules };
+}
+
+impl DimMax<Ix3> for Ix5 {
+    type Output = Ix5;
+
+    ghost larger_has_both = { Prim.search rules };
+}
+
+impl DimMax<Ix4> for Ix5 {
+    type Output = Ix5;
+
+    ghost larger_has_both = { Prim.search rules };
+}
+
+impl DimMax<Ix5> for Ix5 {
+    type Output = Ix5;
+
+    ghost larger_has_both = { Prim.search rules };
+}
+
+impl DimMax<Ix6> for Ix5 {
+    type Output = Ix6;
+
+    ghost larger_has_both = { Prim.search rules };
+}
+
+impl DimMax<IxDyn> for Ix5 {
+    type Output = IxDyn;
+
+    ghost larger_has_both = { Prim.search rules };
+}
+
+impl DimMax<Ix0> for Ix6 {
+    type Output = Ix6;
+
+    ghost larger_has_both = { Prim.search rules };
+}
+
+impl DimMax<Ix1> for Ix6 {
+    type Output = Ix6;
+
+    ghost larger_has_both = { Prim.search rules };
+}
+
+impl DimMax<Ix2> for Ix6 {
+    type Output = Ix6;
+
+    ghost larger_has_both = { Prim.search rules };
+}
+
+impl DimMax<Ix3> for Ix6 {
+    type Output = Ix6;
+
+    ghost larger_has_both = { Prim.search rules };
+}
+
+impl DimMax<Ix4> for Ix6 {
+    type Output = Ix6;
+
+    ghost larger_has_both = { Prim.search rules };
+}
+
+impl DimMax<Ix5> for Ix6 {
+    type Output = Ix6;
+
+    ghost larger_has_both = { Prim.search rules };
+}
+
+impl DimMax<Ix6> for Ix6 {
+    type Output = Ix6;
+
+    ghost larger_has_both = { Prim.search rules };
+}
+
+impl DimMax<IxDyn> for Ix6 {
+    type Output = IxDyn;
+
+    ghost larger_has_both = { Prim.search rules };
+}
+
+impl DimMax<Ix0> for IxDyn {
+    type Output = IxDyn;
+
+    ghost larger_has_both = { Prim.search rules };
+}
+
+impl DimMax<Ix1> for IxDyn {
+    type Output = IxDyn;
+
+    ghost larger_has_both = { Prim.search rules };
+}
+
+impl DimMax<Ix2> for IxDyn {
+    type Output = IxDyn;
+
+    ghost larger_has_both = { Prim.search rules };
+}
+
+impl DimMax<Ix3> for IxDyn {
+    type Output = IxDyn;
+
+    ghost larger_has_both = { Prim.search rules };
+}
+
+impl DimMax<Ix4> for IxDyn {
+    type Output = IxDyn;
+
+    ghost larger_has_both = { Prim.search rules };
+}
+
+impl DimMax<Ix5> for IxDyn {
+    type Output = IxDyn;
+
+    ghost larger_has_both = { Prim.search rules };
+}
+
+impl DimMax<Ix6> for IxDyn {
+    type Output = IxDyn;
+
+    ghost larger_has_both = { Prim.search rules };
+}
+
+impl DimMax<IxDyn> for IxDyn {
+    type Output = IxDyn;
+
+    ghost larger_has_both = { Prim.search rules };
+}

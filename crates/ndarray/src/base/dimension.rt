@@ -1,0 +1,487 @@
+//! Dimensions: lists of lengths or of indices, one number for each axis.
+
+ghost use Rattle.std.specs.Prelude.{◌≡◌, List, ℕ, [], ◌∷◌, length, ◌<◌, ◌≤◌, ◌+◌, slice_index, slice_set, replicate, insert, remove, IsTrue, ◌↔◌};
+ghost use Rattle.std.specs.Borrow.{Lends, sem, Array as SliceOf, usize as word};
+ghost use Rattle.std.proofs.Common.{rules, refl};
+ghost use Rattle.std.proofs.lemmas.Grind.{common_steps};
+ghost use Rattle.arrayvec.specs.ArrayVec.{with_items};
+ghost use Rattle.ndarray.specs.Index.{size};
+ghost use Rattle.ndarray.specs.Limits.{IsWithinLimit};
+
+use crate::base::axis::Axis;
+use arrayvec::ArrayVec;
+
+/// A list of numbers, one for each axis: the lengths of a shape, or an index list.
+///
+/// No call takes memory.
+pub trait Lengths: Drop + Sized {
+    // The numbers, that of axis 0 first.
+    ghost numbers: { Self → List ℕ };
+
+    // Whether the type has values with this many axes.
+    ghost has_axes: { ℕ → Type 0 };
+
+    // The same with other numbers, as many as before.
+    ghost with_numbers: { Self → List ℕ → Self };
+
+    /// The number of axes.
+    fn ndim(&self) -> usize
+        ensures value { result ≡ length (numbers self.now) }
+        ensures has { has_axes result };
+
+    /// Whether the type has values with `ndim` axes: `Ix2` with two alone, `IxDyn` with at most 32.
+    fn may_have(ndim: usize) -> bool
+        ensures { IsTrue result ↔ has_axes ndim };
+
+    /// The list of `ndim` zeros.
+    ///
+    /// The caller owes a number of axes that the type has; the test is `may_have`.
+    fn zeros(ndim: usize) -> Self
+        requires { has_axes ndim }
+        ensures { numbers result ≡ replicate ndim 0 };
+
+    /// The numbers as a slice.
+    fn slice(&self) -> &[usize]
+        ensures { result.now ≡ numbers self.now };
+
+    /// The numbers as a slice, to write to.
+    fn slice_mut(&mut self) -> &mut [usize]
+        ensures* writes_back { sem 𝓛 (Lends Self.row (SliceOf word 0) self.entry result (with_numbers self.old)) }
+        ensures now { result.now ≡ numbers self.old };
+
+    /// The same list once more, without memory.
+    fn copied(&self) -> Self
+        ensures { numbers result ≡ numbers self.now };
+
+    /// The number of an axis, which the caller owes to be below the number of axes.
+    fn axis(&self, axis: usize) -> usize
+        requires { axis < length (numbers self.now) }
+        ensures { result ≡ slice_index (numbers self.now) axis }
+    {
+        self.slice()[axis]
+    }
+
+    /// Sets the number of an axis, which the caller owes to be below the number of axes.
+    fn set_axis(&mut self, axis: usize, number: usize)
+        requires { axis < length (numbers self.old) }
+        ensures { numbers self.new ≡ slice_set (numbers self.old) axis number }
+    {
+        self.slice_mut()[axis] = number;
+    }
+
+    /// The number of index lists in the box of the lengths: their product, and 1 for no axes.
+    ///
+    /// The caller owes that the lengths that are not 0 multiply to at most `isize::MAX`; the test
+    /// is `size_ok`.
+    #[tactic(auto, using(crate::proofs::Sizes::sizes))]
+    fn size(&self) -> usize
+        requires { IsWithinLimit (numbers self.now) }
+        ensures { result ≡ size (numbers self.now) }
+    {
+        let mut size: usize = 1;
+        for axis in 0..self.ndim() {
+            size *= self.axis(axis);
+        }
+        size
+    }
+
+    /// Whether the lengths that are not 0 multiply to at most `isize::MAX`.
+    fn size_ok(&self) -> bool
+        ensures { IsTrue result ↔ IsWithinLimit (numbers self.now) }
+    {
+        let mut product: usize = 1;
+        for axis in 0..self.ndim() {
+            let len = self.axis(axis);
+            if len != 0 {
+                if len > isize::MAX as usize / product {
+                    return false;
+                }
+                product *= len;
+            }
+        }
+        true
+    }
+
+    ghost with_numbers_law: { (d : Self) (ns : List ℕ) → length ns ≡ length (numbers d) → numbers (with_numbers d ns) ≡ ns };
+}
+
+/// A dimension: `Ix0` to `Ix6`, each with its fixed number of axes, and `IxDyn` with at most 32.
+pub trait Dimension: Lengths {
+    /// What an index list reads as: `()` for `Ix0`, a `usize` for `Ix1`, the tuple of that many
+    /// `usize` for `Ix2` to `Ix6`, and `IxDyn` itself for `IxDyn`.
+    type Pattern: Drop;
+
+    /// The dimension with one axis less; of `Ix0` and `IxDyn` they themselves.
+    type Smaller: Lengths;
+
+    /// The dimension with one axis more; of `Ix6` it is `IxDyn`, and of `IxDyn` it is itself.
+    type Larger: Lengths;
+
+    // The numbers that a pattern lists.
+    ghost pattern_numbers: { Self.Pattern → List ℕ };
+
+    /// The list as its pattern.
+    fn into_pattern(self) -> Self::Pattern
+        ensures { pattern_numbers result ≡ Self.numbers self };
+
+    /// The list with an axis of length 1 put in.
+    ///
+    /// The caller owes an axis that is at most the number of axes, which is below 32.
+    fn insert_axis(&self, axis: Axis) -> Self::Larger
+        requires axis_at_most { axis.0 ≤ length (Self.numbers self.now) }
+        requires room { length (Self.numbers self.now) < 32 }
+        ensures { Self.Larger.numbers result ≡ insert (Self.numbers self.now) axis.0 1 }
+    {
+        let ndim = self.ndim();
+        let mut larger = Self::Larger::zeros(ndim + 1);
+        for k in 0..axis.0 {
+            larger.set_axis(k, self.axis(k));
+        }
+        larger.set_axis(axis.0, 1);
+        for k in axis.0..ndim {
+            larger.set_axis(k + 1, self.axis(k));
+        }
+        larger
+    }
+
+    ghost smaller_has: { (n : ℕ) → Self.has_axes (n + 1) → Self.Smaller.has_axes n };
+
+    ghost larger_has: { (n : ℕ) → n < 32 → Self.has_axes n → Self.Larger.has_axes (n + 1) };
+}
+
+/// A dimension that may lose an axis: all but `Ix0`.
+pub trait RemoveAxis: Dimension {
+    /// The list without the number of an axis, which the caller owes to be below the number of
+    /// axes.
+    fn remove_axis(&self, axis: Axis) -> Self::Smaller
+        requires { axis.0 < length (Self.numbers self.now) }
+        ensures { Self.Smaller.numbers result ≡ remove (Self.numbers self.now) axis.0 }
+    {
+        let ndim = self.ndim();
+        let mut smaller = Self::Smaller::zeros(ndim - 1);
+        for k in 0..axis.0 {
+            smaller.set_axis(k, self.axis(k));
+        }
+        for k in axis.0 + 1..ndim {
+            smaller.set_axis(k - 1, self.axis(k));
+        }
+        smaller
+    }
+}
+
+/// A dimension over the array or list of numbers that it holds. Its aliases are `Ix0` to `Ix6` and
+/// `IxDyn`.
+#[derive(Clone, Copy, Drop, PartialEq, Eq, Debug)]
+pub struct Dim<I>(pub I);
+
+/// At most 32 numbers, held inline.
+#[derive(Drop, PartialEq, Eq, Debug)]
+pub struct DynLengths {
+    held: ArrayVec<usize, 32>,
+}
+
+impl DynLengths {
+    ghost use Rattle.ndarray.specs.contracts.base.dimension.DynLengths.{the_row};
+
+    fn lengths_mut(&mut self) -> &mut [usize]
+        ensures* writes_back { sem 𝓛 (Lends the_row (SliceOf word 0) self.entry result (λ ns. record { held = with_items self.old.held ns })) }
+        ensures now { result.now ≡ self.old.held.items }
+    {
+        self.held.as_mut_slice()
+    }
+}
+
+/// No axes.
+pub type Ix0 = Dim<[usize; 0]>;
+/// One axis.
+pub type Ix1 = Dim<[usize; 1]>;
+/// Two axes.
+pub type Ix2 = Dim<[usize; 2]>;
+/// Three axes.
+pub type Ix3 = Dim<[usize; 3]>;
+/// Four axes.
+pub type Ix4 = Dim<[usize; 4]>;
+/// Five axes.
+pub type Ix5 = Dim<[usize; 5]>;
+/// Six axes.
+pub type Ix6 = Dim<[usize; 6]>;
+/// At most 32 axes.
+pub type IxDyn = Dim<DynLengths>;
+
+/// The dimension of no axes.
+pub fn Ix0() -> Ix0
+    ensures { result.0 ≡ [] }
+{
+    Dim([])
+}
+
+/// The dimension of one axis.
+pub fn Ix1(a: usize) -> Ix1
+    ensures { result.0 ≡ a ∷ [] }
+{
+    Dim([a])
+}
+
+/// The dimension of two axes.
+pub fn Ix2(a: usize, b: usize) -> Ix2
+    ensures { result.0 ≡ a ∷ b ∷ [] }
+{
+    Dim([a, b])
+}
+
+/// The dimension of three axes.
+pub fn Ix3(a: usize, b: usize, c: usize) -> Ix3
+    ensures { result.0 ≡ a ∷ b ∷ c ∷ [] }
+{
+    Dim([a, b, c])
+}
+
+/// The dimension of four axes.
+pub fn Ix4(a: usize, b: usize, c: usize, d: usize) -> Ix4
+    ensures { result.0 ≡ a ∷ b ∷ c ∷ d ∷ [] }
+{
+    Dim([a, b, c, d])
+}
+
+/// The dimension of five axes.
+pub fn Ix5(a: usize, b: usize, c: usize, d: usize, e: usize) -> Ix5
+    ensures { result.0 ≡ a ∷ b ∷ c ∷ d ∷ e ∷ [] }
+{
+    Dim([a, b, c, d, e])
+}
+
+/// The dimension of six axes.
+pub fn Ix6(a: usize, b: usize, c: usize, d: usize, e: usize, f: usize) -> Ix6
+    ensures { result.0 ≡ a ∷ b ∷ c ∷ d ∷ e ∷ f ∷ [] }
+{
+    Dim([a, b, c, d, e, f])
+}
+
+/// The dimension of the numbers of a slice, of which the caller owes at most 32.
+pub fn IxDyn(numbers: &[usize]) -> IxDyn
+    requires { length numbers.now ≤ 32 }
+    ensures { result.0.held.items ≡ numbers.now }
+{
+    match ArrayVec::try_from(numbers) {
+        Ok(held) => Dim(DynLengths { held }),
+        Err(_) => unreachable!(),
+    }
+}
+
+impl<const N: usize> Lengths for Dim<[usize; N]> {
+    ghost numbers = { λ d. d.0 };
+
+    ghost has_axes = { λ n. n ≡ N };
+
+    ghost with_numbers = { λ d ns. record { 0 = ns } };
+
+    ghost with_numbers_law = { λ d ns h. refl };
+
+    fn ndim(&self) -> usize {
+        N
+    }
+
+    fn may_have(ndim: usize) -> bool {
+        ndim == N
+    }
+
+    fn zeros(_ndim: usize) -> Self {
+        Dim([0; N])
+    }
+
+    fn slice(&self) -> &[usize] {
+        &self.0
+    }
+
+    fn slice_mut(&mut self) -> &mut [usize] {
+        &mut self.0
+    }
+
+    fn copied(&self) -> Self {
+        *self
+    }
+}
+
+impl Lengths for Dim<DynLengths> {
+    ghost numbers = { λ d. d.0.held.items };
+
+    ghost has_axes = { λ n. n ≤ 32 };
+
+    ghost with_numbers = { λ d ns. record { 0 = record { held = with_items d.0.held ns } } };
+
+    ghost with_numbers_law = { Prim.search (rules, common_steps) };
+
+    fn ndim(&self) -> usize {
+        self.0.held.len()
+    }
+
+    fn may_have(ndim: usize) -> bool {
+        ndim <= 32
+    }
+
+    fn zeros(ndim: usize) -> Self {
+        let mut held = ArrayVec::new();
+        for _i in 0..ndim {
+            held.push(0);
+        }
+        Dim(DynLengths { held })
+    }
+
+    fn slice(&self) -> &[usize] {
+        self.0.held.as_slice()
+    }
+
+    fn slice_mut(&mut self) -> &mut [usize] {
+        self.0.lengths_mut()
+    }
+
+    fn copied(&self) -> Self {
+        IxDyn(self.0.held.as_slice())
+    }
+}
+
+impl Dimension for Dim<[usize; 0]> {
+    type Pattern = ();
+    type Smaller = Ix0;
+    type Larger = Ix1;
+
+    ghost pattern_numbers = { λ _. [] };
+
+    ghost smaller_has = { Prim.search rules };
+
+    ghost larger_has = { Prim.search rules };
+
+    fn into_pattern(self) {}
+}
+
+impl Dimension for Dim<[usize; 1]> {
+    type Pattern = usize;
+    type Smaller = Ix0;
+    type Larger = Ix2;
+
+    ghost pattern_numbers = { λ i. i ∷ [] };
+
+    ghost smaller_has = { Prim.search rules };
+
+    ghost larger_has = { Prim.search rules };
+
+    fn into_pattern(self) -> usize {
+        let Dim([a]) = self;
+        a
+    }
+}
+
+impl Dimension for Dim<[usize; 2]> {
+    type Pattern = (usize, usize);
+    type Smaller = Ix1;
+    type Larger = Ix3;
+
+    ghost pattern_numbers = { λ p. p.0 ∷ p.1 ∷ [] };
+
+    ghost smaller_has = { Prim.search rules };
+
+    ghost larger_has = { Prim.search rules };
+
+    fn into_pattern(self) -> (usize, usize) {
+        let Dim([a, b]) = self;
+        (a, b)
+    }
+}
+
+impl Dimension for Dim<[usize; 3]> {
+    type Pattern = (usize, usize, usize);
+    type Smaller = Ix2;
+    type Larger = Ix4;
+
+    ghost pattern_numbers = { λ p. p.0 ∷ p.1 ∷ p.2 ∷ [] };
+
+    ghost smaller_has = { Prim.search rules };
+
+    ghost larger_has = { Prim.search rules };
+
+    fn into_pattern(self) -> (usize, usize, usize) {
+        let Dim([a, b, c]) = self;
+        (a, b, c)
+    }
+}
+
+impl Dimension for Dim<[usize; 4]> {
+    type Pattern = (usize, usize, usize, usize);
+    type Smaller = Ix3;
+    type Larger = Ix5;
+
+    ghost pattern_numbers = { λ p. p.0 ∷ p.1 ∷ p.2 ∷ p.3 ∷ [] };
+
+    ghost smaller_has = { Prim.search rules };
+
+    ghost larger_has = { Prim.search rules };
+
+    fn into_pattern(self) -> (usize, usize, usize, usize) {
+        let Dim([a, b, c, d]) = self;
+        (a, b, c, d)
+    }
+}
+
+impl Dimension for Dim<[usize; 5]> {
+    type Pattern = (usize, usize, usize, usize, usize);
+    type Smaller = Ix4;
+    type Larger = Ix6;
+
+    ghost pattern_numbers = { λ p. p.0 ∷ p.1 ∷ p.2 ∷ p.3 ∷ p.4 ∷ [] };
+
+    ghost smaller_has = { Prim.search rules };
+
+    ghost larger_has = { Prim.search rules };
+
+    fn into_pattern(self) -> (usize, usize, usize, usize, usize) {
+        let Dim([a, b, c, d, e]) = self;
+        (a, b, c, d, e)
+    }
+}
+
+impl Dimension for Dim<[usize; 6]> {
+    type Pattern = (usize, usize, usize, usize, usize, usize);
+    type Smaller = Ix5;
+    type Larger = IxDyn;
+
+    ghost pattern_numbers = { λ p. p.0 ∷ p.1 ∷ p.2 ∷ p.3 ∷ p.4 ∷ p.5 ∷ [] };
+
+    ghost smaller_has = { Prim.search rules };
+
+    ghost larger_has = { Prim.search rules };
+
+    fn into_pattern(self) -> (usize, usize, usize, usize, usize, usize) {
+        let Dim([a, b, c, d, e, f]) = self;
+        (a, b, c, d, e, f)
+    }
+}
+
+impl Dimension for Dim<DynLengths> {
+    type Pattern = IxDyn;
+    type Smaller = IxDyn;
+    type Larger = IxDyn;
+
+    ghost pattern_numbers = { λ d. d.0.held.items };
+
+    ghost smaller_has = { Prim.search rules };
+
+    ghost larger_has = { Prim.search rules };
+
+    fn into_pattern(self) -> IxDyn {
+        self
+    }
+}
+
+impl RemoveAxis for Dim<[usize; 1]> {}
+
+impl RemoveAxis for Dim<[usize; 2]> {}
+
+impl RemoveAxis for Dim<[usize; 3]> {}
+
+impl RemoveAxis for Dim<[usize; 4]> {}
+
+impl RemoveAxis for Dim<[usize; 5]> {}
+
+impl RemoveAxis for Dim<[usize; 6]> {}
+
+impl RemoveAxis for Dim<DynLengths> {}

@@ -1,0 +1,58 @@
+//! Refusals of shapes.
+
+ghost use Rattle.std.specs.Prelude.{◌≡◌};
+
+use std::fmt;
+
+/// What a refused shape offends against.
+#[derive(Clone, Copy, PartialEq, Eq, Debug)]
+pub enum ErrorKind {
+    /// The lengths do not fit the data or each other.
+    IncompatibleShape,
+    /// The cells lie in an order that the call cannot take.
+    IncompatibleLayout,
+    /// A number of axes is beyond what a type may have.
+    RangeLimited,
+    /// An axis or an index is out of bounds.
+    OutOfBounds,
+    /// The call has no meaning on these arguments.
+    Unsupported,
+    /// The nonzero lengths multiply to more than `isize::MAX`.
+    Overflow,
+}
+
+/// A refusal of a shape.
+#[derive(Clone, Copy, PartialEq, Eq, Debug)]
+pub struct ShapeError {
+    kind: ErrorKind,
+}
+
+impl ShapeError {
+    /// The refusal of a kind.
+    pub fn from_kind(kind: ErrorKind) -> Self
+        ensures { result.kind ≡ kind }
+    {
+        ShapeError { kind }
+    }
+
+    /// What the shape offends against.
+    pub fn kind(&self) -> ErrorKind
+        ensures { result ≡ self.now.kind }
+    {
+        self.kind
+    }
+}
+
+impl fmt::Display for ShapeError {
+    fn fmt<W: fmt::Write>(&self, f: &mut fmt::Formatter<W>) -> fmt::Result {
+        let description = match self.kind {
+            ErrorKind::IncompatibleShape => "incompatible shapes",
+            ErrorKind::IncompatibleLayout => "incompatible memory layout",
+            ErrorKind::RangeLimited => "the shape does not fit in type limits",
+            ErrorKind::OutOfBounds => "out of bounds indexing",
+            ErrorKind::Unsupported => "unsupported operation",
+            ErrorKind::Overflow => "arithmetic overflow",
+        };
+        f.write_str(description)
+    }
+}

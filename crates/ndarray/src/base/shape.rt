@@ -1,0 +1,92 @@
+//! Orders of a box, and shapes: lengths with the order in which their cells are stored.
+
+ghost use Rattle.std.specs.Prelude.{◌≡◌, List, ℕ};
+ghost use Rattle.ndarray.specs.declared.base.shape.Order.{Order};
+ghost use Rattle.ndarray.specs.declared.base.shape.Order.TheVariants.{ColumnMajor, RowMajor};
+
+use crate::base::dimension::Dimension;
+use crate::base::into_dimension::IntoDimension;
+
+/// An order of the index lists of a box.
+#[derive(Clone, Copy, PartialEq, Eq, Debug)]
+pub enum Order {
+    /// The last index fastest.
+    RowMajor,
+    /// The first index fastest.
+    ColumnMajor,
+}
+
+/// Lengths, and the order in which the cells of an array are stored.
+#[derive(Clone, Copy, Drop, PartialEq, Eq, Debug)]
+pub struct Shape<D> {
+    pub(crate) dim: D,
+    pub(crate) order: Order,
+}
+
+/// What may be written for a shape: lengths alone, stored row-major, or lengths with `.f()`, stored
+/// column-major.
+pub trait ShapeBuilder: Sized {
+    /// The dimension of the lengths.
+    type Dim: Dimension;
+
+    // The lengths, that of axis 0 first.
+    ghost shape_lengths: { Self → List ℕ };
+
+    // The order of storage.
+    ghost shape_order: { Self → Order };
+
+    /// The shape.
+    fn into_shape_with_order(self) -> Shape<Self::Dim>
+        ensures lengths { Self.Dim.numbers result.dim ≡ shape_lengths self }
+        ensures order { result.order ≡ shape_order self };
+
+    /// The shape stored column-major.
+    ///
+    /// ```
+    /// let view = ArrayView::from_shape((2, 3).f(), &[1, 4, 2, 5, 3, 6]);
+    /// ```
+    fn f(self) -> Shape<Self::Dim>
+        ensures lengths { Self.Dim.numbers result.dim ≡ shape_lengths self }
+        ensures order { result.order ≡ ColumnMajor };
+}
+
+impl<T: IntoDimension> ShapeBuilder for T {
+    type Dim = T::Dim;
+
+    ghost shape_lengths = { λ s. T.written_numbers s };
+
+    ghost shape_order = { λ _. RowMajor };
+
+    fn into_shape_with_order(self) -> Shape<T::Dim> {
+        Shape {
+            dim: self.into_dimension(),
+            order: Order::RowMajor,
+        }
+    }
+
+    fn f(self) -> Shape<T::Dim> {
+        Shape {
+            dim: self.into_dimension(),
+            order: Order::ColumnMajor,
+        }
+    }
+}
+
+impl<D: Dimension> ShapeBuilder for Shape<D> {
+    type Dim = D;
+
+    ghost shape_lengths = { λ s. D.numbers s.dim };
+
+    ghost shape_order = { λ s. s.order };
+
+    fn into_shape_with_order(self) -> Shape<D> {
+        self
+    }
+
+    fn f(self) -> Shape<D> {
+        Shape {
+            dim: self.dim,
+            order: Order::ColumnMajor,
+        }
+    }
+}

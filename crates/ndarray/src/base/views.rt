@@ -1,0 +1,85 @@
+//! Views by index equations. None of these copies a cell or takes memory.
+
+ghost use Rattle.std.specs.Prelude.{◌≡◌, ◌<◌, length, ◌↔◌, IsSome, IfSome};
+ghost use Rattle.ndarray.specs.Broadcast.{BroadcastsTo};
+ghost use Rattle.ndarray.specs.Grid.{IsGrid};
+ghost use Rattle.ndarray.specs.Limits.{IsWithinLimit};
+ghost use Rattle.ndarray.specs.Views.{transposed, inverted, broadcast_to};
+
+use crate::base::array::{ArrayBase, ArrayView};
+use crate::base::axis::Axis;
+use crate::base::dimension::{Dimension, Lengths};
+use crate::base::into_dimension::IntoDimension;
+use crate::base::layout::{Layout, broadcast_strides, reversed};
+use crate::base::storage::Data;
+
+impl<S: Data, D: Lengths> ArrayBase<S, D> {
+    /// The array with its axes from the last to the first: the cell at an index list is that at the
+    /// reversed one.
+    pub fn t(&self) -> ArrayView<'_, S::Elem, D>
+        ensures value { result ≡ transposed self.now }
+        ensures whole { IsGrid result }
+    {
+        ArrayBase {
+            storage: self.storage.seen(),
+            layout: Layout {
+                start: self.layout.start,
+                dim: reversed(&self.layout.dim),
+                strides: reversed(&self.layout.strides),
+            },
+        }
+    }
+
+    /// Turns an axis round: the cell at an index is then that at length - 1 - index.
+    ///
+    /// The caller owes an axis below the number of axes.
+    pub fn invert_axis(&mut self, axis: Axis)
+        requires { axis.0 < length self.old.lengths }
+        ensures value { self.new ≡ inverted self.old axis.0 }
+        ensures whole { IsGrid self.new }
+    {
+        let len = self.layout.dim.axis(axis.0);
+        let stride = self.layout.strides.axis(axis.0);
+        let reach = len.wrapping_sub(1).wrapping_mul(stride);
+        self.layout.start = self.layout.start.wrapping_add(reach);
+        self.layout.strides.set_axis(axis.0, stride.wrapping_neg());
+    }
+
+    /// The array seen at other lengths: aligned at the last axes, each length is the one that it
+    /// meets, or 1, which is stretched. `None` exactly where the array does not broadcast to the
+    /// lengths, or the nonzero ones multiply to more than `isize::MAX`.
+    ///
+    /// ```
+    /// let row = ArrayView::from_shape(3, &[1, 2, 3])?;
+    /// let rows = row.broadcast((2, 3)); // [[1, 2, 3], [1, 2, 3]]
+    /// ```
+    pub fn broadcast<E: IntoDimension>(&self, dim: E) -> Option<ArrayView<'_, S::Elem, E::Dim>>
+        ensures answers { IsSome result ↔ (BroadcastsTo self.now.lengths (E.written_numbers dim) × IsWithinLimit (E.written_numbers dim)) }
+        ensures value { IfSome result (λ v. v ≡ broadcast_to self.now (E.written_numbers dim)) }
+        ensures whole { IfSome result IsGrid }
+    {
+        self.broadcast_to(dim.into_dimension())
+    }
+
+    /// The same, at a dimension.
+    fn broadcast_to<E: Lengths>(&self, dim: E) -> Option<ArrayView<'_, S::Elem, E>>
+        ensures answers { IsSome result ↔ (BroadcastsTo self.now.lengths (E.numbers dim) × IsWithinLimit (E.numbers dim)) }
+        ensures value { IfSome result (λ v. v ≡ broadcast_to self.now (E.numbers dim)) }
+        ensures whole { IfSome result IsGrid }
+    {
+        if !dim.size_ok() {
+            return None;
+        }
+        let Some(strides) = broadcast_strides(&self.layout.dim, &self.layout.strides, &dim) else {
+            return None;
+        };
+        Some(ArrayBase {
+            storage: self.storage.seen(),
+            layout: Layout {
+                start: self.layout.start,
+                dim,
+                strides,
+            },
+        })
+    }
+}

@@ -1,0 +1,104 @@
+//! Iterators over the cells of an array, in row order.
+
+ghost use Rattle.std.specs.Prelude.{◌≡◌, ◌<◌, ◌^◌, length, ⊤};
+ghost use Rattle.std.specs.Iterator.{YieldsFirstRef, YieldsLastRef, item_count};
+ghost use Rattle.ndarray.specs.Orders.{HasInOrder};
+ghost use Rattle.ndarray.specs.declared.base.shape.Order.TheVariants.{RowMajor};
+
+use crate::base::array::{ArrayBase, ArrayView};
+use crate::base::dimension::{Ix1, Lengths};
+use crate::base::storage::Data;
+use crate::order::{Order, Walk};
+use std::alloc::AllocError;
+use std::iter::ExactSizeIterator;
+use std::marker::Model;
+
+/// The cells of an array that are still to come, in row order.
+///
+/// An iterator takes no memory, and neither does any of its steps.
+#[derive(Drop)]
+pub struct Iter<'a, A, D: Lengths> {
+    view: ArrayView<'a, A, D>,
+    walk: Walk<D>,
+}
+
+impl<'a, A, D: Lengths> Model for Iter<'a, A, D> {
+    ghost use Rattle.std.specs.Prelude.{List, filter_map};
+    ghost use Rattle.ndarray.specs.Grid.{cell, HasCells};
+
+    ghost Value = { List A };
+
+    ghost view = { λ s. filter_map (cell s.view) s.walk };
+
+    ghost invariant = { λ s. HasCells s.view s.walk };
+}
+
+impl<S: Data, D: Lengths> ArrayBase<S, D> {
+    /// The cells in row order, whatever the strides.
+    ///
+    /// ```
+    /// let view = ArrayView::from_shape((2, 3), &[1, 2, 3, 4, 5, 6])?;
+    /// // 1, 4, 2, 5, 3, 6
+    /// for x in view.t().iter() { .. }
+    /// ```
+    pub fn iter(&self) -> Iter<'_, S::Elem, D>
+        ensures row_order { HasInOrder RowMajor self.now result }
+        ensures cells { result ≡ self.now.cells }
+        ensures fits { length result < 2 ^ 63 }
+    {
+        Iter {
+            view: self.view(),
+            walk: Walk::new(self.raw_dim(), Order::RowMajor),
+        }
+    }
+}
+
+impl<'a, A, D: Lengths> Iterator for Iter<'a, A, D> {
+    type Item = &'a A;
+
+    ghost next_gives = { YieldsFirstRef (λ rest. rest) };
+
+    ghost remaining = { item_count (λ rest. rest) };
+
+    fn next(&mut self) -> Option<&'a A> {
+        let Some(index) = self.walk.next() else {
+            return None;
+        };
+        Some(self.view.item(&index))
+    }
+
+    fn size_hint(&self) -> (usize, Option<usize>) {
+        let len = self.len();
+        (len, Some(len))
+    }
+}
+
+impl<'a, A, D: Lengths> ExactSizeIterator for Iter<'a, A, D> {
+    fn len(&self) -> usize {
+        self.walk.len()
+    }
+}
+
+impl<'a, A> DoubleEndedIterator for Iter<'a, A, Ix1> {
+    ghost next_back_gives = { YieldsLastRef (λ rest. rest) };
+
+    fn next_back(&mut self) -> Option<&'a A> {
+        let Some(index) = self.walk.next_back() else {
+            return None;
+        };
+        Some(self.view.item(&index))
+    }
+}
+
+impl<'a, A, D: Lengths> Clone for Iter<'a, A, D> {
+    ghost is_clone = { λ s r. r ≡ s };
+
+    ghost is_infallible = { λ _. ⊤ };
+
+    fn clone(&self) -> Result<Iter<'a, A, D>, AllocError> {
+        Ok(Iter {
+            view: self.view.again(),
+            walk: self.walk.clone()?,
+        })
+    }
+}

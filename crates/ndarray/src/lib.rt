@@ -1,0 +1,6 @@
+//! Arrays of any number of axes.
+#![tactic(auto)]
+
+pub mod base;
+pub mod iter;
+pub mod order;

@@ -1,0 +1,166 @@
+//! The two orders of a box, and the walk over its index lists.
+
+ghost use Rattle.std.specs.Prelude.{◌≡◌, List, ℕ, ◌+◌, ◌<◌, length, ⊤};
+ghost use Rattle.std.specs.Iterator.{YieldsFirstBy, YieldsLastBy, item_count};
+ghost use Rattle.std.specs.Iterator.SizeHint.{IsWithinCount};
+ghost use Rattle.ndarray.specs.Index.{InBox, size, IsRowOrder};
+ghost use Rattle.ndarray.specs.Limits.{IsWithinLimit};
+ghost use Rattle.std.specs.Prelude.{IsPermutation};
+ghost use Rattle.ndarray.specs.Orders.{box_in, IsBoxIn};
+ghost use Rattle.ndarray.specs.order.Steps.{rank_in, axis_in};
+
+use crate::base::dimension::{Dim, Ix1, Lengths};
+use std::alloc::AllocError;
+use std::iter::ExactSizeIterator;
+use std::marker::Model;
+
+pub use crate::base::shape::Order;
+
+/// The index lists of a box that are still to come, in one of the two orders.
+///
+/// A walk takes no memory, and neither does any of its steps.
+#[derive(Drop)]
+pub struct Walk<D: Lengths> {
+    dim: D,
+    index: D,
+    left: usize,
+    order: Order,
+}
+
+impl<D: Lengths> Model for Walk<D> {
+    ghost use Rattle.std.specs.Prelude.{List, ℕ};
+
+    ghost Value = { List (List ℕ) };
+
+    ghost use Rattle.ndarray.specs.order.Steps.{walk_rest, WalkStands};
+
+    ghost view = { λ w. walk_rest w.order (D.numbers w.dim) (D.numbers w.index) w.left };
+
+    ghost invariant = { λ w. WalkStands w.order (D.numbers w.dim) (D.numbers w.index) w.left };
+}
+
+/// The axis that varies `p`-th fastest, of `ndim`.
+pub(crate) fn axis_at(order: Order, ndim: usize, p: usize) -> usize
+    requires { p < ndim }
+    ensures value { result ≡ axis_in order ndim p }
+    ensures below { result < ndim }
+{
+    match order {
+        Order::RowMajor => ndim - 1 - p,
+        Order::ColumnMajor => p,
+    }
+}
+
+/// Makes `index` the next index list of the box.
+fn advance<D: Lengths>(order: Order, dim: &D, index: &mut D)
+    requires within { InBox (D.numbers dim.now) (D.numbers index.old) }
+    requires more { rank_in order (D.numbers dim.now) (D.numbers index.old) + 1 < size (D.numbers dim.now) }
+    ensures within { InBox (D.numbers dim.now) (D.numbers index.new) }
+    ensures next { rank_in order (D.numbers dim.now) (D.numbers index.new) ≡ rank_in order (D.numbers dim.now) (D.numbers index.old) + 1 }
+{
+    let ndim = dim.ndim();
+    for p in 0..ndim {
+        let k = axis_at(order, ndim, p);
+        let i = index.axis(k);
+        let end = dim.axis(k);
+        if i + 1 < end {
+            index.set_axis(k, i + 1);
+            return;
+        }
+        index.set_axis(k, 0);
+    }
+}
+
+impl<D: Lengths> Walk<D> {
+    /// The whole box of the lengths, in the order.
+    ///
+    /// The caller owes that the lengths that are not 0 multiply to at most `isize::MAX`; the test
+    /// is `size_ok` of the dimension.
+    ///
+    /// There is one list alone that is the box in the order. In either order it is a rearrangement
+    /// of the box in row order.
+    pub fn new(dim: D, order: Order) -> Self
+        requires { IsWithinLimit (D.numbers dim) }
+        ensures list { result ≡ box_in order (D.numbers dim) }
+        ensures described { IsBoxIn order (D.numbers dim) result }
+        ensures alone { (xs : List (List ℕ)) → IsBoxIn order (D.numbers dim) xs → xs ≡ result }
+        ensures rearranges { (xs : List (List ℕ)) → IsRowOrder (D.numbers dim) xs → IsPermutation xs result }
+    {
+        let left = dim.size();
+        let index = D::zeros(dim.ndim());
+        Walk {
+            dim,
+            index,
+            left,
+            order,
+        }
+    }
+
+    /// How many index lists are still to come.
+    pub fn len(&self) -> usize
+        ensures { result ≡ length self.now }
+    {
+        self.left
+    }
+}
+
+impl<D: Lengths> Iterator for Walk<D> {
+    type Item = D;
+
+    ghost next_gives = { YieldsFirstBy D.numbers (λ rest. rest) };
+
+    ghost remaining = { item_count (λ rest. rest) };
+
+    fn next(&mut self) -> Option<D> {
+        if self.left == 0 {
+            return None;
+        }
+        let index = self.index.copied();
+        self.left -= 1;
+        if self.left > 0 {
+            advance(self.order, &self.dim, &mut self.index);
+        }
+        Some(index)
+    }
+
+    fn size_hint(&self) -> (usize, Option<usize>) {
+        let len = Walk::len(self);
+        (len, Some(len))
+    }
+}
+
+impl DoubleEndedIterator for Walk<Ix1> {
+    ghost use Rattle.std.specs.Prelude.{[], ◌∷◌};
+
+    ghost next_back_gives = { YieldsLastBy (λ d. d.0) (λ rest. rest) };
+
+    fn next_back(&mut self) -> Option<Ix1> {
+        if self.left == 0 {
+            return None;
+        }
+        let end = self.dim.axis(0);
+        self.left -= 1;
+        Some(Dim([self.index.axis(0) + self.left]))
+    }
+}
+
+impl<D: Lengths> ExactSizeIterator for Walk<D> {
+    fn len(&self) -> usize {
+        Walk::len(self)
+    }
+}
+
+impl<D: Lengths> Clone for Walk<D> {
+    ghost is_clone = { λ s r. r ≡ s };
+
+    ghost is_infallible = { λ _. ⊤ };
+
+    fn clone(&self) -> Result<Walk<D>, AllocError> {
+        Ok(Walk {
+            dim: self.dim.copied(),
+            index: self.index.copied(),
+            left: self.left,
+            order: self.order,
+        })
+    }
+}
