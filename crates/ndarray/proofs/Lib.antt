@@ -1,2 +1,4 @@
+pub mod Selections
 pub mod Sizes
 pub mod Verdicts
+pub mod WholeSums

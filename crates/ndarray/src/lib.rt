@@ -4,3 +4,4 @@
 pub mod base;
 pub mod iter;
 pub mod order;
+pub mod reduce;
