@@ -1,4 +1,6 @@
+pub mod AddedApart
 pub mod Selections
 pub mod Sizes
 pub mod Verdicts
 pub mod WholeSums
+pub mod WholeTests

@@ -57,15 +57,15 @@ impl<A: PrimInt, S: Data<Elem = A>, D: Lengths> ArrayBase<S, D> {
         let mut down = A::zero();
         for x in self.iter() {
             if *x < A::zero() {
-                let Some(sum) = down.checked_add(x) else {
-                    return false;
-                };
-                down = sum;
+                match down.checked_add(x) {
+                    Some(sum) => down = sum,
+                    None => return false,
+                }
             } else {
-                let Some(sum) = up.checked_add(x) else {
-                    return false;
-                };
-                up = sum;
+                match up.checked_add(x) {
+                    Some(sum) => up = sum,
+                    None => return false,
+                }
             }
         }
         true
