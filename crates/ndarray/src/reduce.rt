@@ -16,8 +16,8 @@ impl<A: SumElem, S: Data<Elem = A>, D: Lengths> ArrayBase<S, D> {
     /// The sum of all cells, and zero for an array with no cell. It takes no memory.
     ///
     /// The caller owes that every selection of the cells has its sum in range, so that no order of
-    /// adding leaves the range. For arrays of the integer types [`sums_fit`](Self::sums_fit) is true
-    /// exactly there.
+    /// adding leaves the range. For arrays of the integer types its test is
+    /// [`sums_fit`](Self::sums_fit), which is true exactly there.
     ///
     /// ```
     /// let view = ArrayView::from_shape((2, 3), &[1i64, 2, 3, 4, 5, 6])?;
@@ -40,7 +40,7 @@ impl<A: SumElem, S: Data<Elem = A>, D: Lengths> ArrayBase<S, D> {
 impl<A: PrimInt, S: Data<Elem = A>, D: Lengths> ArrayBase<S, D> {
     /// Whether every selection of the cells has its sum in the type, as [`sum`](Self::sum) asks.
     ///
-    /// That is so exactly where the positive cells add up to at most the type's greatest number, and
+    /// That is so exactly where the positive cells add up to at most the type's greatest number and
     /// the negative cells to at least its least. The caller owes nothing, and the test takes no
     /// memory.
     ///
@@ -49,7 +49,8 @@ impl<A: PrimInt, S: Data<Elem = A>, D: Lengths> ArrayBase<S, D> {
     /// assert!(!ArrayView::from_shape(3, &[127i8, -1, 1])?.sums_fit());
     /// ```
     pub fn sums_fit(&self) -> bool
-        ensures selections { IsTrue result ↔ IsSummable int_sums A.fits (map A.value self.now.cells) }
+        ensures selections { IsTrue result
+            ↔ IsSummable int_sums A.fits (map A.value self.now.cells) }
         ensures bounds { IsTrue result ↔ (A.fits (positive_sum (map A.value self.now.cells))
             × A.fits (negative_sum (map A.value self.now.cells))) }
     {

@@ -17,14 +17,14 @@ pub trait Valued: Copy {
     // The value of an element.
     ghost meaning: { Self → Carrier };
 
-    // Whether a value is in range.
+    // Whether a value is in range, as for an integer type each from its least to its greatest.
     ghost InRange: { Carrier → Type 0 };
 
     /// Tells that the value of an element in hand is in range.
     fn tell_range(self)
         ensures { InRange (meaning self) };
 
-    // Equal values are equal elements.
+    // Elements of one value are equal.
     ghost same_meaning: { (a b : Self) → meaning a ≡ meaning b → a ≡ b };
 }
 
@@ -38,10 +38,12 @@ pub trait SumElem: Valued + Zero + Add<Self, Output = Self> {
         ↔ (Self.meaning a ≡ Self.plus.unit) };
 
     // A sum in range may be taken, has an answer, and each answer has its value.
-    ghost add_in_range: { (a b : Self) → Self.InRange (Self.plus.op (Self.meaning a) (Self.meaning b))
+    ghost add_in_range: { (a b : Self)
+        → Self.InRange (Self.plus.op (Self.meaning a) (Self.meaning b))
         → Self.can_add a b };
 
-    ghost add_answers: { (a b : Self) → Self.InRange (Self.plus.op (Self.meaning a) (Self.meaning b))
+    ghost add_answers: { (a b : Self)
+        → Self.InRange (Self.plus.op (Self.meaning a) (Self.meaning b))
         → (r : Self) × Self.add_gives a b r };
 
     ghost add_meaning: { (a b r : Self)

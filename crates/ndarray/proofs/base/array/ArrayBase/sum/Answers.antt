@@ -1,4 +1,4 @@
-use Rattle.std.proofs.Common.{◌≡◌, ◌∷◌, ◌∙◌, sym, ap, subst, map}
+use Rattle.std.proofs.Common.{◌∷◌, ◌∙◌, sym, ap, subst, map}
 use Rattle.ndarray.specs.Sums.{IsSummable, total}
 use Rattle.ndarray.proofs.Selections.{IsSummable-head, IsSummable-join}
 use Rattle.ndarray.proofs.base.array.ArrayBase.sum.Goals as goal
