@@ -1,4 +1,5 @@
 pub mod AddedApart
+pub mod RunningSum
 pub mod Selections
 pub mod Sizes
 pub mod Verdicts

@@ -1,4 +1,4 @@
--- Selections of a list, and lists that are summable.
+-- Selections of a list, and what they tell of a summable one.
 use Rattle.std.proofs.Common.{◌≡◌, ℕ, zero, suc, Bool, true, false, cond, List, [], ◌∷◌, refl, sym, ap, ◌∙◌, subst}
 use Rattle.ndarray.specs.Sums.{Monoid, total, select, IsSummable}
 
@@ -12,16 +12,16 @@ select-none [] = refl
 select-none (x ∷ xs) = select-none xs
 
 module _ {C : Type 0} (M : Monoid C) where
-  op_unit : (a : C) → M.op a M.unit ≡ a
+  pub op_unit : (a : C) → M.op a M.unit ≡ a
   op_unit a = M.commutes a M.unit ∙ M.unit_op a
 
   total-unit : (b : Bool) (xs : List C) → total M (cond b (M.unit ∷ xs) xs) ≡ total M xs
   total-unit true xs = M.unit_op (total M xs)
   total-unit false xs = refl
 
-  joined : (b : Bool) (x y : C) (xs : List C) → total M (cond b (x ∷ cond b (y ∷ xs) xs) (cond b (y ∷ xs) xs)) ≡ total M (cond b (M.op x y ∷ xs) xs)
-  joined true x y xs = sym (M.associates x y (total M xs))
-  joined false x y xs = refl
+  total-joined : (b : Bool) (x y : C) (xs : List C) → total M (cond b (x ∷ cond b (y ∷ xs) xs) (cond b (y ∷ xs) xs)) ≡ total M (cond b (M.op x y ∷ xs) xs)
+  total-joined true x y xs = sym (M.associates x y (total M xs))
+  total-joined false x y xs = refl
 
   module _ (P : C → Type 0) where
     -- the first value is in range
@@ -35,6 +35,6 @@ module _ {C : Type 0} (M : Monoid C) where
         subst P (sym (total-unit (keep 0) (select (λ i. keep (suc i)) xs))) (h (λ i. keep (suc i)))
 
     -- the first two values may be added
-    pub IsSummable-join : (x y : C) (xs : List C) → IsSummable M P (x ∷ y ∷ xs) → IsSummable M P (M.op x y ∷ xs)
-    IsSummable-join x y xs h keep =
-        subst P (joined (keep 0) x y (select (λ i. keep (suc i)) xs)) (h (at_front (keep 0) keep))
+    pub IsSummable-joined : (x y : C) (xs : List C) → IsSummable M P (x ∷ y ∷ xs) → IsSummable M P (M.op x y ∷ xs)
+    IsSummable-joined x y xs h keep =
+        subst P (total-joined (keep 0) x y (select (λ i. keep (suc i)) xs)) (h (at_front (keep 0) keep))
