@@ -1,2 +1,11 @@
+pub mod Boxes
+pub mod Cells
+pub mod Lists
+pub mod Orders
+pub mod Places
+pub mod Rearranging
 pub mod Sizes
+pub mod Strides
+pub mod Stretching
 pub mod Verdicts
+pub mod Walks

@@ -1,0 +1,8 @@
+use Rattle.std.proofs.Common.{subst, sym}
+use Rattle.ndarray.specs.Grid.{IsGrid}
+use Rattle.ndarray.proofs.Cells.{known-by_cells}
+use Rattle.ndarray.proofs.Places.{length-cells_at, grid_at-same, Reaches-same}
+use Rattle.ndarray.proofs.base.array.ArrayBase.view.Goals as goal
+
+pub invariant_of-result : goal.invariant_of-result
+invariant_of-result g c = rw (c.copied.ensures.start, c.copied.ensures.dim, c.copied.ensures.strides) (Reaches-same _ _ _ _ _ (λ no. absurd no) (λ p. sym (c.seen.ensures p)) c.self.invariant)
