@@ -1,11 +1,13 @@
+pub mod Beside
 pub mod Boxes
 pub mod Cells
 pub mod Lists
 pub mod Orders
+pub mod Pairs
 pub mod Places
 pub mod Rearranging
 pub mod Sizes
-pub mod Strides
 pub mod Stretching
+pub mod Strides
 pub mod Verdicts
 pub mod Walks
