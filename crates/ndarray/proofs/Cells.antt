@@ -6,12 +6,21 @@ use Rattle.std.proofs.lemmas.List.{get_or_append_left, length-append}
 use Rattle.ndarray.specs.Index.{InBox, row_order, IsBefore}
 use Rattle.ndarray.specs.Grid.{Grid, grid, beside, cell, IsGrid, HasCells, tabulate, tabulated, IsKnownByCells}
 use Rattle.ndarray.specs.order.Steps.{rank}
-use Rattle.ndarray.proofs.Lists.{same_from_slice_get, length-filter_map_all, slice_get-filter_map_all, slice_get-Some, filter_map-same, get_or-append-last}
-use Rattle.ndarray.proofs.Orders.{length-row_order, row_order-is, row_order-at, row_order-back, rank-lt}
+use Rattle.ndarray.proofs.Lists.{same_from_slice_get, length-filter_map_all, slice_get-filter_map_all, slice_get-Some, filter_map-same, map-from_filter_map, get_or-append-last}
+use Rattle.ndarray.proofs.Orders.{length-row_order, row_order-is, row_order-at, row_order-back, rank-lt, box_in-is, box_in-within, IsBefore-not_itself}
+use Rattle.ndarray.specs.Orders.{box_in, cells_in, HasInOrder}
+use Rattle.ndarray.specs.declared.base.shape.Order.{Order}
+use Rattle.ndarray.proofs.Unique.{box_in-unique}
+use Rattle.ndarray.proofs.Beside.{beside-at, beside-none}
 
 module _ {A : Type 0} (g : Grid A) (whole : IsGrid g) where
   pub cell-within : (is : List ℕ) → InBox g.lengths is → cell g is ≡ slice_get g.cells (rank g.lengths is)
-  cell-within is b = ?
+  unfolding cell
+  cell-within is b =
+      let l = length-row_order g.lengths in
+      let lt = rank-lt g.lengths is b in
+      ap (beside (row_order g.lengths) g.cells) (sym (row_order-at g.lengths is is b))
+      ∙ beside-at IsBefore IsBefore-not_itself (row_order g.lengths) g.cells (rank g.lengths is) is (row_order-is g.lengths).rising (omega arith) (omega arith)
 
   pub cell-Some : (is : List ℕ) → InBox g.lengths is → (x : A) × (cell g is ≡ Some x)
   cell-Some is b =
@@ -39,7 +48,8 @@ module _ {A : Type 0} (g : Grid A) (whole : IsGrid g) where
 
 -- outside the box there is no cell
 pub cell-outside : {A : Type 0} (g : Grid A) (is : List ℕ) → (InBox g.lengths is → ⊥) → cell g is ≡ None
-cell-outside g is h = ?
+unfolding cell
+cell-outside g is h = beside-none (row_order g.lengths) g.cells is (λ c. h (subst (InBox g.lengths) c.2 ((row_order-is g.lengths).within c.0 is c.1)))
 
 -- the first, and the last, of what is to come
 pub along-first : {A : Type 0} (g : Grid A) (ys rest : List (List ℕ)) (is : List ℕ) (x : A) → ys ≡ is ∷ rest → cell g is ≡ Some x → filter_map (cell g) ys ≡ x ∷ filter_map (cell g) rest
@@ -77,3 +87,10 @@ same_grid g h wg wh e c = tabulate-is g h.lengths (cell h) wg e c ∙ sym (tabul
 
 pub known-by_cells : {A : Type 0} (g : Grid A) → IsGrid g → IsKnownByCells g
 known-by_cells g whole h wh e c = same_grid h g wh whole e (λ is b. c is (subst (λ ns. InBox ns is) e b))
+
+-- the cells along an order of the box, from those along the list that is it
+pub HasInOrder-from : {A : Type 0} (o : Order) (g : Grid A) (xs : List A) → map (cell g) (box_in o g.lengths) ≡ map Some xs → HasInOrder o g xs
+HasInOrder-from o g xs e is order = ap (map (cell g)) (box_in-unique o g.lengths is (box_in o g.lengths) order (box_in-is o g.lengths)) ∙ e
+
+pub cells_in-HasInOrder : {A : Type 0} (o : Order) (g : Grid A) → IsGrid g → HasInOrder o g (cells_in o g)
+cells_in-HasInOrder o g whole = HasInOrder-from o g (cells_in o g) (map-from_filter_map (cell g) (box_in o g.lengths) (all-cells g whole (box_in o g.lengths) (box_in-within o g.lengths)))

@@ -9,5 +9,6 @@ pub mod Rearranging
 pub mod Sizes
 pub mod Stretching
 pub mod Strides
+pub mod Unique
 pub mod Verdicts
 pub mod Walks

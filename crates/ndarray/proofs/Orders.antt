@@ -1,6 +1,6 @@
 -- The two orders of a box: their length, what stands at each place, and that they meet their descriptions.
 use Rattle.std.proofs.Common.{◌≡◌, ◌≢◌, ℕ, ◌+◌, ◌-◌, ◌*◌, ◌/◌, ◌%◌, ◌<◌, ◌≤◌, ◌^◌, ◌⊎◌, suc, zero, cond, Bool, true, false, List, [], ◌∷◌, ◌++◌, length, map, reverse, take, drop, set, get_or, replicate, Option, Some, None, inl, inr, refl, sym, ◌∙◌, ap, arith, subst}
-use Rattle.std.specs.Prelude.{flat_map}
+use Rattle.std.specs.Prelude.{flat_map, All}
 use Rattle.std.specs.List.{range_with_len}
 use Rattle.std.proofs.lemmas.List.{get_or_append_left, get_or-append-add, length-append, length-map, length-reverse, get_or-map, get_or_default, reverse-reverse}
 use Rattle.std.proofs.Math.Nat.{mul-le-mul_left, div-lt_iff_lt-mul}
@@ -208,3 +208,11 @@ column_order-is ns =
 pub box_in-is : (o : Order) (ns : List ℕ) → IsBoxIn o ns (box_in o ns)
 box_in-is RowMajor ns = row_order-is ns
 box_in-is ColumnMajor ns = column_order-is ns
+
+pub box_in-within : (o : Order) (ns : List ℕ) → All (InBox ns) (box_in o ns)
+box_in-within RowMajor ns = (row_order-is ns).within
+box_in-within ColumnMajor ns = (column_order-is ns).within
+
+pub IsBefore-not_itself : (is : List ℕ) → IsBefore is is → ⊥
+IsBefore-not_itself [] h = h
+IsBefore-not_itself (i ∷ is) h = elim h [ inl a ↦ omega (arith, a) | inr a ↦ IsBefore-not_itself is a.1 ]

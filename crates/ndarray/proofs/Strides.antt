@@ -119,3 +119,6 @@ Reaches-slice o ns bs h limit one at xs e room = Reaches-strides o ns bs h limit
 
 pub cells-slice : (o : Order) (ns bs : List ℕ) → AreStridesOf o ns bs → nonzero_size ns < 2 ^ 63 → {A : Type 0} (at : ℕ → Option A) (xs : List A) → ((p : ℕ) → at p ≡ slice_get xs p) → size ns ≤ length xs → map (cell (grid_at at ns 0 bs)) (box_in o ns) ≡ map Some (take (size ns) xs)
 cells-slice o ns bs h limit at xs e room = ap (λ g. map (cell g) (box_in o ns)) (grid_at-same at (slice_get xs) ns 0 bs e) ∙ cells-strides o ns bs h limit xs room
+
+pub cells_in-slice : (o : Order) (ns bs : List ℕ) → AreStridesOf o ns bs → nonzero_size ns < 2 ^ 63 → {A : Type 0} (at : ℕ → Option A) (xs : List A) → ((p : ℕ) → at p ≡ slice_get xs p) → size ns ≤ length xs → cells_in o (grid_at at ns 0 bs) ≡ take (size ns) xs
+cells_in-slice o ns bs h limit at xs e room = filter_map-from_map (cell (grid_at at ns 0 bs)) (box_in o ns) (take (size ns) xs) (cells-slice o ns bs h limit at xs e room)
