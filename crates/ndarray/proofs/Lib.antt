@@ -1,6 +1,7 @@
 pub mod Beside
 pub mod Boxes
 pub mod Cells
+pub mod Filled
 pub mod Lists
 pub mod Orders
 pub mod Pairs

@@ -162,8 +162,8 @@ pub trait RemoveAxis: Dimension {
         for k in 0..axis.0 {
             smaller.set_axis(k, self.axis(k));
         }
-        for k in axis.0 + 1..ndim {
-            smaller.set_axis(k - 1, self.axis(k));
+        for k in axis.0..ndim - 1 {
+            smaller.set_axis(k, self.axis(k + 1));
         }
         smaller
     }
