@@ -6,6 +6,7 @@ pub mod Lists
 pub mod Orders
 pub mod Pairs
 pub mod Places
+pub mod Rearranged
 pub mod Rearranging
 pub mod Sizes
 pub mod Stretching
