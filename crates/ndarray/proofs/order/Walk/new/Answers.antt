@@ -3,6 +3,8 @@ use Rattle.ndarray.specs.Orders.{IsBoxIn}
 use Rattle.ndarray.specs.order.Steps.{WalkStands, walk_rest}
 use Rattle.ndarray.proofs.Walks.{walk-new, walk-stands_new}
 use Rattle.ndarray.proofs.Orders.{box_in-is}
+use Rattle.ndarray.proofs.Rearranged.{IsBoxIn-rearranges}
+use Rattle.ndarray.proofs.Unique.{box_in-unique}
 use Rattle.ndarray.proofs.order.Walk.new.Goals as goal
 
 pub invariant_of-result : goal.invariant_of-result
@@ -22,3 +24,9 @@ returns-clause-list g c =
 
 pub returns-clause-described : goal.returns-clause-described
 returns-clause-described g c = subst (IsBoxIn c.args.order (g.D.Lengths.numbers c.args.dim)) (sym (returns-clause-list g c)) (box_in-is c.args.order (g.D.Lengths.numbers c.args.dim))
+
+pub returns-clause-alone : goal.returns-clause-alone
+returns-clause-alone g c xs p = box_in-unique c.args.order (g.D.Lengths.numbers c.args.dim) xs _ p (returns-clause-described g c)
+
+pub returns-clause-rearranges : goal.returns-clause-rearranges
+returns-clause-rearranges g c xs p = IsBoxIn-rearranges c.args.order (g.D.Lengths.numbers c.args.dim) xs _ p (returns-clause-described g c)
