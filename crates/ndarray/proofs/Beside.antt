@@ -1,6 +1,6 @@
 -- What stands beside an index list, of two lists side by side.
-use Rattle.std.proofs.Common.{◌≡◌, ℕ, ◌<◌, ◌≢◌, suc, zero, List, [], ◌∷◌, ◌⊎◌, Option, Some, None, length, get_or, true, false, refl, sym, ◌∙◌, arith, subst, inl, inr}
-use Rattle.std.specs.Prelude.{AllPairs, Contains, slice_get, nat_eq, ◌&&◌}
+use Rattle.std.proofs.Common.{◌≡◌, ℕ, ◌<◌, ◌≢◌, suc, zero, List, [], ◌∷◌, Some, None, length, get_or, true, false, refl, sym, ◌∙◌, arith, subst, inl, inr}
+use Rattle.std.specs.Prelude.{AllPairs, Contains, slice_get, nat_eq}
 use Rattle.std.proofs.lemmas.Bool.{eq-eqb, eqb-true, and_from, and_parts, cases_Bool, false_from_ne_true}
 use Rattle.std.proofs.lemmas.List.Elements.{Contains-get_or}
 use Rattle.ndarray.specs.Grid.{same_index, beside}

@@ -23,9 +23,9 @@ module _ {X : Type 0} where
             elim (cases_lt j k) [
               | inl below ↦ (let other : j ≢ k = omega arith in ap (λ l. get_or l j e) written ∙ (get_or-set_other xs k j x e other ∙ filled.same j e below))
               | inr above ↦ (let here : j ≡ k = omega arith in
-              ap (λ l. get_or l j e) written
-              ∙ (get_or-set_at xs k j x e here (omega arith)
-              ∙ (sym next ∙ (get_or_default ys k d e lt ∙ ap (λ i. get_or ys i e) (sym here)))))
+                  ap (λ l. get_or l j e) written
+                  ∙ (get_or-set_at xs k j x e here (omega arith)
+                  ∙ (sym next ∙ (get_or_default ys k d e lt ∙ ap (λ i. get_or ys i e) (sym here)))))
             ];
       }
 

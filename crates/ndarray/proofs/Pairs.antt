@@ -1,5 +1,5 @@
 -- Lists in which each element stands in a relation to all later ones.
-use Rattle.std.proofs.Common.{◌≡◌, ◌≢◌, ℕ, ◌<◌, suc, zero, List, ◌∷◌, ◌⊎◌, length, get_or, arith, subst, inl, inr, refl}
+use Rattle.std.proofs.Common.{◌≡◌, ℕ, ◌<◌, suc, zero, List, ◌∷◌, ◌⊎◌, length, get_or, arith, subst, inl, inr, refl}
 use Rattle.std.specs.Prelude.{AllPairs, Contains}
 use Rattle.std.proofs.lemmas.Bool.{cases_lt}
 

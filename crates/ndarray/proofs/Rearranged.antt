@@ -1,5 +1,5 @@
 -- Lists that hold the same, no element twice, are one another in another order. So are a box's two orders.
-use Rattle.std.proofs.Common.{◌≡◌, ◌≢◌, ℕ, ◌+◌, ◌-◌, ◌<◌, List, [], ◌∷◌, length, get_or, reverse, remove, refl, sym, ◌∙◌, ap, arith, subst, inl, inr}
+use Rattle.std.proofs.Common.{◌≡◌, ◌≢◌, ℕ, ◌+◌, ◌-◌, ◌<◌, List, [], ◌∷◌, length, get_or, reverse, remove, sym, ◌∙◌, ap, arith, subst, inl, inr}
 use Rattle.std.specs.Prelude.{AllPairs, Contains, IsPermutation}
 use Rattle.std.proofs.lemmas.Bool.{cases_lt}
 use Rattle.std.proofs.lemmas.List.{get_or_default}
@@ -22,7 +22,7 @@ module _ {X : Type 0} where
       elim (cases_lt j k) [
         | inl lt ↦ (j, omega arith, get_or-remove_below xs k z j lt hk ∙ e)
         | inr ge ↦ (let back : j ≡ j - 1 + 1 = omega arith in
-        (j - 1, omega arith, get_or-remove_above xs k z (j - 1) (omega arith) hk ∙ (ap (λ i. get_or xs i z) (sym back) ∙ e)))
+            (j - 1, omega arith, get_or-remove_above xs k z (j - 1) (omega arith) hk ∙ (ap (λ i. get_or xs i z) (sym back) ∙ e)))
       ]
 
   -- what stays stood at another place
@@ -43,19 +43,19 @@ module _ {X : Type 0} where
         let k = at.0 in
         let rest = rearranged xs (remove ys k) (AllPairs-tail R x xs up) (all_pairs_remove S ys k at.1 vp)
         (λ z c.
-            let b = f z (Contains-later x xs z c) in
-            Contains-remove ys k b.0 z at.1 b.1
-            (λ same.
-                let here : get_or ys k z ≡ z = subst (λ i. get_or ys i z ≡ z) same b.2 in
-                let e : z ≡ x = sym here ∙ (get_or_default ys k z x at.1 ∙ at.2) in
-                r x (subst (R x) e (AllPairs-head R x xs z up c)))
-            b.2)
+        let b = f z (Contains-later x xs z c) in
+        Contains-remove ys k b.0 z at.1 b.1
+        (λ same.
+        let here : get_or ys k z ≡ z = subst (λ i. get_or ys i z ≡ z) same b.2 in
+        let e : z ≡ x = sym here ∙ (get_or_default ys k z x at.1 ∙ at.2) in
+        r x (subst (R x) e (AllPairs-head R x xs z up c)))
+        b.2)
         (λ z c.
-            let b = Contains-removed ys k z at.1 c in
-            elim (Contains-cases x xs z (g z (b.0, b.1, b.3))) [
-              | inl e ↦ absurd (b.2 (AllPairs-once S s ys b.0 k z vp b.1 at.1 b.3 (subst (λ w. get_or ys k w ≡ w) e at.2)))
-              | inr later ↦ later
-            ]) in
+        let b = Contains-removed ys k z at.1 c in
+        elim (Contains-cases x xs z (g z (b.0, b.1, b.3))) [
+          | inl e ↦ absurd (b.2 (AllPairs-once S s ys b.0 k z vp b.1 at.1 b.3 (subst (λ w. get_or ys k w ≡ w) e at.2)))
+          | inr later ↦ later
+        ]) in
         IsPermutation-trans (x ∷ xs) (x ∷ remove ys k) ys
         (IsPermutation-cons x xs (remove ys k) rest)
         (IsPermutation-sym ys (x ∷ remove ys k) (IsPermutation-remove ys k x at.1 (sym at.2)))
