@@ -1,6 +1,6 @@
 -- The cells of an array, and along a list of index lists.
-use Rattle.std.proofs.Common.{◌≡◌, ◌≢◌, ℕ, ◌+◌, ◌-◌, ◌*◌, ◌/◌, ◌%◌, ◌<◌, ◌≤◌, ◌^◌, ◌⊎◌, suc, zero, cond, Bool, true, false, List, [], ◌∷◌, ◌++◌, length, map, reverse, take, drop, set, get_or, replicate, Option, Some, None, inl, inr, refl, sym, ◌∙◌, ap, arith, subst}
-use Rattle.std.specs.Prelude.{filter_map, slice_get, All, Contains}
+use Rattle.std.proofs.Common.{◌≡◌, ℕ, List, [], ◌∷◌, ◌++◌, length, map, get_or, Option, Some, None, refl, sym, ◌∙◌, ap, arith, subst}
+use Rattle.std.specs.Prelude.{filter_map, slice_get, All}
 use Rattle.std.proofs.lemmas.List.Elements.{filter_map-append, All-head, All-tail}
 use Rattle.std.proofs.lemmas.List.{get_or_append_left, length-append}
 use Rattle.ndarray.specs.Index.{InBox, row_order, IsBefore}

@@ -2,12 +2,12 @@ pub mod Beside
 pub mod Boxes
 pub mod Cells
 pub mod Filled
+pub mod Images
 pub mod Lists
 pub mod Orders
 pub mod Pairs
+pub mod Permutations
 pub mod Places
-pub mod Rearranged
-pub mod Rearranging
 pub mod Sizes
 pub mod Stretching
 pub mod Strides

@@ -1,7 +1,7 @@
 -- Lists: what stands at each place.
-use Rattle.std.proofs.Common.{◌≡◌, ◌≢◌, ℕ, ◌+◌, ◌-◌, ◌*◌, ◌/◌, ◌%◌, ◌<◌, ◌≤◌, ◌^◌, ◌⊎◌, suc, zero, cond, Bool, true, false, List, [], ◌∷◌, ◌++◌, length, map, reverse, take, drop, set, get_or, replicate, Option, Some, None, inl, inr, refl, sym, ◌∙◌, ap, arith, subst}
+use Rattle.std.proofs.Common.{◌≡◌, ℕ, ◌<◌, suc, zero, List, [], ◌∷◌, ◌++◌, length, map, reverse, take, get_or, Option, Some, None, refl, sym, ◌∙◌, ap, arith, subst}
 use Rattle.std.specs.Prelude.{filter_map, slice_get, All, IsTrue}
-use Rattle.std.specs.Option.{is_some, option_map}
+use Rattle.std.specs.Option.{is_some}
 use Rattle.std.specs.List.{cons_option}
 use Rattle.std.proofs.lemmas.List.{reverse-append, get_or_at}
 use Rattle.std.proofs.lemmas.List.Elements.{All-head, All-tail}
@@ -39,22 +39,12 @@ slice_get-Some [] k h = absurd (omega arith)
 slice_get-Some (x ∷ xs) zero h = (x, refl)
 slice_get-Some (x ∷ xs) (suc k) h = slice_get-Some xs k (omega arith)
 
-pub slice_get-get_or : {X : Type 0} (xs : List X) (k : ℕ) (d : X) → k < length xs → slice_get xs k ≡ Some (get_or xs k d)
-slice_get-get_or [] k d h = absurd (omega arith)
-slice_get-get_or (x ∷ xs) zero d h = refl
-slice_get-get_or (x ∷ xs) (suc k) d h = slice_get-get_or xs k d (omega arith)
-
 pub some-of : {X : Type 0} (o : Option X) → IsTrue (is_some o) → (x : X) × (o ≡ Some x)
 some-of None h = cc
 some-of (Some x) h = (x, refl)
 
 pub filled-slice : {X : Type 0} (xs : List X) (k : ℕ) → k < length xs → IsTrue (is_some (slice_get xs k))
 filled-slice xs k h = subst (λ o. IsTrue (is_some o)) (sym (slice_get-Some xs k h).1) refl
-
-pub slice_get-map : {X Y : Type 0} (f : X → Y) (xs : List X) (k : ℕ) → slice_get (map f xs) k ≡ option_map f (slice_get xs k)
-slice_get-map f [] k = refl
-slice_get-map f (x ∷ xs) zero = refl
-slice_get-map f (x ∷ xs) (suc k) = slice_get-map f xs k
 
 pub slice_get-take : {X : Type 0} (n : ℕ) (xs : List X) (k : ℕ) → k < n → slice_get (take n xs) k ≡ slice_get xs k
 slice_get-take zero xs k h = absurd (omega arith)

@@ -1,12 +1,12 @@
 -- Where the cells of an array lie, and which cells these are.
-use Rattle.std.proofs.Common.{◌≡◌, ◌≢◌, ℕ, ◌+◌, ◌-◌, ◌*◌, ◌/◌, ◌%◌, ◌<◌, ◌≤◌, ◌^◌, ◌⊎◌, suc, zero, cond, Bool, true, false, List, [], ◌∷◌, ◌++◌, length, map, reverse, take, drop, set, get_or, replicate, Option, Some, None, inl, inr, refl, sym, ◌∙◌, ap, arith, subst}
-use Rattle.std.specs.Prelude.{filter_map, slice_get, All, IsTrue}
+use Rattle.std.proofs.Common.{◌≡◌, ℕ, ◌+◌, ◌*◌, ◌/◌, ◌%◌, ◌<◌, ◌^◌, suc, zero, List, [], ◌∷◌, length, take, get_or, Option, Some, None, sym, ◌∙◌, ap, arith, subst}
+use Rattle.std.specs.Prelude.{slice_get, All, IsTrue}
 use Rattle.std.specs.Option.{is_some}
 use Rattle.std.proofs.lemmas.List.{take_all}
 use Rattle.std.proofs.lemmas.Nat.{div-add-mod'}
 use Rattle.std.proofs.Math.Nat.{mod-add-mod, add-mod-mod, add-mul-mod_self_left}
 use Rattle.ndarray.specs.Index.{InBox, size, row_order}
-use Rattle.ndarray.specs.Grid.{Grid, grid, cell, IsGrid}
+use Rattle.ndarray.specs.Grid.{Grid, grid, cell}
 use Rattle.ndarray.specs.base.Places.{dot, place, Reaches, cells_at, grid_at}
 use Rattle.ndarray.specs.order.Steps.{rank}
 use Rattle.ndarray.proofs.Lists.{length-filter_map_all, slice_get-filter_map_all, some-of, filter_map-same}

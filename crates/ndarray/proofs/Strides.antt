@@ -1,5 +1,5 @@
 -- The strides of a box whose cells lie side by side, and the view that they make.
-use Rattle.std.proofs.Common.{◌≡◌, ◌≢◌, ℕ, ◌+◌, ◌-◌, ◌*◌, ◌/◌, ◌%◌, ◌<◌, ◌≤◌, ◌^◌, ◌⊎◌, suc, zero, cond, Bool, true, false, List, [], ◌∷◌, ◌++◌, length, map, reverse, take, drop, set, get_or, replicate, Option, Some, None, inl, inr, refl, sym, ◌∙◌, ap, arith, subst}
+use Rattle.std.proofs.Common.{◌≡◌, ◌≢◌, ℕ, ◌+◌, ◌-◌, ◌*◌, ◌<◌, ◌≤◌, ◌^◌, suc, List, [], ◌∷◌, length, map, take, drop, set, get_or, Option, Some, inl, inr, refl, sym, ◌∙◌, ap, arith, subst}
 use Rattle.std.specs.Prelude.{slice_get, IsTrue}
 use Rattle.std.specs.Option.{is_some, option_map}
 use Rattle.std.proofs.lemmas.Bool.{cases_lt}
@@ -13,7 +13,8 @@ use Rattle.ndarray.specs.base.Places.{dot, place, Reaches, grid_at}
 use Rattle.ndarray.specs.base.Strides.{AreStridesOf}
 use Rattle.ndarray.specs.declared.base.shape.Order.{Order}
 use Rattle.ndarray.specs.declared.base.shape.Order.TheVariants.{RowMajor, ColumnMajor}
-use Rattle.ndarray.proofs.Lists.{same_from_slice_get, slice_get-Some, slice_get-get_or, slice_get-map, slice_get-take, filled-slice, filter_map-from_map}
+use Rattle.std.proofs.lemmas.Option.{slice_get-get_or, slice_get-map}
+use Rattle.ndarray.proofs.Lists.{same_from_slice_get, slice_get-Some, slice_get-take, filled-slice, filter_map-from_map}
 use Rattle.ndarray.proofs.Sizes.{size-take_fits, size-drop_fits, size-le}
 use Rattle.ndarray.proofs.Orders.{length-box_in, rank_in-lt, box_in-at, box_in-back}
 use Rattle.ndarray.proofs.Walks.{axis_in-lt, block_in-more}

@@ -2,11 +2,10 @@
 use Rattle.std.proofs.Common.{◌≡◌, ℕ, List, [], ◌∷◌, reverse, refl, sym, ◌∙◌, arith, subst, inl, inr}
 use Rattle.std.specs.Prelude.{AllPairs, Contains}
 use Rattle.std.proofs.lemmas.List.Elements.{All-contains}
-use Rattle.ndarray.specs.Index.{InBox, IsBefore, IsBeforeFromLast, IsOrderOf, IsRowOrder, row_order}
+use Rattle.ndarray.specs.Index.{InBox, IsBefore, IsBeforeFromLast, IsOrderOf}
 use Rattle.ndarray.specs.Orders.{IsBoxIn}
 use Rattle.ndarray.specs.declared.base.shape.Order.{Order}
 use Rattle.ndarray.specs.declared.base.shape.Order.TheVariants.{RowMajor, ColumnMajor}
-use Rattle.ndarray.proofs.Orders.{row_order-is}
 use Rattle.ndarray.proofs.Pairs.{Contains-cases, Contains-later, Contains-first, AllPairs-head, AllPairs-tail}
 
 -- lists that rise by one order and hold the same are equal
@@ -36,7 +35,7 @@ module _ {X : Type 0} (R : X → X → Type 0) (both : (x y : X) → R x y → R
       cc
 
 module _ (R : List ℕ → List ℕ → Type 0) (both : (x y : List ℕ) → R x y → R y x → ⊥) where
-  pub order-unique : (ns : List ℕ) (xs ys : List (List ℕ)) → IsOrderOf R ns xs → IsOrderOf R ns ys → xs ≡ ys
+  order-unique : (ns : List ℕ) (xs ys : List (List ℕ)) → IsOrderOf R ns xs → IsOrderOf R ns ys → xs ≡ ys
   order-unique ns xs ys p q =
       same_rising R both xs ys p.rising q.rising
       (λ z h. q.whole z (All-contains (InBox ns) xs z p.within h))
@@ -54,6 +53,3 @@ IsBefore-one_way (i ∷ is) (j ∷ js) p q =
 pub box_in-unique : (o : Order) (ns : List ℕ) (xs ys : List (List ℕ)) → IsBoxIn o ns xs → IsBoxIn o ns ys → xs ≡ ys
 box_in-unique RowMajor = order-unique IsBefore IsBefore-one_way
 box_in-unique ColumnMajor = order-unique IsBeforeFromLast (λ is js. IsBefore-one_way (reverse is) (reverse js))
-
-pub row_order-unique : (ns : List ℕ) (xs : List (List ℕ)) → IsRowOrder ns xs → xs ≡ row_order ns
-row_order-unique ns xs p = box_in-unique RowMajor ns xs (row_order ns) p (row_order-is ns)

@@ -1,15 +1,15 @@
 -- One step of a walk.
-use Rattle.std.proofs.Common.{◌≡◌, ◌≢◌, ℕ, ◌+◌, ◌-◌, ◌*◌, ◌/◌, ◌%◌, ◌<◌, ◌≤◌, ◌^◌, ◌⊎◌, suc, zero, cond, Bool, true, false, List, [], ◌∷◌, ◌++◌, length, map, reverse, take, drop, set, get_or, replicate, Option, Some, None, inl, inr, refl, sym, ◌∙◌, ap, arith, subst}
+use Rattle.std.proofs.Common.{◌≡◌, ℕ, ◌+◌, ◌-◌, ◌*◌, ◌<◌, ◌≤◌, suc, zero, List, [], ◌∷◌, ◌++◌, length, take, drop, set, get_or, replicate, refl, sym, ◌∙◌, ap, arith, subst}
 use Rattle.std.proofs.lemmas.List.{take_all, drop_all, length-take-le, length-drop, get_or-drop}
 use Rattle.std.proofs.Math.Seq.{take-suc, drop-cons}
-use Rattle.ndarray.specs.Index.{InBox, size, row_order, column_order}
+use Rattle.ndarray.specs.Index.{InBox, size}
 use Rattle.ndarray.specs.Orders.{box_in}
 use Rattle.ndarray.specs.order.Steps.{rank, column_rank, rank_in, axis_in, block_in, walk_rest, WalkStands}
 use Rattle.ndarray.specs.declared.base.shape.Order.{Order}
 use Rattle.ndarray.specs.declared.base.shape.Order.TheVariants.{RowMajor, ColumnMajor}
 use Rattle.ndarray.proofs.Boxes.{InBox-length, InBox-get, InBox-set, InBox-zeros}
 use Rattle.ndarray.proofs.Sizes.{size-append}
-use Rattle.ndarray.proofs.Orders.{length-box_in, rank_in-lt, box_in-at}
+use Rattle.ndarray.proofs.Orders.{length-box_in, box_in-at}
 
 pub axis_in-lt : (o : Order) (n p : ℕ) → p < n → axis_in o n p < n
 axis_in-lt RowMajor n p h = omega arith

@@ -3,7 +3,7 @@ use Rattle.ndarray.specs.Orders.{IsBoxIn}
 use Rattle.ndarray.specs.order.Steps.{WalkStands, walk_rest}
 use Rattle.ndarray.proofs.Walks.{walk-new, walk-stands_new}
 use Rattle.ndarray.proofs.Orders.{box_in-is}
-use Rattle.ndarray.proofs.Rearranged.{IsBoxIn-rearranges}
+use Rattle.ndarray.proofs.Permutations.{IsBoxIn-rearranges}
 use Rattle.ndarray.proofs.Unique.{box_in-unique}
 use Rattle.ndarray.proofs.order.Walk.new.Goals as goal
 

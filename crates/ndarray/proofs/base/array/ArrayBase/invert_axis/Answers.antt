@@ -1,9 +1,9 @@
-use Rattle.std.proofs.Common.{arith, ◌∙◌, ap, sym, subst, ℕ, length, refl, ◌+◌, ◌*◌, ◌%◌, ◌^◌, ◌-◌, ◌<◌}
+use Rattle.std.proofs.Common.{arith, ◌∙◌, ap, ℕ, length, refl, ◌+◌, ◌*◌, ◌%◌, ◌^◌, ◌-◌, ◌<◌}
 use Rattle.ndarray.specs.Grid.{cell, tabulate}
 use Rattle.ndarray.specs.Views.{turned}
 use Rattle.ndarray.specs.base.Places.{Rearranges}
 use Rattle.ndarray.proofs.Places.{length-cells_at}
-use Rattle.ndarray.proofs.Rearranging.{rearranges-turned, Reaches-rearranged, grid-seen}
+use Rattle.ndarray.proofs.Images.{rearranges-turned, Reaches-rearranged, grid-seen}
 use Rattle.ndarray.proofs.base.array.ArrayBase.invert_axis.Goals as goal
 
 new_start : ℕ → ℕ → ℕ → ℕ

@@ -1,8 +1,7 @@
-use Rattle.std.proofs.Common.{reverse, sym, ap, ◌∙◌, subst}
-use Rattle.ndarray.specs.Grid.{IsGrid}
+use Rattle.std.proofs.Common.{reverse, sym, ap, ◌∙◌}
 use Rattle.ndarray.specs.base.Places.{Rearranges}
 use Rattle.ndarray.proofs.Places.{Reaches-same, length-cells_at}
-use Rattle.ndarray.proofs.Rearranging.{rearranges-reversed, Reaches-rearranged, grid-seen}
+use Rattle.ndarray.proofs.Images.{rearranges-reversed, Reaches-rearranged, grid-seen}
 use Rattle.ndarray.proofs.base.array.ArrayBase.t.Goals as goal
 
 turn : (g : _) (c : goal.After-reversed-2 g) → Rearranges ⊥ (g.D.Lengths.numbers c.self.inside.layout.dim) c.self.inside.layout.start (g.D.Lengths.numbers c.self.inside.layout.strides) (g.D.Lengths.numbers c.reversed.result) c.self.inside.layout.start (g.D.Lengths.numbers c.reversed-2.result) reverse

@@ -1,7 +1,5 @@
-use Rattle.std.proofs.Common.{arith, ◌≡◌, ◌∙◌, sym, subst, ap, take}
-use Rattle.ndarray.specs.Grid.{Grid}
-use Rattle.ndarray.specs.Orders.{HasInOrder, cells_in}
-use Rattle.ndarray.specs.declared.base.shape.Order.{Order}
+use Rattle.std.proofs.Common.{arith, subst}
+use Rattle.ndarray.specs.Orders.{HasInOrder}
 use Rattle.ndarray.proofs.Cells.{cells_in-HasInOrder}
 use Rattle.ndarray.proofs.Places.{length-cells_at}
 use Rattle.ndarray.proofs.Strides.{Reaches-slice, cells_in-slice}

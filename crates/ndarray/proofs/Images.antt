@@ -1,10 +1,9 @@
 -- Views of views.
-use Rattle.std.proofs.Common.{◌≡◌, ◌≢◌, ℕ, ◌+◌, ◌-◌, ◌*◌, ◌/◌, ◌%◌, ◌<◌, ◌≤◌, ◌^◌, ◌⊎◌, suc, zero, cond, Bool, true, false, List, [], ◌∷◌, ◌++◌, length, map, reverse, take, drop, set, get_or, replicate, Option, Some, None, inl, inr, refl, sym, ◌∙◌, ap, arith, subst}
+use Rattle.std.proofs.Common.{◌≡◌, ℕ, ◌+◌, ◌-◌, ◌*◌, ◌%◌, ◌<◌, ◌^◌, suc, zero, List, [], ◌∷◌, ◌++◌, length, reverse, set, get_or, Option, refl, sym, ◌∙◌, ap, arith, subst}
 use Rattle.std.specs.Prelude.{IsTrue}
 use Rattle.std.specs.Option.{is_some}
 use Rattle.std.proofs.lemmas.List.{get_or-set_same, set-set, set-get_or, length-reverse, length-set, reverse-reverse}
 use Rattle.ndarray.specs.Index.{InBox}
-use Rattle.ndarray.specs.Limits.{nonzero_size}
 use Rattle.ndarray.specs.Grid.{Grid, cell, tabulate}
 use Rattle.ndarray.specs.Views.{turned}
 use Rattle.ndarray.specs.base.Places.{dot, place, Reaches, grid_at, Rearranges}
