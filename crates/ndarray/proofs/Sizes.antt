@@ -1,17 +1,17 @@
--- The size of a box, one axis at a time.
-use Rattle.std.proofs.Common.{◌≡◌, ℕ, ◌+◌, ◌*◌, ◌<◌, ◌≤◌, ◌^◌, suc, zero, List, [], ◌∷◌, ◌++◌, length, take, drop, get_or, sym, ◌∙◌, ◌/◌, ◌%◌, ap, arith}
+-- The size of a box, and the limit on shapes, one axis at a time.
+use Rattle.std.proofs.Common.{◌≡◌, ℕ, ◌+◌, ◌*◌, ◌<◌, ◌≤◌, ◌^◌, suc, zero, List, [], ◌∷◌, ◌++◌, length, reverse, refl, take, drop, get_or, sym, ◌∙◌, ◌/◌, ◌%◌, ap, arith}
 use Rattle.std.proofs.Math.Seq.{take-suc}
 use Rattle.std.proofs.Math.Nat.{mul-le-mul_left, div-lt_iff_lt-mul}
 use Rattle.std.proofs.lemmas.Nat.{div-add-mod'}
 use Rattle.std.proofs.lemmas.List.{take_all, take-append-drop}
 use Rattle.ndarray.specs.Index.{size}
 use Rattle.ndarray.specs.Limits.{nonzero_size}
+use Rattle.std.proofs.Math.Nat.{mul_comm}
+use Rattle.ndarray.proofs.Lists.{reverse-cons}
 
 pub size-append : (ns ms : List ℕ) → size (ns ++ ms) ≡ size ns * size ms
 size-append [] ms = omega arith
 size-append (n ∷ ns) ms = ap (λ x. n * x) (size-append ns ms) ∙ omega arith
-
--- ---- the size, one axis at a time
 
 pub size-take_more : (ns : List ℕ) (k : ℕ) → k < length ns → size (take (k + 1) ns) ≡ size (take k ns) * get_or ns k 0
 size-take_more ns k h =
@@ -43,8 +43,6 @@ pub size-take_all : (ns : List ℕ) (k : ℕ) → length ns ≤ k → size (take
 size-take_all ns k h = ap size (take_all k ns h)
 
 pub ruleset sizes = (size-take_more, size-take_fits, size-take_all)
-
--- ---- the limit, one axis at a time
 
 pub nonzero-append : (ns ms : List ℕ) → nonzero_size (ns ++ ms) ≡ nonzero_size ns * nonzero_size ms
 nonzero-append [] ms = omega arith
@@ -96,3 +94,15 @@ nonzero-drop ns k =
 
 pub size-drop_fits : (ns : List ℕ) (k : ℕ) → nonzero_size ns < 2 ^ 63 → size (drop k ns) < 2 ^ 64
 size-drop_fits ns k h = let a = size-le (drop k ns) in let b = nonzero-drop ns k in omega arith
+
+-- ---- the axes from the last to the first
+
+pub size-reverse : (ns : List ℕ) → size (reverse ns) ≡ size ns
+size-reverse [] = refl
+size-reverse (n ∷ ns) = ap size (reverse-cons n ns) ∙ (size-append (reverse ns) (n ∷ []) ∙ (ap (λ x. x * (n * 1)) (size-reverse ns) ∙ omega arith))
+
+pub nonzero-reverse : (ns : List ℕ) → nonzero_size (reverse ns) ≡ nonzero_size ns
+nonzero-reverse [] = refl
+nonzero-reverse (n ∷ ns) =
+    let h = nonzero-reverse ns in
+    ap nonzero_size (reverse-cons n ns) ∙ (nonzero-append (reverse ns) (n ∷ []) ∙ (ap (λ x. x * nonzero_size (n ∷ [])) h ∙ (mul_comm (nonzero_size ns) (nonzero_size (n ∷ [])) ∙ sym (nonzero-append (n ∷ []) ns))))

@@ -1,7 +1,24 @@
-//! Arrays of any number of axes.
+//! Arrays of any number of axes: walks, views and sums whose results are proved to depend on the
+//! lengths and the cells of an array alone, whatever its memory layout.
+//!
+//! A contract sees an array as its lengths and its cells (`specs/Grid.antt`). Reading views are made
+//! over slices by `ArrayView::from_shape`, turned by `t`, `invert_axis` and `broadcast`, walked by
+//! `iter` and added up by `sum`. The names are those of Rust's crate `ndarray` 0.17.2.
 #![tactic(auto)]
 
 pub mod base;
 pub mod iter;
 pub mod order;
 pub mod reduce;
+
+pub use crate::base::array::{ArrayBase, ArrayView, ArrayView1};
+pub use crate::base::axis::Axis;
+pub use crate::base::dim_max::DimMax;
+pub use crate::base::dimension::{
+    Dim, Dimension, Ix0, Ix1, Ix2, Ix3, Ix4, Ix5, Ix6, IxDyn, Lengths, RemoveAxis,
+};
+pub use crate::base::error::{ErrorKind, ShapeError};
+pub use crate::base::into_dimension::IntoDimension;
+pub use crate::base::shape::{Shape, ShapeBuilder};
+pub use crate::base::storage::{Data, ViewRepr};
+pub use crate::reduce::values::{SumElem, Valued};

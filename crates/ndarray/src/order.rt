@@ -1,20 +1,18 @@
 //! The two orders of a box, and the walk over its index lists.
 
-ghost use Rattle.std.specs.Prelude.{◌≡◌, List, ℕ, ◌+◌, ◌<◌, length, ⊤};
-ghost use Rattle.std.specs.Iterator.{YieldsFirstBy, YieldsLastBy, item_count};
-ghost use Rattle.std.specs.Iterator.SizeHint.{IsWithinCount};
+ghost use Rattle.std.specs.Prelude.{◌≡◌, List, ℕ, ◌+◌, ◌<◌, length, ⊤, IfSome, IsPermutation};
+ghost use Rattle.std.specs.Iterator.{YieldsFirstBy, YieldsLastBy, UpTo, item_count};
+ghost use Rattle.std.specs.Iterator.SizeHint.{IsExactHint, IsWithinCount};
 ghost use Rattle.ndarray.specs.Index.{InBox, size, IsRowOrder};
 ghost use Rattle.ndarray.specs.Limits.{IsWithinLimit};
-ghost use Rattle.std.specs.Prelude.{IsPermutation};
 ghost use Rattle.ndarray.specs.Orders.{box_in, IsBoxIn};
 ghost use Rattle.ndarray.specs.order.Steps.{rank_in, axis_in};
 
 use crate::base::dimension::{Dim, Ix1, Lengths};
+pub use crate::base::shape::Order;
 use std::alloc::AllocError;
 use std::iter::ExactSizeIterator;
 use std::marker::Model;
-
-pub use crate::base::shape::Order;
 
 /// The index lists of a box that are still to come, in one of the two orders.
 ///
@@ -123,7 +121,11 @@ impl<D: Lengths> Iterator for Walk<D> {
         Some(index)
     }
 
-    fn size_hint(&self) -> (usize, Option<usize>) {
+    fn size_hint(&self) -> (usize, Option<usize>)
+        ensures lower { IsWithinCount result.0 (item_count (λ rest. rest) self.now) }
+        ensures upper { IfSome result.1 (UpTo (item_count (λ rest. rest) self.now)) }
+        ensures exact { IsExactHint result (length self.now) }
+    {
         let len = Walk::len(self);
         (len, Some(len))
     }

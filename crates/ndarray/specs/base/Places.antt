@@ -1,5 +1,5 @@
 -- Inside `base`: how an array's cells lie among the elements of its storage.
-use Rattle.std.specs.Prelude.{◌≡◌, ℕ, ◌+◌, ◌*◌, ◌%◌, ◌^◌, ◌<◌, List, [], ◌∷◌, length, filter_map, Option, IsTrue}
+use Rattle.std.specs.Prelude.{◌≡◌, ℕ, ◌+◌, ◌*◌, ◌%◌, ◌^◌, List, [], ◌∷◌, length, filter_map, Option, IsTrue}
 use Rattle.std.specs.Option.{is_some}
 use Rattle.ndarray.specs.Index.{InBox, row_order}
 use Rattle.ndarray.specs.Limits.{IsWithinLimit}

@@ -7,7 +7,7 @@ ghost use Rattle.ndarray.specs.Grid.{cell, IsGrid, IsKnownByCells};
 ghost use Rattle.ndarray.specs.Limits.{IsWithinLimit};
 
 use crate::base::axis::Axis;
-use crate::base::dimension::{Dimension, Lengths};
+use crate::base::dimension::{Dimension, Ix1, Lengths};
 use crate::base::into_dimension::IntoDimension;
 use crate::base::layout::Layout;
 use crate::base::storage::{Data, ViewRepr};
@@ -24,6 +24,9 @@ pub struct ArrayBase<S: Data, D: Lengths> {
 
 /// A reading view.
 pub type ArrayView<'a, A, D> = ArrayBase<ViewRepr<'a, A>, D>;
+
+/// A reading view of one axis.
+pub type ArrayView1<'a, A> = ArrayView<'a, A, Ix1>;
 
 impl<S: Data, D: Lengths> Model for ArrayBase<S, D> {
     ghost use Rattle.ndarray.specs.Grid.{Grid};

@@ -162,8 +162,8 @@ pub trait RemoveAxis: Dimension {
         for k in 0..axis.0 {
             smaller.set_axis(k, self.axis(k));
         }
-        for k in axis.0 + 1..ndim {
-            smaller.set_axis(k - 1, self.axis(k));
+        for k in axis.0..ndim - 1 {
+            smaller.set_axis(k, self.axis(k + 1));
         }
         smaller
     }
@@ -342,7 +342,9 @@ impl Lengths for Dim<DynLengths> {
 
 impl Dimension for Dim<[usize; 0]> {
     type Pattern = ();
+
     type Smaller = Ix0;
+
     type Larger = Ix1;
 
     ghost pattern_numbers = { λ _. [] };
@@ -356,7 +358,9 @@ impl Dimension for Dim<[usize; 0]> {
 
 impl Dimension for Dim<[usize; 1]> {
     type Pattern = usize;
+
     type Smaller = Ix0;
+
     type Larger = Ix2;
 
     ghost pattern_numbers = { λ i. i ∷ [] };
@@ -373,7 +377,9 @@ impl Dimension for Dim<[usize; 1]> {
 
 impl Dimension for Dim<[usize; 2]> {
     type Pattern = (usize, usize);
+
     type Smaller = Ix1;
+
     type Larger = Ix3;
 
     ghost pattern_numbers = { λ p. p.0 ∷ p.1 ∷ [] };
@@ -390,7 +396,9 @@ impl Dimension for Dim<[usize; 2]> {
 
 impl Dimension for Dim<[usize; 3]> {
     type Pattern = (usize, usize, usize);
+
     type Smaller = Ix2;
+
     type Larger = Ix4;
 
     ghost pattern_numbers = { λ p. p.0 ∷ p.1 ∷ p.2 ∷ [] };
@@ -407,7 +415,9 @@ impl Dimension for Dim<[usize; 3]> {
 
 impl Dimension for Dim<[usize; 4]> {
     type Pattern = (usize, usize, usize, usize);
+
     type Smaller = Ix3;
+
     type Larger = Ix5;
 
     ghost pattern_numbers = { λ p. p.0 ∷ p.1 ∷ p.2 ∷ p.3 ∷ [] };
@@ -424,7 +434,9 @@ impl Dimension for Dim<[usize; 4]> {
 
 impl Dimension for Dim<[usize; 5]> {
     type Pattern = (usize, usize, usize, usize, usize);
+
     type Smaller = Ix4;
+
     type Larger = Ix6;
 
     ghost pattern_numbers = { λ p. p.0 ∷ p.1 ∷ p.2 ∷ p.3 ∷ p.4 ∷ [] };
@@ -441,7 +453,9 @@ impl Dimension for Dim<[usize; 5]> {
 
 impl Dimension for Dim<[usize; 6]> {
     type Pattern = (usize, usize, usize, usize, usize, usize);
+
     type Smaller = Ix5;
+
     type Larger = IxDyn;
 
     ghost pattern_numbers = { λ p. p.0 ∷ p.1 ∷ p.2 ∷ p.3 ∷ p.4 ∷ p.5 ∷ [] };
@@ -458,7 +472,9 @@ impl Dimension for Dim<[usize; 6]> {
 
 impl Dimension for Dim<DynLengths> {
     type Pattern = IxDyn;
+
     type Smaller = IxDyn;
+
     type Larger = IxDyn;
 
     ghost pattern_numbers = { λ d. d.0.held.items };

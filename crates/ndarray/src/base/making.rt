@@ -24,7 +24,10 @@ impl<'a, A, D: Dimension> ArrayView<'a, A, D> {
     /// let rows = ArrayView::from_shape((2, 3), &[1, 2, 3, 4, 5, 6])?;
     /// let same = ArrayView::from_shape((2, 3).f(), &[1, 4, 2, 5, 3, 6])?;
     /// ```
-    pub fn from_shape<Sh: ShapeBuilder<Dim = D>>(shape: Sh, slice: &'a [A]) -> Result<Self, ShapeError>
+    pub fn from_shape<Sh: ShapeBuilder<Dim = D>>(
+        shape: Sh,
+        slice: &'a [A],
+    ) -> Result<Self, ShapeError>
         ensures accepts { IsOk result ↔ (IsWithinLimit (Sh.shape_lengths shape) × (size (Sh.shape_lengths shape) ≤ length slice.now)) }
         ensures lengths { IfOk result (λ v. v.lengths ≡ Sh.shape_lengths shape) }
         ensures cells { IfOk result (λ v. HasInOrder (Sh.shape_order shape) v (take (size v.lengths) slice.now)) }

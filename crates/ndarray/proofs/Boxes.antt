@@ -1,0 +1,56 @@
+-- The index lists of a box.
+use Rattle.std.proofs.Common.{◌≡◌, ℕ, ◌*◌, ◌<◌, suc, zero, List, [], ◌∷◌, ◌++◌, length, reverse, drop, set, get_or, replicate, inl, inr, refl, ap, arith}
+use Rattle.std.proofs.lemmas.Bool.{cases_lt}
+use Rattle.ndarray.specs.Index.{InBox, size}
+use Rattle.ndarray.proofs.Lists.{reverse-cons}
+
+pub InBox-length : (ns is : List ℕ) → InBox ns is → length is ≡ length ns
+InBox-length [] [] h = refl
+InBox-length [] (i ∷ is) h = absurd h
+InBox-length (n ∷ ns) [] h = absurd h
+InBox-length (n ∷ ns) (i ∷ is) h = ap (λ x. suc x) (InBox-length ns is h.1)
+
+pub InBox-append : (ns ms is js : List ℕ) → InBox ns is → InBox ms js → InBox (ns ++ ms) (is ++ js)
+InBox-append [] ms [] js h g = g
+InBox-append [] ms (i ∷ is) js h g = absurd h
+InBox-append (n ∷ ns) ms [] js h g = absurd h
+InBox-append (n ∷ ns) ms (i ∷ is) js h g = (h.0, InBox-append ns ms is js h.1 g)
+
+pub InBox-reverse : (ns is : List ℕ) → InBox ns is → InBox (reverse ns) (reverse is)
+InBox-reverse [] [] h = tt
+InBox-reverse [] (i ∷ is) h = absurd h
+InBox-reverse (n ∷ ns) [] h = absurd h
+InBox-reverse (n ∷ ns) (i ∷ is) h = rw (reverse-cons n ns, reverse-cons i is) (InBox-append (reverse ns) (n ∷ []) (reverse is) (i ∷ []) (InBox-reverse ns is h.1) (h.0, tt))
+
+pub InBox-get : (ns is : List ℕ) (k : ℕ) → InBox ns is → k < length ns → get_or is k 0 < get_or ns k 0
+InBox-get [] is k h l = absurd (omega arith)
+InBox-get (n ∷ ns) [] k h l = absurd h
+InBox-get (n ∷ ns) (i ∷ is) zero h l = h.0
+InBox-get (n ∷ ns) (i ∷ is) (suc k) h l = InBox-get ns is k h.1 (omega arith)
+
+pub InBox-set : (ns is : List ℕ) (k v : ℕ) → InBox ns is → v < get_or ns k 0 → InBox ns (set is k v)
+InBox-set [] [] k v h l = tt
+InBox-set [] (i ∷ is) k v h l = absurd h
+InBox-set (n ∷ ns) [] k v h l = absurd h
+InBox-set (n ∷ ns) (i ∷ is) zero v h l = (l, h.1)
+InBox-set (n ∷ ns) (i ∷ is) (suc k) v h l = (h.0, InBox-set ns is k v h.1 l)
+
+-- zeros are in the box that is not empty, first of all
+pub InBox-zeros : (ns : List ℕ) → 0 < size ns → InBox ns (replicate (length ns) 0)
+InBox-zeros [] h = tt
+InBox-zeros (zero ∷ ns) h = absurd (omega arith)
+InBox-zeros (suc n ∷ ns) h = (omega arith, InBox-zeros ns (elim (cases_lt 0 (size ns)) [ inl p ↦ p | inr z ↦ absurd (let e : size ns ≡ 0 = omega arith in let e2 : suc n * size ns ≡ suc n * 0 = ap (λ x. suc n * x) e in omega arith) ]))
+
+-- index lists with each index below its length are those of the box
+pub InBox-from_each : (ns is : List ℕ) → length is ≡ length ns → ((k : ℕ) → k < length ns → get_or is k 0 < get_or ns k 0) → InBox ns is
+InBox-from_each [] [] l h = tt
+InBox-from_each [] (i ∷ is) l h = absurd (omega arith)
+InBox-from_each (n ∷ ns) [] l h = absurd (omega arith)
+InBox-from_each (n ∷ ns) (i ∷ is) l h = (h 0 (omega arith), InBox-from_each ns is (omega arith) (λ k lt. h (suc k) (omega arith)))
+
+pub InBox-drop : (k : ℕ) (ns is : List ℕ) → InBox ns is → InBox (drop k ns) (drop k is)
+InBox-drop zero ns is h = h
+InBox-drop (suc k) [] [] h = tt
+InBox-drop (suc k) [] (i ∷ is) h = absurd h
+InBox-drop (suc k) (n ∷ ns) [] h = absurd h
+InBox-drop (suc k) (n ∷ ns) (i ∷ is) h = InBox-drop k ns is h.1

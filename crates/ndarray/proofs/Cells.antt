@@ -1,0 +1,96 @@
+-- The cells of an array, and along a list of index lists.
+use Rattle.std.proofs.Common.{◌≡◌, ℕ, List, [], ◌∷◌, ◌++◌, length, map, get_or, Option, Some, None, refl, sym, ◌∙◌, ap, arith, subst}
+use Rattle.std.specs.Prelude.{filter_map, slice_get, All}
+use Rattle.std.proofs.lemmas.List.Elements.{filter_map-append, All-head, All-tail}
+use Rattle.std.proofs.lemmas.List.{get_or_append_left, length-append}
+use Rattle.ndarray.specs.Index.{InBox, row_order, IsBefore}
+use Rattle.ndarray.specs.Grid.{Grid, grid, beside, cell, IsGrid, HasCells, tabulate, tabulated, IsKnownByCells}
+use Rattle.ndarray.specs.order.Steps.{rank}
+use Rattle.ndarray.proofs.Lists.{same_from_slice_get, length-filter_map_all, slice_get-filter_map_all, slice_get-Some, filter_map-same, map-from_filter_map, get_or-append-last}
+use Rattle.ndarray.proofs.Orders.{length-row_order, row_order-is, row_order-at, row_order-back, rank-lt, box_in-is, box_in-within, IsBefore-not_itself}
+use Rattle.ndarray.specs.Orders.{box_in, cells_in, HasInOrder}
+use Rattle.ndarray.specs.declared.base.shape.Order.{Order}
+use Rattle.ndarray.proofs.Unique.{box_in-unique}
+use Rattle.ndarray.proofs.Beside.{beside-at, beside-none}
+
+module _ {A : Type 0} (g : Grid A) (whole : IsGrid g) where
+  pub cell-within : (is : List ℕ) → InBox g.lengths is → cell g is ≡ slice_get g.cells (rank g.lengths is)
+  unfolding cell
+  cell-within is b =
+      let l = length-row_order g.lengths in
+      let lt = rank-lt g.lengths is b in
+      ap (beside (row_order g.lengths) g.cells) (sym (row_order-at g.lengths is is b))
+      ∙ beside-at IsBefore IsBefore-not_itself (row_order g.lengths) g.cells (rank g.lengths is) is (row_order-is g.lengths).rising (omega arith) (omega arith)
+
+  pub cell-Some : (is : List ℕ) → InBox g.lengths is → (x : A) × (cell g is ≡ Some x)
+  cell-Some is b =
+      let lt = rank-lt g.lengths is b in
+      let s = slice_get-Some g.cells (rank g.lengths is) (omega arith) in
+      (s.0, cell-within is b ∙ s.1)
+
+  pub all-cells : (ys : List (List ℕ)) → All (InBox g.lengths) ys → All (λ is. (x : A) × (cell g is ≡ Some x)) ys
+  all-cells ys h k d lt = cell-Some _ (h k d lt)
+
+  pub length-along : (ys : List (List ℕ)) → All (InBox g.lengths) ys → length (filter_map (cell g) ys) ≡ length ys
+  length-along ys h = length-filter_map_all (cell g) ys (all-cells ys h)
+
+  -- along row order they are the array's list
+  pub along-row_order : filter_map (cell g) (row_order g.lengths) ≡ g.cells
+  along-row_order =
+      let l = length-row_order g.lengths in
+      let within = (row_order-is g.lengths).within in
+      let la = length-along (row_order g.lengths) within in
+      same_from_slice_get (filter_map (cell g) (row_order g.lengths)) g.cells (omega arith)
+      (λ k lt.
+      let b = row_order-back g.lengths k [] (omega arith) in
+      slice_get-filter_map_all (cell g) (row_order g.lengths) k [] (all-cells (row_order g.lengths) within) (omega arith)
+      ∙ (cell-within (get_or (row_order g.lengths) k []) b.0 ∙ ap (slice_get g.cells) b.1))
+
+-- outside the box there is no cell
+pub cell-outside : {A : Type 0} (g : Grid A) (is : List ℕ) → (InBox g.lengths is → ⊥) → cell g is ≡ None
+unfolding cell
+cell-outside g is h = beside-none (row_order g.lengths) g.cells is (λ c. h (subst (InBox g.lengths) c.2 ((row_order-is g.lengths).within c.0 is c.1)))
+
+-- the first, and the last, of what is to come
+pub along-first : {A : Type 0} (g : Grid A) (ys rest : List (List ℕ)) (is : List ℕ) (x : A) → ys ≡ is ∷ rest → cell g is ≡ Some x → filter_map (cell g) ys ≡ x ∷ filter_map (cell g) rest
+along-first g ys rest is x e s = rw (e, s) refl
+
+pub along-last : {A : Type 0} (g : Grid A) (ys rest : List (List ℕ)) (is : List ℕ) (x : A) → ys ≡ rest ++ is ∷ [] → cell g is ≡ Some x → filter_map (cell g) ys ≡ filter_map (cell g) rest ++ x ∷ []
+along-last g ys rest is x e s = rw e (filter_map-append (cell g) rest (is ∷ []) ∙ rw s refl)
+
+-- what is left of a list with the array's cells has them too
+pub HasCells-first : {A : Type 0} (g : Grid A) (ys rest : List (List ℕ)) (is : List ℕ) → ys ≡ is ∷ rest → HasCells g ys → InBox g.lengths is × HasCells g rest
+HasCells-first g ys rest is e h =
+    let w : All (InBox g.lengths) (is ∷ rest) = subst (All (InBox g.lengths)) e h.within in
+    (All-head (InBox g.lengths) is rest w, record { whole = h.whole; within = All-tail (InBox g.lengths) is rest w })
+
+pub HasCells-last : {A : Type 0} (g : Grid A) (ys rest : List (List ℕ)) (is : List ℕ) → ys ≡ rest ++ is ∷ [] → HasCells g ys → InBox g.lengths is × HasCells g rest
+HasCells-last g ys rest is e h =
+    let w : All (InBox g.lengths) (rest ++ is ∷ []) = subst (All (InBox g.lengths)) e h.within in
+    let P : List ℕ → Type 0 = InBox g.lengths in (
+      subst P (get_or-append-last rest is []) (w (length rest) [] (let l = length-append rest (is ∷ []) in omega arith)),
+      record { whole = h.whole; within = λ k d lt. subst P (get_or_append_left rest (is ∷ []) d k lt) (w k d (let l = length-append rest (is ∷ []) in omega arith)) },
+    )
+
+pub HasCells-row_order : {A : Type 0} (g : Grid A) → IsGrid g → HasCells g (row_order g.lengths)
+HasCells-row_order g w = record { whole = w; within = (row_order-is g.lengths).within }
+
+pub tabulate-is : {A : Type 0} (g : Grid A) (ns : List ℕ) (f : List ℕ → Option A) → IsGrid g → g.lengths ≡ ns → ((is : List ℕ) → InBox g.lengths is → cell g is ≡ f is) → g ≡ tabulate ns f
+unfolding tabulated
+tabulate-is g ns f whole e h =
+    ap (grid g.lengths) (sym (along-row_order g whole) ∙ filter_map-same (cell g) f (InBox g.lengths) (row_order g.lengths) h (row_order-is g.lengths).within)
+    ∙ ap (λ ms. grid ms (filter_map f (row_order ms))) e
+
+-- two arrays with the same lengths and cells are equal
+pub same_grid : {A : Type 0} (g h : Grid A) → IsGrid g → IsGrid h → g.lengths ≡ h.lengths → ((is : List ℕ) → InBox g.lengths is → cell g is ≡ cell h is) → g ≡ h
+same_grid g h wg wh e c = tabulate-is g h.lengths (cell h) wg e c ∙ sym (tabulate-is h h.lengths (cell h) wh refl (λ is b. refl))
+
+pub known-by_cells : {A : Type 0} (g : Grid A) → IsGrid g → IsKnownByCells g
+known-by_cells g whole h wh e c = same_grid h g wh whole e (λ is b. c is (subst (λ ns. InBox ns is) e b))
+
+-- the cells along an order of the box, from those along the list that is it
+pub HasInOrder-from : {A : Type 0} (o : Order) (g : Grid A) (xs : List A) → map (cell g) (box_in o g.lengths) ≡ map Some xs → HasInOrder o g xs
+HasInOrder-from o g xs e is order = ap (map (cell g)) (box_in-unique o g.lengths is (box_in o g.lengths) order (box_in-is o g.lengths)) ∙ e
+
+pub cells_in-HasInOrder : {A : Type 0} (o : Order) (g : Grid A) → IsGrid g → HasInOrder o g (cells_in o g)
+cells_in-HasInOrder o g whole = HasInOrder-from o g (cells_in o g) (map-from_filter_map (cell g) (box_in o g.lengths) (all-cells g whole (box_in o g.lengths) (box_in-within o g.lengths)))

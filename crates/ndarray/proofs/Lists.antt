@@ -1,0 +1,81 @@
+-- Lists: what stands at each place.
+use Rattle.std.proofs.Common.{◌≡◌, ℕ, ◌<◌, suc, zero, List, [], ◌∷◌, ◌++◌, length, map, reverse, take, get_or, Option, Some, None, refl, sym, ◌∙◌, ap, arith, subst}
+use Rattle.std.specs.Prelude.{filter_map, slice_get, All, IsTrue}
+use Rattle.std.specs.Option.{is_some}
+use Rattle.std.specs.List.{cons_option}
+use Rattle.std.proofs.lemmas.List.{reverse-append, get_or_at}
+use Rattle.std.proofs.lemmas.List.Elements.{All-head, All-tail}
+
+pub reverse-cons : {X : Type 0} (x : X) (xs : List X) → reverse (x ∷ xs) ≡ reverse xs ++ x ∷ []
+reverse-cons x xs = reverse-append (x ∷ []) xs
+
+pub same_from_slice_get : {A : Type 0} (xs ys : List A) → length xs ≡ length ys → ((k : ℕ) → k < length xs → slice_get xs k ≡ slice_get ys k) → xs ≡ ys
+same_from_slice_get [] [] l h = refl
+same_from_slice_get [] (y ∷ ys) l h = absurd (omega arith)
+same_from_slice_get (x ∷ xs) [] l h = absurd (omega arith)
+same_from_slice_get (x ∷ xs) (y ∷ ys) l h =
+    let here : Some x ≡ Some y = h 0 (omega arith) in
+    let rest : xs ≡ ys = same_from_slice_get xs ys (omega arith) (λ k lt. h (suc k) (omega arith)) in
+    cc
+
+module _ {X Y : Type 0} (f : X → Option Y) where
+  pub length-filter_map_all : (xs : List X) → All (λ x. (y : Y) × (f x ≡ Some y)) xs → length (filter_map f xs) ≡ length xs
+  length-filter_map_all [] h = refl
+  length-filter_map_all (x ∷ xs) h =
+      let here = h 0 x (omega arith) in
+      rw here.1 (ap (λ n. suc n) (length-filter_map_all xs (λ k d lt. h (suc k) d (omega arith))))
+
+  pub slice_get-filter_map_all : (xs : List X) (k : ℕ) (d : X) → All (λ x. (y : Y) × (f x ≡ Some y)) xs → k < length xs → slice_get (filter_map f xs) k ≡ f (get_or xs k d)
+  slice_get-filter_map_all [] k d h lt = absurd (omega arith)
+  slice_get-filter_map_all (x ∷ xs) zero d h lt =
+      let here = h 0 x (omega arith) in
+      rw here.1 refl
+  slice_get-filter_map_all (x ∷ xs) (suc k) d h lt =
+      let here = h 0 x (omega arith) in
+      rw here.1 (slice_get-filter_map_all xs k d (λ j e l. h (suc j) e (omega arith)) (omega arith))
+
+pub slice_get-Some : {X : Type 0} (xs : List X) (k : ℕ) → k < length xs → (x : X) × (slice_get xs k ≡ Some x)
+slice_get-Some [] k h = absurd (omega arith)
+slice_get-Some (x ∷ xs) zero h = (x, refl)
+slice_get-Some (x ∷ xs) (suc k) h = slice_get-Some xs k (omega arith)
+
+pub some-of : {X : Type 0} (o : Option X) → IsTrue (is_some o) → (x : X) × (o ≡ Some x)
+some-of None h = cc
+some-of (Some x) h = (x, refl)
+
+pub filled-slice : {X : Type 0} (xs : List X) (k : ℕ) → k < length xs → IsTrue (is_some (slice_get xs k))
+filled-slice xs k h = subst (λ o. IsTrue (is_some o)) (sym (slice_get-Some xs k h).1) refl
+
+pub slice_get-take : {X : Type 0} (n : ℕ) (xs : List X) (k : ℕ) → k < n → slice_get (take n xs) k ≡ slice_get xs k
+slice_get-take zero xs k h = absurd (omega arith)
+slice_get-take (suc n) [] k h = refl
+slice_get-take (suc n) (x ∷ xs) zero h = refl
+slice_get-take (suc n) (x ∷ xs) (suc k) h = slice_get-take n xs k (omega arith)
+
+pub filter_map-same : {X Y : Type 0} (f h : X → Option Y) (P : X → Type 0) (xs : List X) → ((x : X) → P x → f x ≡ h x) → All P xs → filter_map f xs ≡ filter_map h xs
+filter_map-same f h P [] e a = refl
+filter_map-same f h P (x ∷ xs) e a =
+    let here : f x ≡ h x = e x (All-head P x xs a) in
+    let rest : filter_map f xs ≡ filter_map h xs = filter_map-same f h P xs e (All-tail P x xs a) in
+    ap (λ o. cons_option o (filter_map f xs)) here ∙ ap (cons_option (h x)) rest
+
+pub filter_map-from_map : {X Y : Type 0} (f : X → Option Y) (xs : List X) (ys : List Y) → map f xs ≡ map Some ys → filter_map f xs ≡ ys
+filter_map-from_map f [] [] e = refl
+filter_map-from_map f [] (y ∷ ys) e = cc
+filter_map-from_map f (x ∷ xs) [] e = cc
+filter_map-from_map f (x ∷ xs) (y ∷ ys) e =
+    let here : f x ≡ Some y = cc in
+    let rest : map f xs ≡ map Some ys = cc in
+    rw here (ap (λ zs. y ∷ zs) (filter_map-from_map f xs ys rest))
+
+-- and the other way
+pub map-from_filter_map : {X Y : Type 0} (f : X → Option Y) (xs : List X) → All (λ x. (y : Y) × (f x ≡ Some y)) xs → map f xs ≡ map Some (filter_map f xs)
+map-from_filter_map f [] h = refl
+map-from_filter_map f (x ∷ xs) h =
+    let here = h 0 x (omega arith) in
+    let rest = map-from_filter_map f xs (λ k d lt. h (suc k) d (omega arith)) in
+    rw here.1 (ap (λ ys. Some here.0 ∷ ys) rest)
+
+-- the first, and the last, of what is to come
+pub get_or-append-last : {X : Type 0} (xs : List X) (x d : X) → get_or (xs ++ x ∷ []) (length xs) d ≡ x
+get_or-append-last xs x d = get_or_at xs x [] d (length xs) refl

@@ -1,0 +1,34 @@
+-- Lists in which each element stands in a relation to all later ones.
+use Rattle.std.proofs.Common.{◌≡◌, ℕ, ◌<◌, suc, zero, List, ◌∷◌, ◌⊎◌, length, get_or, arith, subst, inl, inr, refl}
+use Rattle.std.specs.Prelude.{AllPairs, Contains}
+use Rattle.std.proofs.lemmas.Bool.{cases_lt}
+
+module _ {X : Type 0} where
+  pub Contains-cases : (x : X) (xs : List X) (z : X) → Contains (x ∷ xs) z → (x ≡ z) ⊎ Contains xs z
+  Contains-cases x xs z (zero, lt, e) = inl e
+  Contains-cases x xs z (suc k, lt, e) = inr (k, omega arith, e)
+
+  pub Contains-first : (x : X) (xs : List X) → Contains (x ∷ xs) x
+  Contains-first x xs = (0, omega arith, refl)
+
+  pub Contains-later : (x : X) (xs : List X) (z : X) → Contains xs z → Contains (x ∷ xs) z
+  Contains-later x xs z (k, lt, e) = (suc k, omega arith, e)
+
+  module _ (R : X → X → Type 0) where
+    pub AllPairs-head : (x : X) (xs : List X) (z : X) → AllPairs R (x ∷ xs) → Contains xs z → R x z
+    AllPairs-head x xs z up (k, lt, e) = let h : R x (get_or xs k z) = up 0 (suc k) z (omega arith) (omega arith) in subst (R x) e h
+
+    pub AllPairs-tail : (x : X) (xs : List X) → AllPairs R (x ∷ xs) → AllPairs R xs
+    AllPairs-tail x xs up i j d lt h = up (suc i) (suc j) d (omega arith) (omega arith)
+
+    -- no element stands at two places
+    pub AllPairs-once : ((x : X) → R x x → ⊥) → (xs : List X) (i j : ℕ) (z : X) → AllPairs R xs → i < length xs → j < length xs → get_or xs i z ≡ z → get_or xs j z ≡ z → i ≡ j
+    AllPairs-once none xs i j z up hi hj ei ej =
+        let twice = λ (a : ℕ) (b : ℕ) (lt : a < b) (hb : b < length xs) (ea : get_or xs a z ≡ z) (eb : get_or xs b z ≡ z). none z (subst (λ w. R w z) ea (subst (R (get_or xs a z)) eb (up a b z lt hb))) in
+        elim (cases_lt i j) [
+          | inl lt ↦ absurd (twice i j lt hj ei ej)
+          | inr ge ↦ elim (cases_lt j i) [
+            | inl lt ↦ absurd (twice j i lt hi ej ei)
+            | inr le ↦ omega arith
+          ]
+        ]

@@ -1,0 +1,10 @@
+use Rattle.std.proofs.Common.{◌≡◌, ◌+◌}
+use Rattle.ndarray.specs.Index.{InBox}
+use Rattle.ndarray.specs.order.Steps.{rank_in, block_in}
+use Rattle.ndarray.proofs.order.advance.Given as goal
+
+abbrev pub invariant-loop-p : goal.invariant-loop-p
+invariant-loop-p g l = record {
+  within : InBox (g.D.Lengths.numbers l.dim) (g.D.Lengths.numbers l.index);
+  done : rank_in l.order (g.D.Lengths.numbers l.dim) (g.D.Lengths.numbers l.index) + block_in l.order (g.D.Lengths.numbers l.dim) l.p ≡ rank_in l.order (g.D.Lengths.numbers l.dim) (g.D.Lengths.numbers l.initial.index) + 1;
+}
