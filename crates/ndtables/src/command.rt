@@ -1,0 +1,48 @@
+//! The commands: each reads its arguments and answers the text that it prints.
+
+use crate::fault::Fault;
+use crate::words::Words;
+use ndarray::base::array::ArrayView;
+use ndarray::base::dimension::Lengths;
+use std::alloc::Global;
+
+/// A command, by its name.
+#[derive(Clone, Copy, PartialEq, Eq, Debug)]
+pub enum Command {
+    /// `sum TABLE` prints the sum of all cells.
+    Sum,
+}
+
+impl Command {
+    /// The command of a name.
+    pub fn named(name: &str) -> Option<Command> {
+        match name {
+            "sum" => Some(Command::Sum),
+            _ => None,
+        }
+    }
+
+    /// Reads the command's arguments, which are all of the words, and answers what it prints.
+    pub fn answer(self, alloc: Global, words: Words<'_>) -> Result<String, Fault> {
+        match self {
+            Command::Sum => sum(alloc, words),
+        }
+    }
+}
+
+/// `sum TABLE`.
+fn sum(alloc: Global, mut words: Words<'_>) -> Result<String, Fault> {
+    let table = words.table(alloc)?;
+    words.end()?;
+    let total = total(&table.view()).ok_or(Fault::Range)?;
+    Ok(format!(in alloc; "{total}\n")?)
+}
+
+/// The sum of all cells, or `None` where some selection of them has a sum that does not fit `i64`.
+fn total<D: Lengths>(cells: &ArrayView<'_, i64, D>) -> Option<i64> {
+    if cells.sums_fit() {
+        Some(cells.sum())
+    } else {
+        None
+    }
+}
