@@ -2,8 +2,7 @@
 
 use crate::fault::Fault;
 use crate::words::Words;
-use ndarray::base::array::ArrayView;
-use ndarray::base::dimension::Lengths;
+use ndarray::{ArrayView, Lengths};
 use std::alloc::Global;
 
 /// A command, by its name.

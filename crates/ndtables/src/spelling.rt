@@ -2,8 +2,8 @@
 
 use crate::fault::Fault;
 use arrayvec::ArrayVec;
-use ndarray::base::dimension::{IxDyn, Lengths};
 use ndarray::order::Order;
+use ndarray::{IxDyn, Lengths};
 
 /// A length: one or more ASCII digits that fit `usize`.
 pub fn length(word: &str) -> Option<usize> {

@@ -3,7 +3,7 @@
 use crate::fault::Fault;
 use crate::spelling;
 use crate::table::Table;
-use ndarray::base::dimension::{IxDyn, Lengths};
+use ndarray::{IxDyn, Lengths};
 use std::alloc::Global;
 
 /// The words that are still to be read.
