@@ -1,1 +1,2 @@
 pub mod StoredCells
+pub mod WordsRead

@@ -1,5 +1,10 @@
 //! The commands: each reads its arguments and answers the text that it prints.
 
+ghost use Rattle.std.specs.Prelude.{◌≡◌, ◌↔◌, IsSome, IfSome, FitsSigned};
+ghost use Rattle.std.specs.Int.{w64};
+ghost use Rattle.ndarray.specs.Sums.{IsSummable, total};
+ghost use Rattle.ndarray.specs.Whole.{int_sums};
+
 use crate::fault::Fault;
 use crate::words::Words;
 use ndarray::{ArrayView, Lengths};
@@ -33,14 +38,17 @@ impl Command {
 fn sum(alloc: Global, mut words: Words<'_>) -> Result<String, Fault> {
     let table = words.table(alloc)?;
     words.end()?;
-    let total = total(&table.view()).ok_or(Fault::Range)?;
+    let total = sum_in_range(&table.view()).ok_or(Fault::Range)?;
     Ok(format!(in alloc; "{total}\n")?)
 }
 
 /// The sum of all cells, or `None` where some selection of them has a sum that does not fit `i64`.
-fn total<D: Lengths>(cells: &ArrayView<'_, i64, D>) -> Option<i64> {
-    if cells.sums_fit() {
-        Some(cells.sum())
+fn sum_in_range<D: Lengths>(table: &ArrayView<'_, i64, D>) -> Option<i64>
+    ensures fits { IsSome result ↔ IsSummable int_sums (FitsSigned w64) table.now.cells }
+    ensures value { IfSome result (λ sum. sum ≡ total int_sums table.now.cells) }
+{
+    if table.sums_fit() {
+        Some(table.sum())
     } else {
         None
     }
