@@ -35,7 +35,7 @@ module _ {A : Type 0} where
       let here : get_or jss k [] ≡ is = box_in-at o ns is [] in_box in
       let read : slice_get jss k ≡ Some is = slice_get-get_or jss k [] lt ∙ ap Some here in
       let both : Some (cell g is) ≡ option_map Some (slice_get xs k) =
-          sym (slice_get-map (cell g) jss k ∙ ap (option_map (cell g)) read) ∙ (ap (λ z. slice_get z k) h ∙ slice_get-map Some xs k) in
+      sym (slice_get-map (cell g) jss k ∙ ap (option_map (cell g)) read) ∙ (ap (λ z. slice_get z k) h ∙ slice_get-map Some xs k) in
       Some-inner (cell g is) (slice_get xs k) both
       ∙ (sym (beside-box o ns xs k same lt) ∙ ap (beside jss xs) here)
 

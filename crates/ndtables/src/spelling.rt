@@ -4,7 +4,7 @@ ghost use Rattle.std.specs.Prelude.{◌≡◌, ◌<◌, ◌^◌, SomeIff, IfOk, 
 ghost use Rattle.std.specs.Int.{w64};
 ghost use Rattle.std.specs.Str.Parse.{digits_value, ParsesSigned};
 ghost use Rattle.ndarray.specs.Limits.{IsWithinLimit};
-ghost use Rattle.ndtables.specs.Spelling.{IsDigits, SpellsShape};
+ghost use Rattle.ndtables.specs.Spelling.{IsDigits, SpellsLengths, SpellsShape};
 
 use crate::fault::Fault;
 use arrayvec::ArrayVec;
@@ -37,20 +37,34 @@ pub fn shape(word: &str) -> Result<(IxDyn, Order), Fault>
     ensures limit { IfOk result (λ shape. IsWithinLimit (⟦<IxDyn as Lengths>⟧.numbers shape.0)) }
     ensures err { IfErr result (λ fault. fault ≡ Fault.Shape) }
 {
-    let (lengths, order) = match word.strip_suffix('f') {
-        Some(lengths) => (lengths, Order::ColumnMajor),
+    let (spelled, order) = match word.strip_suffix('f') {
+        Some(spelled) => (spelled, Order::ColumnMajor),
         None => (word, Order::RowMajor),
     };
-    let mut axes: ArrayVec<usize, 32> = ArrayVec::new();
-    if lengths != "." {
-        for spelled in lengths.split('x') {
-            let len = length(spelled).ok_or(Fault::Shape)?;
-            axes.try_push(len).map_err(|_| Fault::Shape)?;
-        }
-    }
-    let dim = IxDyn(axes.as_slice());
+    let dim = lengths(spelled)?;
     if !dim.size_ok() {
         return Err(Fault::Shape);
     }
     Ok((dim, order))
+}
+
+/// `.` for no lengths, or lengths joined by `x`, of which there are at most 32.
+fn lengths(word: &str) -> Result<IxDyn, Fault>
+    ensures spelled { IfOk result (λ dim. SpellsLengths word.now (⟦<IxDyn as Lengths>⟧.numbers dim)) }
+    ensures err { IfErr result (λ fault. fault ≡ Fault.Shape) }
+{
+    if word == "." {
+        return Ok(IxDyn(&[]));
+    }
+    let mut axes: ArrayVec<usize, 32> = ArrayVec::new();
+    for piece in word.split('x') {
+        let Some(len) = length(piece) else {
+            return Err(Fault::Shape);
+        };
+        if axes.is_full() {
+            return Err(Fault::Shape);
+        }
+        axes.push(len);
+    }
+    Ok(IxDyn(axes.as_slice()))
 }

@@ -13,7 +13,7 @@ pub loop-index-init : goal.loop-index-init
 loop-index-init g c =
     let a = c.args.array.now in
     let all : c.into_iter-index-iterator.result ≡ column_order a.lengths =
-        c.into_iter-index-iterator.ensures.into_iter_gives ∙ (c.new-index-items.ensures.list ∙ ap column_order c.raw_dim.ensures.lengths) in
+    c.into_iter-index-iterator.ensures.into_iter_gives ∙ (c.new-index-items.ensures.list ∙ ap column_order c.raw_dim.ensures.lengths) in
     record {
       within = record { whole = c.raw_dim.ensures.whole; within = subst (λ z. All (InBox a.lengths) z) (sym all) (box_in-within ColumnMajor a.lengths) };
       same = ap (λ z. z ++ filter_map (cell a) c.into_iter-index-iterator.result) (c.in_ok-cells.ensures.items) ∙ ap (filter_map (cell a)) all;

@@ -33,9 +33,9 @@ returns-in_ok-cells-in-ColumnMajor g c =
     let whole : IsGrid rows = rw c.unwrap-rows.ensures at c.from_shape.ensures.whole in
     let told : HasInOrder RowMajor rows (take (size rows.lengths) c.as_slice.result.now) = rw c.unwrap-rows.ensures at c.from_shape.ensures.cells in
     let all : take (size rows.lengths) c.as_slice.result.now ≡ xs =
-        ap (take (size rows.lengths)) c.as_slice.ensures.value ∙ take_all (size rows.lengths) xs (let e = ap size lengths in let f = c.requires.as_many in omega arith) in
+    ap (take (size rows.lengths)) c.as_slice.ensures.value ∙ take_all (size rows.lengths) xs (let e = ap size lengths in let f = c.requires.as_many in omega arith) in
     let listed : map (cell rows) (row_order rows.lengths) ≡ map Some xs =
-        told (row_order rows.lengths) (box_in-is RowMajor rows.lengths) ∙ ap (map Some) all in
+    told (row_order rows.lengths) (box_in-is RowMajor rows.lengths) ∙ ap (map Some) all in
     ap (λ o. stored o ns c.in_ok-cells-in-ColumnMajor.cells.items) c.in-ColumnMajor.is
     ∙ (ap (stored ColumnMajor ns) c.in_ok-cells-in-ColumnMajor.ensures
     ∙ (sym (stored-is ColumnMajor rows ns (cells_in ColumnMajor rows) whole lengths (cells_in-list ColumnMajor rows whole))

@@ -23,9 +23,9 @@ returns-clause-same g c =
     let whole : IsGrid v = rw c.unwrap.ensures at c.from_shape.ensures.whole in
     let told : HasInOrder s.order v (take (size v.lengths) c.as_slice.result.now) = rw c.unwrap.ensures at c.from_shape.ensures.cells in
     let all : take (size v.lengths) c.as_slice.result.now ≡ t.cells.items =
-        ap (take (size v.lengths)) c.as_slice.ensures.value
-        ∙ take_all (size v.lengths) t.cells.items (let e = ap size (lengths ∙ shaped.0) in let f = c.self.invariant.as_many in omega arith) in
+    ap (take (size v.lengths)) c.as_slice.ensures.value
+    ∙ take_all (size v.lengths) t.cells.items (let e = ap size (lengths ∙ shaped.0) in let f = c.self.invariant.as_many in omega arith) in
     let listed : map (cell v) (box_in s.order v.lengths) ≡ map Some t.cells.items =
-        told (box_in s.order v.lengths) (box_in-is s.order v.lengths) ∙ ap (map Some) all in
+    told (box_in s.order v.lengths) (box_in-is s.order v.lengths) ∙ ap (map Some) all in
     stored-is s.order v (numbers t.dim) t.cells.items whole (lengths ∙ shaped.0) listed
     ∙ (ap (λ o. stored o (numbers t.dim) t.cells.items) shaped.1 ∙ c.self.view_is)
