@@ -1,8 +1,7 @@
 -- What the pieces of a word are, once all of them were seen.
-use Rattle.std.proofs.Common.{◌≡◌, ℕ, ◌<◌, List, true, None, length, map, refl, ap, ◌∙◌, Bor}
-use Rattle.std.specs.Prelude.{slice_get, Option, slice_index_or, All}
+use Rattle.std.proofs.Common.{ℕ, List, true, None, length, refl, ap}
+use Rattle.std.specs.Prelude.{slice_get, Option}
 use Rattle.std.specs.Option.{option_map}
-use Rattle.std.specs.List.{join_with_byte}
 use Rattle.std.specs.Iterator.{Yields}
 use Rattle.std.specs.Iterator.Runs.{Run, Trigger, YieldsRun}
 use Rattle.std.proofs.lemmas.Option.{slice_get-get_or}

@@ -1,8 +1,8 @@
 -- What a table is, by how it keeps its cells.
-use Rattle.std.proofs.Common.{◌≡◌, ℕ, ◌<◌, List, [], ◌∷◌, Some, None, length, get_or, take, map, reverse, refl, sym, ◌∙◌, ap, arith, subst}
-use Rattle.std.specs.Prelude.{AllPairs, slice_get, Option}
+use Rattle.std.proofs.Common.{◌≡◌, ℕ, ◌<◌, List, [], Some, None, length, get_or, map, reverse, refl, sym, ◌∙◌, ap, arith, subst}
+use Rattle.std.specs.Prelude.{slice_get, Option}
 use Rattle.std.specs.Option.{option_map}
-use Rattle.std.proofs.lemmas.List.{length-map, take_all}
+use Rattle.std.proofs.lemmas.List.{length-map}
 use Rattle.ndarray.specs.Grid.{Grid, IsGrid, cell, beside, grid}
 use Rattle.ndarray.specs.Index.{InBox, IsBefore, IsBeforeFromLast, size, row_order}
 use Rattle.ndarray.specs.Orders.{box_in, cells_in}

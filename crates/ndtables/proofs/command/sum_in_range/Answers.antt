@@ -1,4 +1,4 @@
-use Rattle.std.proofs.Common.{◌≡◌, sym, ◌∙◌, subst, w64}
+use Rattle.std.proofs.Common.{sym, ◌∙◌, subst, w64}
 use Rattle.std.specs.Prelude.{FitsSigned}
 use Rattle.std.proofs.lemmas.List.{map-id}
 use Rattle.ndarray.specs.Sums.{IsSummable}

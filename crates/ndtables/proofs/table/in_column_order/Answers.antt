@@ -1,8 +1,8 @@
-use Rattle.std.proofs.Common.{rules, ◌≡◌, ◌++◌, ◌∷◌, [], List, ℕ, sym, ap, ◌∙◌, subst, append_assoc, Some}
+use Rattle.std.proofs.Common.{rules, ◌≡◌, ◌++◌, ◌∷◌, [], sym, ap, ◌∙◌, subst, append_assoc, Some}
 use Rattle.std.proofs.lemmas.List.{append-nil}
 use Rattle.std.specs.Prelude.{All, filter_map}
 use Rattle.std.specs.Option.{option_copied}
-use Rattle.ndarray.specs.Grid.{cell, HasCells}
+use Rattle.ndarray.specs.Grid.{cell}
 use Rattle.ndarray.specs.Index.{InBox, column_order}
 use Rattle.ndarray.specs.declared.base.shape.Order.TheVariants.{ColumnMajor}
 use Rattle.ndarray.proofs.Cells.{along-first, HasCells-first}

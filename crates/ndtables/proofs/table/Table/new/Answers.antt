@@ -1,6 +1,6 @@
-use Rattle.std.proofs.Common.{◌≡◌, length, sym, ap, ◌∙◌, subst, map, take, Some, List, ℤ, arith}
+use Rattle.std.proofs.Common.{◌≡◌, length, sym, ap, ◌∙◌, map, take, Some, arith}
 use Rattle.std.proofs.lemmas.List.{take_all}
-use Rattle.ndarray.specs.Grid.{grid, IsGrid, cell}
+use Rattle.ndarray.specs.Grid.{IsGrid, cell}
 use Rattle.ndarray.specs.Index.{size, row_order}
 use Rattle.ndarray.specs.Orders.{cells_in, HasInOrder}
 use Rattle.ndarray.specs.declared.base.shape.Order.TheVariants.{RowMajor, ColumnMajor}
