@@ -1,7 +1,10 @@
 -- What is read off the words of a command line.
-use Rattle.std.specs.Prelude.{◌≡◌, ℕ, ℤ, List, ◌∷◌, ◌++◌, map, All}
+use Rattle.std.specs.Prelude.{◌≡◌, ℕ, ℤ, List, [], ◌∷◌, ◌++◌, map, All}
+use Rattle.std.specs.Fmt.{signed_decimal}
 use Rattle.std.specs.Str.Parse.{signed_digits_value}
 use Rattle.ndarray.specs.Grid.{Grid}
+use Rattle.ndarray.specs.Sums.{total}
+use Rattle.ndarray.specs.Whole.{int_sums}
 use Rattle.ndarray.specs.declared.base.shape.Order.{Order}
 use Rattle.ndtables.specs.Spelling.{IsSignedDigits, SpellsShape}
 
@@ -20,3 +23,9 @@ pub record ReadsTable (old new : List (List ℕ)) (table : Grid ℤ) : Type 0 wh
   pub words : old ≡ word ∷ rest
   pub shape : SpellsShape word table.lengths order
   pub cells : ReadsNumbers rest new table.cells
+
+-- all of the words were read as a table, and the text is the sum of its cells, as a line
+pub record PrintsSum (words : List (List ℕ)) (text : List ℕ) : Type 0 where
+  pub table : Grid ℤ
+  pub read : ReadsTable words [] table
+  pub line : text ≡ signed_decimal (total int_sums table.cells) ++ 10 ∷ []

@@ -1,9 +1,10 @@
 //! The commands: each reads its arguments and answers the text that it prints.
 
-ghost use Rattle.std.specs.Prelude.{◌≡◌, ◌↔◌, IsSome, IfSome, FitsSigned};
+ghost use Rattle.std.specs.Prelude.{◌≡◌, ◌↔◌, IsSome, IfSome, IfOk, FitsSigned, string_bytes};
 ghost use Rattle.std.specs.Int.{w64};
 ghost use Rattle.ndarray.specs.Sums.{IsSummable, total};
 ghost use Rattle.ndarray.specs.Whole.{int_sums};
+ghost use Rattle.ndtables.specs.Reading.{PrintsSum};
 
 use crate::fault::Fault;
 use crate::words::Words;
@@ -35,7 +36,9 @@ impl Command {
 }
 
 /// `sum TABLE`.
-fn sum(alloc: Global, mut words: Words<'_>) -> Result<String, Fault> {
+fn sum(alloc: Global, mut words: Words<'_>) -> Result<String, Fault>
+    ensures { IfOk result (λ text. PrintsSum words.entry (string_bytes text)) }
+{
     let table = words.table(alloc)?;
     words.end()?;
     let total = sum_in_range(&table.view()).ok_or(Fault::Range)?;
