@@ -19,8 +19,12 @@ pub enum Command {
 }
 
 impl Command {
+    ghost use Rattle.ndtables.specs.Answering.{name_of, Prints};
+
     /// The command of a name.
-    pub fn named(name: &str) -> Option<Command> {
+    pub fn named(name: &str) -> Option<Command>
+        ensures { IfSome result (λ command. name.now ≡ name_of command) }
+    {
         match name {
             "sum" => Some(Command::Sum),
             _ => None,
@@ -28,7 +32,9 @@ impl Command {
     }
 
     /// Reads the command's arguments, which are all of the words, and answers what it prints.
-    pub fn answer(self, alloc: Global, words: Words<'_>) -> Result<String, Fault> {
+    pub fn answer(self, alloc: Global, words: Words<'_>) -> Result<String, Fault>
+        ensures { IfOk result (λ text. Prints self words.entry (string_bytes text)) }
+    {
         match self {
             Command::Sum => sum(alloc, words),
         }
