@@ -1,6 +1,7 @@
 //! Refusals of shapes.
 
 ghost use Rattle.std.specs.Prelude.{◌≡◌};
+ghost use Rattle.ndarray.specs.Errors.{refusal};
 
 use std::fmt;
 
@@ -30,14 +31,14 @@ pub struct ShapeError {
 impl ShapeError {
     /// The refusal of a kind.
     pub fn from_kind(kind: ErrorKind) -> Self
-        ensures { result.kind ≡ kind }
+        ensures { result ≡ refusal kind }
     {
         ShapeError { kind }
     }
 
     /// What the shape offends against.
     pub fn kind(&self) -> ErrorKind
-        ensures { result ≡ self.now.kind }
+        ensures { self.now ≡ refusal result }
     {
         self.kind
     }
