@@ -1,7 +1,7 @@
 //! Refusals of shapes.
 
-ghost use Rattle.std.specs.Prelude.{◌≡◌};
-ghost use Rattle.ndarray.specs.Errors.{refusal};
+ghost use Rattle.std.specs.Prelude.{◌≡◌, Some};
+ghost use Rattle.ndarray.specs.Errors.{refusal, refusal_text};
 
 use std::fmt;
 
@@ -45,6 +45,8 @@ impl ShapeError {
 }
 
 impl fmt::Display for ShapeError {
+    ghost output = { λ e. Some (refusal_text e) };
+
     fn fmt<W: fmt::Write>(&self, f: &mut fmt::Formatter<W>) -> fmt::Result {
         let description = match self.kind {
             ErrorKind::IncompatibleShape => "incompatible shapes",
