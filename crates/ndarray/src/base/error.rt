@@ -1,6 +1,7 @@
 //! Refusals of shapes.
 
-ghost use Rattle.std.specs.Prelude.{◌≡◌};
+ghost use Rattle.std.specs.Prelude.{◌≡◌, Some};
+ghost use Rattle.ndarray.specs.Errors.{refusal, refusal_text};
 
 use std::fmt;
 
@@ -30,20 +31,22 @@ pub struct ShapeError {
 impl ShapeError {
     /// The refusal of a kind.
     pub fn from_kind(kind: ErrorKind) -> Self
-        ensures { result.kind ≡ kind }
+        ensures { result ≡ refusal kind }
     {
         ShapeError { kind }
     }
 
     /// What the shape offends against.
     pub fn kind(&self) -> ErrorKind
-        ensures { result ≡ self.now.kind }
+        ensures { self.now ≡ refusal result }
     {
         self.kind
     }
 }
 
 impl fmt::Display for ShapeError {
+    ghost output = { λ e. Some (refusal_text e) };
+
     fn fmt<W: fmt::Write>(&self, f: &mut fmt::Formatter<W>) -> fmt::Result {
         let description = match self.kind {
             ErrorKind::IncompatibleShape => "incompatible shapes",
