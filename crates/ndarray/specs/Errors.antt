@@ -10,12 +10,12 @@ refusal k = record { kind = k }
 
 -- what is written of a kind
 abbrev pub kind_text : ErrorKind → List ℕ
-kind_text IncompatibleShape = codes "incompatible shapes"
-kind_text IncompatibleLayout = codes "incompatible memory layout"
-kind_text RangeLimited = codes "the shape does not fit in type limits"
-kind_text OutOfBounds = codes "out of bounds indexing"
-kind_text Unsupported = codes "unsupported operation"
-kind_text Overflow = codes "arithmetic overflow"
+kind_text IncompatibleShape = codes "ShapeError/IncompatibleShape: incompatible shapes"
+kind_text IncompatibleLayout = codes "ShapeError/IncompatibleLayout: incompatible memory layout"
+kind_text RangeLimited = codes "ShapeError/RangeLimited: the shape does not fit in type limits"
+kind_text OutOfBounds = codes "ShapeError/OutOfBounds: out of bounds indexing"
+kind_text Unsupported = codes "ShapeError/Unsupported: unsupported operation"
+kind_text Overflow = codes "ShapeError/Overflow: arithmetic overflow"
 
 -- what is written of a refusal
 abbrev pub refusal_text : ShapeError → List ℕ

@@ -1,4 +1,5 @@
 pub mod Broadcast
+pub mod Dimensions
 pub mod Errors
 pub mod Grid
 pub mod Index
