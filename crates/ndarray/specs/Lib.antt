@@ -3,6 +3,8 @@ pub mod Grid
 pub mod Index
 pub mod Limits
 pub mod Orders
+pub mod Slices
+pub mod Subviews
 pub mod Views
 pub mod base
 pub mod order

@@ -2,3 +2,4 @@
 pub mod Places
 pub mod Storage
 pub mod Strides
+pub mod Tiles

@@ -1,6 +1,6 @@
 //! The two orders of a box, and the walk over its index lists.
 
-ghost use Rattle.std.specs.Prelude.{◌≡◌, List, ℕ, ◌+◌, ◌<◌, length, ⊤, IfSome, IsPermutation};
+ghost use Rattle.std.specs.Prelude.{◌≡◌, List, ℕ, ◌+◌, ◌<◌, ◌≤◌, length, take, drop, ⊤, IfSome, IsPermutation};
 ghost use Rattle.std.specs.Iterator.{YieldsFirstBy, YieldsLastBy, UpTo, item_count};
 ghost use Rattle.std.specs.Iterator.SizeHint.{IsExactHint, IsWithinCount};
 ghost use Rattle.ndarray.specs.Index.{InBox, size, IsRowOrder};
@@ -99,6 +99,35 @@ impl<D: Lengths> Walk<D> {
         ensures { result ≡ length self.now }
     {
         self.left
+    }
+}
+
+impl Walk<Ix1> {
+    /// The first `index` index lists still to come, and the rest.
+    pub(crate) fn split_at(self, index: usize) -> (Self, Self)
+        requires { index ≤ length self }
+        ensures first { result.0 ≡ take index self }
+        ensures second { result.1 ≡ drop index self }
+    {
+        let Walk {
+            dim,
+            index: next,
+            left,
+            order,
+        } = self;
+        let first = Walk {
+            dim,
+            index: next,
+            left: index,
+            order,
+        };
+        let second = Walk {
+            dim,
+            index: Dim([next.axis(0).wrapping_add(index)]),
+            left: left - index,
+            order,
+        };
+        (first, second)
     }
 }
 

@@ -1,0 +1,16 @@
+-- Inside `subviews`: equal pieces of an array, one at each position of a box.
+use Rattle.std.specs.Prelude.{◌≡◌, ℕ, List, length, Option}
+use Rattle.ndarray.specs.Index.{InBox}
+use Rattle.ndarray.specs.Limits.{IsWithinLimit}
+use Rattle.ndarray.specs.Grid.{Grid, arranged}
+use Rattle.ndarray.specs.base.Places.{place, Reaches, grid_at}
+
+-- at each position of the box of ps, the array of lengths ns that begins where the position lies
+abbrev pub tiles_at : {A : Type 0} → (ℕ → Option A) → List ℕ → ℕ → List ℕ → List ℕ → List ℕ → Grid (Grid A)
+tiles_at at ps start steps ns bs = arranged ps (λ p. grid_at at ns (place start steps p) bs)
+
+-- each of them reaches elements
+pub record ReachTiles {A : Type 0} (at : ℕ → Option A) (ps : List ℕ) (start : ℕ) (steps ns bs : List ℕ) : Type 0 where
+  pub as_many : length steps ≡ length ps
+  pub limit : IsWithinLimit ps
+  pub each : (p : List ℕ) → InBox ps p → Reaches ⊥ at ns (place start steps p) bs

@@ -1,0 +1,4 @@
+//! Subviews of an array: items and chunks along an axis, lanes, exact chunks and windows, and the
+//! iterators over them.
+
+pub(crate) mod tiles;
