@@ -1,5 +1,5 @@
 -- Lists: what stands at each place.
-use Rattle.std.proofs.Common.{◌≡◌, ℕ, ◌<◌, suc, zero, List, [], ◌∷◌, ◌++◌, length, map, reverse, take, get_or, Option, Some, None, refl, sym, ◌∙◌, ap, arith, subst}
+use Rattle.std.proofs.Common.{◌≡◌, ℕ, ◌<◌, suc, zero, List, [], ◌∷◌, ◌++◌, length, drop, map, reverse, take, get_or, Option, Some, None, refl, sym, ◌∙◌, ap, arith, subst}
 use Rattle.std.specs.Prelude.{filter_map, slice_get, All, IsTrue}
 use Rattle.std.specs.Option.{is_some}
 use Rattle.std.specs.List.{cons_option}
@@ -79,3 +79,29 @@ map-from_filter_map f (x ∷ xs) h =
 -- the first, and the last, of what is to come
 pub get_or-append-last : {X : Type 0} (xs : List X) (x d : X) → get_or (xs ++ x ∷ []) (length xs) d ≡ x
 get_or-append-last xs x d = get_or_at xs x [] d (length xs) refl
+
+pub map-same : {X Y : Type 0} (f h : X → Y) (P : X → Type 0) (xs : List X) → ((x : X) → P x → f x ≡ h x) → All P xs → map f xs ≡ map h xs
+map-same f h P [] e a = refl
+map-same f h P (x ∷ xs) e a =
+    let here = e x (All-head P x xs a) in
+    let rest = map-same f h P xs e (All-tail P x xs a) in
+    cc
+
+-- ---- a part of a list
+
+module _ {X Y : Type 0} (f : X → Option Y) where
+  pub filter_map-take_all : (xs : List X) (n : ℕ) → All (λ x. (y : Y) × (f x ≡ Some y)) xs → filter_map f (take n xs) ≡ take n (filter_map f xs)
+  filter_map-take_all [] zero h = refl
+  filter_map-take_all [] (suc n) h = refl
+  filter_map-take_all (x ∷ xs) zero h = refl
+  filter_map-take_all (x ∷ xs) (suc n) h =
+      let here = h 0 x (omega arith) in
+      rw here.1 (ap (λ ys. here.0 ∷ ys) (filter_map-take_all xs n (λ k d lt. h (suc k) d (omega arith))))
+
+  pub filter_map-drop_all : (xs : List X) (n : ℕ) → All (λ x. (y : Y) × (f x ≡ Some y)) xs → filter_map f (drop n xs) ≡ drop n (filter_map f xs)
+  filter_map-drop_all [] zero h = refl
+  filter_map-drop_all [] (suc n) h = refl
+  filter_map-drop_all (x ∷ xs) zero h = refl
+  filter_map-drop_all (x ∷ xs) (suc n) h =
+      let here = h 0 x (omega arith) in
+      rw here.1 (filter_map-drop_all xs n (λ k d lt. h (suc k) d (omega arith)))

@@ -103,31 +103,21 @@ impl<D: Lengths> Walk<D> {
 }
 
 impl Walk<Ix1> {
-    /// The first `index` index lists still to come, and the rest.
-    pub(crate) fn split_at(self, index: usize) -> (Self, Self)
-        requires { index ≤ length self }
-        ensures first { result.0 ≡ take index self }
-        ensures second { result.1 ≡ drop index self }
+    /// Takes the first `count` index lists still to come.
+    pub(crate) fn take_first(&mut self, count: usize) -> Self
+        requires { count ≤ length self.old }
+        ensures first { result ≡ take count self.old }
+        ensures rest { self.new ≡ drop count self.old }
     {
-        let Walk {
-            dim,
-            index: next,
-            left,
-            order,
-        } = self;
         let first = Walk {
-            dim,
-            index: next,
-            left: index,
-            order,
+            dim: self.dim,
+            index: self.index,
+            left: count,
+            order: self.order,
         };
-        let second = Walk {
-            dim,
-            index: Dim([next.axis(0).wrapping_add(index)]),
-            left: left - index,
-            order,
-        };
-        (first, second)
+        self.index = Dim([self.index.axis(0) + count]);
+        self.left -= count;
+        first
     }
 }
 
@@ -169,7 +159,6 @@ impl DoubleEndedIterator for Walk<Ix1> {
         if self.left == 0 {
             return None;
         }
-        let end = self.dim.axis(0);
         self.left -= 1;
         Some(Dim([self.index.axis(0) + self.left]))
     }

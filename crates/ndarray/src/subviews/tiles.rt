@@ -161,22 +161,15 @@ impl<'a, A, P: Lengths, D: Lengths> Clone for TilesIter<'a, A, P, D> {
 }
 
 impl<'a, A, D: Lengths> TilesIter<'a, A, Ix1, D> {
-    /// The first `index` pieces still to come, and the rest.
-    pub(crate) fn split_at(self, index: usize) -> (Self, Self)
-        requires { index ≤ length self }
-        ensures first { result.0 ≡ take index self.entry }
-        ensures second { result.1 ≡ drop index self.entry }
+    /// Takes the first `count` pieces still to come.
+    pub(crate) fn take_first(&mut self, count: usize) -> Self
+        requires { count ≤ length self.old }
+        ensures first { result ≡ take count self.old }
+        ensures rest { self.new ≡ drop count self.old }
     {
-        let TilesIter { tiles, walk } = self;
-        let (first, second) = walk.split_at(index);
-        let before = TilesIter {
-            tiles: tiles.again(),
-            walk: first,
-        };
-        let after = TilesIter {
-            tiles,
-            walk: second,
-        };
-        (before, after)
+        TilesIter {
+            tiles: self.tiles.again(),
+            walk: self.walk.take_first(count),
+        }
     }
 }
