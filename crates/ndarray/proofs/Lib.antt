@@ -3,10 +3,12 @@ pub mod Boxes
 pub mod Cells
 pub mod Filled
 pub mod Images
+pub mod Items
 pub mod Lists
 pub mod Orders
 pub mod Pairs
 pub mod Permutations
+pub mod Pieces
 pub mod Places
 pub mod Sizes
 pub mod Stretching

@@ -106,3 +106,14 @@ nonzero-reverse [] = refl
 nonzero-reverse (n ∷ ns) =
     let h = nonzero-reverse ns in
     ap nonzero_size (reverse-cons n ns) ∙ (nonzero-append (reverse ns) (n ∷ []) ∙ (ap (λ x. x * nonzero_size (n ∷ [])) h ∙ (mul_comm (nonzero_size ns) (nonzero_size (n ∷ [])) ∙ sym (nonzero-append (n ∷ []) ns))))
+
+-- one length of a shape within the limit is within it
+pub nonzero-one_of : (ns : List ℕ) (k : ℕ) → k < length ns → nonzero_size (get_or ns k 0 ∷ []) ≤ nonzero_size ns
+nonzero-one_of [] k h = absurd (omega arith)
+nonzero-one_of (zero ∷ ns) zero h = nonzero-pos ns
+nonzero-one_of (suc n ∷ ns) zero h = mul-le-mul_left (suc n) (nonzero-pos ns)
+nonzero-one_of (zero ∷ ns) (suc k) h = nonzero-one_of ns k (omega arith)
+nonzero-one_of (suc n ∷ ns) (suc k) h =
+    let ih = nonzero-one_of ns k (omega arith) in
+    let m : nonzero_size ns * 1 ≤ nonzero_size ns * suc n = mul-le-mul_left (nonzero_size ns) (omega arith) in
+    omega arith
