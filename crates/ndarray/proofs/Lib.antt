@@ -1,3 +1,4 @@
+pub mod AddedApart
 pub mod Beside
 pub mod Boxes
 pub mod Cells
@@ -10,9 +11,13 @@ pub mod Pairs
 pub mod Permutations
 pub mod Pieces
 pub mod Places
+pub mod RunningSum
+pub mod Selections
 pub mod Sizes
 pub mod Stretching
 pub mod Strides
 pub mod Unique
 pub mod Verdicts
 pub mod Walks
+pub mod WholeSums
+pub mod WholeTests

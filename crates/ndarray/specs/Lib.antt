@@ -5,6 +5,8 @@ pub mod Limits
 pub mod Orders
 pub mod Slices
 pub mod Subviews
+pub mod Sums
 pub mod Views
+pub mod Whole
 pub mod base
 pub mod order

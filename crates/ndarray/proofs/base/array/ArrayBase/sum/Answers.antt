@@ -1,0 +1,36 @@
+use Rattle.std.proofs.Common.{◌≡◌, [], ◌∷◌, ◌∙◌, ap, map}
+use Rattle.ndarray.proofs.RunningSum.{RunningSum-start, RunningSum-in_range, RunningSum-step, RunningSum-end}
+use Rattle.ndarray.proofs.base.array.ArrayBase.sum.Goals as goal
+
+pub loop-x-init : goal.loop-x-init
+loop-x-init g c =
+    let v = g.A.Valued in
+    let all : c.into_iter-x-iterator.result ≡ c.args.self.now.cells = cc in
+    RunningSum-start v.plus v.InRange (map v.meaning c.args.self.now.cells) (map v.meaning c.into_iter-x-iterator.result) (v.meaning c.zero-sum.result)
+    (ap (map v.meaning) all) (ap v.meaning c.zero-sum.ensures ∙ g.met.A.SumElem.zero_meaning) c.requires
+
+pub add-sum-requires : goal.add-sum-requires
+add-sum-requires g c =
+    let v = g.A.Valued in
+    let x = c.in-Some.x.now in
+    let next : c.loop-x.x-iterator ≡ x ∷ c.next.new.self = c.in-Some.ensures.steps in
+    g.met.A.SumElem.add_in_range c.loop-x.sum x
+    (RunningSum-in_range v.plus v.InRange (map v.meaning c.args.self.now.cells) (map v.meaning c.loop-x.x-iterator) (map v.meaning c.next.new.self) (v.meaning x) (v.meaning c.loop-x.sum)
+    (ap (map v.meaning) next) c.loop-x.invariant)
+
+pub loop-x-preserved : goal.loop-x-preserved
+loop-x-preserved g c =
+    let v = g.A.Valued in
+    let x = c.in-Some.x.now in
+    let next : c.loop-x.x-iterator ≡ x ∷ c.next.new.self = c.in-Some.ensures.steps in
+    let in_range = RunningSum-in_range v.plus v.InRange (map v.meaning c.args.self.now.cells) (map v.meaning c.loop-x.x-iterator) (map v.meaning c.next.new.self) (v.meaning x) (v.meaning c.loop-x.sum)
+    (ap (map v.meaning) next) c.loop-x.invariant in
+    RunningSum-step v.plus v.InRange (map v.meaning c.args.self.now.cells) (map v.meaning c.loop-x.x-iterator) (map v.meaning c.next.new.self) (v.meaning x) (v.meaning c.loop-x.sum)
+    (ap (map v.meaning) next) c.loop-x.invariant
+    (v.meaning c.add-sum.result) (g.met.A.SumElem.add_meaning c.loop-x.sum x c.add-sum.result in_range c.add-sum.ensures)
+
+pub returns : goal.returns
+returns g c =
+    let v = g.A.Valued in
+    let none : c.loop-x.x-iterator ≡ [] = c.in-None.ensures.steps.0 in
+    RunningSum-end v.plus v.InRange (map v.meaning c.args.self.now.cells) (map v.meaning c.loop-x.x-iterator) (v.meaning c.loop-x.sum) (ap (map v.meaning) none) c.loop-x.invariant
