@@ -1,9 +1,11 @@
 -- Lists: what stands at each place.
-use Rattle.std.proofs.Common.{◌≡◌, ℕ, ◌<◌, suc, zero, List, [], ◌∷◌, ◌++◌, length, drop, map, reverse, take, get_or, Option, Some, None, refl, sym, ◌∙◌, ap, arith, subst}
-use Rattle.std.specs.Prelude.{filter_map, slice_get, All, IsTrue}
+use Rattle.std.proofs.Common.{◌≡◌, ℕ, ◌+◌, ◌<◌, ◌≤◌, min, suc, zero, List, [], ◌∷◌, ◌++◌, length, drop, map, reverse, take, get_or, Option, Some, None, refl, sym, ◌∙◌, ap, arith, subst}
+use Rattle.std.specs.Prelude.{filter_map, slice_get, MatchOption, All, IsTrue}
 use Rattle.std.specs.Option.{is_some}
 use Rattle.std.specs.List.{cons_option}
-use Rattle.std.proofs.lemmas.List.{reverse-append, get_or_at}
+use Rattle.std.proofs.Math.Seq.{drop-cons}
+use Rattle.std.proofs.lemmas.Option.{slice_get_past, slice_get-get_or}
+use Rattle.std.proofs.lemmas.List.{length-drop, drop_all, reverse-append, get_or_at}
 use Rattle.std.proofs.lemmas.List.Elements.{All-head, All-tail}
 
 pub reverse-cons : {X : Type 0} (x : X) (xs : List X) → reverse (x ∷ xs) ≡ reverse xs ++ x ∷ []
@@ -105,3 +107,22 @@ module _ {X Y : Type 0} (f : X → Option Y) where
   filter_map-drop_all (x ∷ xs) (suc n) h =
       let here = h 0 x (omega arith) in
       rw here.1 (filter_map-drop_all xs n (λ k d lt. h (suc k) d (omega arith)))
+
+-- the first item of a list that is left when some are left out, and what is left then
+pub nth-from_next : {X : Type 0} (xs rest t : List X) (n m : ℕ) (r : Option X) → m ≡ min n (length xs) → rest ≡ drop m xs → MatchOption r ((rest ≡ []) × (t ≡ [])) (λ x. rest ≡ x ∷ t) → (r ≡ slice_get xs n) × (t ≡ drop (n + 1) xs)
+nth-from_next xs rest t n m None em er h =
+    let e : drop m xs ≡ [] = sym er ∙ h.0 in
+    let l = length-drop m xs in
+    let le : length xs ≤ n = omega (arith, ap length e) in
+    (sym (slice_get_past xs n le), h.1 ∙ sym (drop_all (n + 1) xs (omega arith)))
+nth-from_next xs rest t n m (Some x) em er h =
+    let e : drop m xs ≡ x ∷ t = sym er ∙ h in
+    let l = length-drop m xs in
+    let lt : m < length xs = omega (arith, ap length e) in
+    let same : m ≡ n = omega arith in
+    let c = drop-cons xs m x lt in
+    let both : x ∷ t ≡ get_or xs m x ∷ drop (suc m) xs = sym e ∙ c in
+    let ex : x ≡ get_or xs m x = cc in
+    let et : t ≡ drop (suc m) xs = cc in
+    let sn : suc m ≡ n + 1 = omega arith in
+    (sym (ap (slice_get xs) (sym same) ∙ (slice_get-get_or xs m x lt ∙ ap (λ y. Some y) (sym ex))), et ∙ ap (λ k. drop k xs) sn)

@@ -102,8 +102,8 @@ impl<'a, A, D: Lengths> AxisIter<'a, A, D> {
         ensures taken { result ≡ slice_get self.old n }
         ensures rest { self.new ≡ drop (n + 1) self.old }
     {
-        let count = self.items.len();
-        self.items.take_first(if n < count { n } else { count });
+        let left_out = n.min(self.items.len());
+        let _ = self.items.take_first(left_out);
         self.items.next()
     }
 }
