@@ -54,3 +54,7 @@ IsKnownByCells {A} g = (h : Grid A) → IsGrid h → h.lengths ≡ g.lengths →
 -- the array of lengths ns that has f of each index list as its cell there
 abbrev pub arranged : {B : Type 0} → List ℕ → (List ℕ → B) → Grid B
 arranged ns f = grid ns (map f (row_order ns))
+
+-- the array of one axis that has the elements of a list as its cells
+abbrev pub line : {B : Type 0} → List B → Grid B
+line xs = grid (length xs ∷ []) xs

@@ -2,4 +2,8 @@
 //! iterators over them.
 
 pub mod axis;
+pub mod exact_chunks;
+pub mod lanes;
+pub(crate) mod positions;
 pub(crate) mod tiles;
+pub mod windows;

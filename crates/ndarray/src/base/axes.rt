@@ -63,7 +63,8 @@ impl<S: Data, D: Lengths> ArrayBase<S, D> {
         ensures whole { IsGrid self.new }
     {
         let (from, len) = slice.extent(self.layout.dim.axis(axis.0));
-        self.layout.cut(axis.0, from, len, slice.step.cast_unsigned());
+        self.layout
+            .cut(axis.0, from, len, slice.step.cast_unsigned());
     }
 
     /// The same cells under another type of dimension; `IncompatibleShape` exactly where that type
@@ -136,7 +137,10 @@ impl<'a, A, D: Lengths> ArrayView<'a, A, D> {
         ensures second_whole { IsGrid result.1 }
     {
         let len = self.layout.dim.axis(axis.0);
-        (self.part(axis.0, 0, index), self.part(axis.0, index, len - index))
+        (
+            self.part(axis.0, 0, index),
+            self.part(axis.0, index, len - index),
+        )
     }
 
     /// The `len` places of an axis from `from` on.
