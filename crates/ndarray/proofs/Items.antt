@@ -8,7 +8,7 @@ use Rattle.ndarray.specs.Limits.{nonzero_size}
 use Rattle.ndarray.specs.base.Places.{dot, place, Reaches, Rearranges}
 use Rattle.ndarray.proofs.Boxes.{InBox-length}
 
-dot-insert : (bs js : List ℕ) (k i : ℕ) → k < length bs → length js + 1 ≡ length bs → dot bs (insert js k i) ≡ dot (remove bs k) js + i * get_or bs k 0
+pub dot-insert : (bs js : List ℕ) (k i : ℕ) → k < length bs → length js + 1 ≡ length bs → dot bs (insert js k i) ≡ dot (remove bs k) js + i * get_or bs k 0
 unfolding dot
 dot-insert [] js k i lt l = absurd (omega arith)
 dot-insert (c ∷ bs) js zero i lt l = omega arith
@@ -29,7 +29,7 @@ nonzero-cons : (n : ℕ) (xs ys : List ℕ) → nonzero_size xs ≤ nonzero_size
 nonzero-cons zero xs ys h = h
 nonzero-cons (suc n) xs ys h = mul-le-mul_left (suc n) h
 
-nonzero-remove : (ns : List ℕ) (k : ℕ) → nonzero_size (remove ns k) ≤ nonzero_size ns
+pub nonzero-remove : (ns : List ℕ) (k : ℕ) → nonzero_size (remove ns k) ≤ nonzero_size ns
 nonzero-remove [] zero = omega arith
 nonzero-remove [] (suc k) = omega arith
 nonzero-remove (n ∷ ns) zero = nonzero-tail n ns
