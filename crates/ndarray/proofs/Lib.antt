@@ -14,6 +14,7 @@ pub mod Places
 pub mod RunningSum
 pub mod Selections
 pub mod Sizes
+pub mod Steps
 pub mod Stretching
 pub mod Strides
 pub mod Unique

@@ -1,5 +1,5 @@
 -- The size of a box, and the limit on shapes, one axis at a time.
-use Rattle.std.proofs.Common.{◌≡◌, ℕ, ◌+◌, ◌*◌, ◌<◌, ◌≤◌, ◌^◌, suc, zero, List, [], ◌∷◌, ◌++◌, length, reverse, refl, take, drop, get_or, sym, ◌∙◌, ◌/◌, ◌%◌, ap, arith}
+use Rattle.std.proofs.Common.{◌≡◌, ℕ, ◌+◌, ◌*◌, ◌<◌, ◌≤◌, ◌⊎◌, inl, inr, ◌^◌, suc, zero, List, [], ◌∷◌, ◌++◌, length, reverse, refl, take, drop, get_or, sym, ◌∙◌, ◌/◌, ◌%◌, ap, arith}
 use Rattle.std.proofs.Math.Seq.{take-suc}
 use Rattle.std.proofs.Math.Nat.{mul-le-mul_left, div-lt_iff_lt-mul}
 use Rattle.std.proofs.lemmas.Nat.{div-add-mod'}
@@ -116,4 +116,26 @@ nonzero-one_of (zero ∷ ns) (suc k) h = nonzero-one_of ns k (omega arith)
 nonzero-one_of (suc n ∷ ns) (suc k) h =
     let ih = nonzero-one_of ns k (omega arith) in
     let m : nonzero_size ns * 1 ≤ nonzero_size ns * suc n = mul-le-mul_left (nonzero_size ns) (omega arith) in
+    omega arith
+
+-- lengths that are each no larger, or at most 1, multiply to no more
+pub nonzero-smaller : (ms ns : List ℕ) → length ms ≡ length ns → ((k : ℕ) → k < length ns → (get_or ms k 0 ≤ get_or ns k 0) ⊎ (get_or ms k 0 ≤ 1)) → nonzero_size ms ≤ nonzero_size ns
+nonzero-smaller [] [] l h = omega arith
+nonzero-smaller [] (n ∷ ns) l h = absurd (omega arith)
+nonzero-smaller (m ∷ ms) [] l h = absurd (omega arith)
+nonzero-smaller (zero ∷ ms) (zero ∷ ns) l h = nonzero-smaller ms ns (omega arith) (λ k lt. h (suc k) (omega arith))
+nonzero-smaller (zero ∷ ms) (suc n ∷ ns) l h =
+    let ih = nonzero-smaller ms ns (omega arith) (λ k lt. h (suc k) (omega arith)) in
+    let m : nonzero_size ns * 1 ≤ nonzero_size ns * suc n = mul-le-mul_left (nonzero_size ns) (omega arith) in
+    omega arith
+nonzero-smaller (suc m ∷ ms) (zero ∷ ns) l h =
+    let ih = nonzero-smaller ms ns (omega arith) (λ k lt. h (suc k) (omega arith)) in
+    let z : m ≡ 0 = elim (h 0 (omega arith)) [ inl a ↦ absurd (omega (arith, a)) | inr a ↦ omega (arith, a) ] in
+    let e : m * nonzero_size ms ≡ 0 = ap (λ x. x * nonzero_size ms) z ∙ omega arith in
+    omega arith
+nonzero-smaller (suc m ∷ ms) (suc n ∷ ns) l h =
+    let ih = nonzero-smaller ms ns (omega arith) (λ k lt. h (suc k) (omega arith)) in
+    let le : m ≤ n = elim (h 0 (omega arith)) [ inl a ↦ omega (arith, a) | inr a ↦ omega (arith, a) ] in
+    let a : suc m * nonzero_size ms ≤ suc m * nonzero_size ns = mul-le-mul_left (suc m) ih in
+    let b : nonzero_size ns * suc m ≤ nonzero_size ns * suc n = mul-le-mul_left (nonzero_size ns) (omega arith) in
     omega arith

@@ -1,8 +1,9 @@
 //! Inside `subviews`: at which positions exact chunks and windows are.
 
 ghost use Rattle.std.specs.Prelude.{◌≡◌, ◌↔◌, ◌<◌, ◌≤◌, ◌^◌, length, replicate, IsTrue};
-ghost use Rattle.ndarray.specs.Subviews.{ArePositive, window_count, windows_of};
-ghost use Rattle.ndarray.specs.base.Tiles.{AreWindowsOf};
+ghost use Rattle.ndarray.specs.Limits.{IsWithinLimit};
+ghost use Rattle.ndarray.specs.Subviews.{ArePositive, window_count, window_counts, windows_of};
+ghost use Rattle.ndarray.specs.base.Tiles.{AreStepsOf, AreWindowsOf};
 
 use crate::base::array::ArrayBase;
 use crate::base::dimension::Lengths;
@@ -42,6 +43,38 @@ fn count(len: usize, window: usize, step: usize) -> usize
     }
 }
 
+/// The positions of the windows of these lengths, steps apart on each axis. The distance of two
+/// positions is formed only where there is a window.
+fn window_positions<D: Lengths>(layout: &Layout<D>, window: &D, steps: &D) -> Layout<D>
+    requires limit { IsWithinLimit (D.numbers layout.now.dim) }
+    requires strides { length (D.numbers layout.now.strides) ≡ length (D.numbers layout.now.dim) }
+    requires window { length (D.numbers window.now) ≡ length (D.numbers layout.now.dim) }
+    requires steps { ArePositive (D.numbers layout.now.dim) (D.numbers steps.now) }
+    ensures start { result.start ≡ layout.now.start }
+    ensures dim { D.numbers result.dim ≡ window_counts (D.numbers layout.now.dim) (D.numbers window.now) (D.numbers steps.now) }
+    ensures strides { AreStepsOf (D.numbers result.dim) (D.numbers layout.now.strides) (D.numbers steps.now) (D.numbers result.strides) }
+{
+    let ndim = layout.dim.ndim();
+    let mut dim = D::zeros(ndim);
+    let mut strides = D::zeros(ndim);
+    for k in 0..ndim {
+        let step = steps.axis(k);
+        let windows = count(layout.dim.axis(k), window.axis(k), step);
+        let distance = if windows == 0 {
+            0
+        } else {
+            layout.strides.axis(k).wrapping_mul(step)
+        };
+        dim.set_axis(k, windows);
+        strides.set_axis(k, distance);
+    }
+    Layout {
+        start: layout.start,
+        dim,
+        strides,
+    }
+}
+
 impl<S: Data, D: Lengths> ArrayBase<S, D> {
     /// The windows of these lengths, steps apart on each axis.
     pub(crate) fn pieces(&self, window: D, steps: &D) -> Tiles<'_, S::Elem, D, D>
@@ -49,27 +82,11 @@ impl<S: Data, D: Lengths> ArrayBase<S, D> {
         requires steps { ArePositive self.now.lengths (D.numbers steps.now) }
         ensures { result ≡ windows_of self.now (D.numbers window) (D.numbers steps.now) }
     {
-        let layout = &self.layout;
-        let ndim = layout.dim.ndim();
-        let mut counts = D::zeros(ndim);
-        let mut apart = D::zeros(ndim);
-        for k in 0..ndim {
-            let step = steps.axis(k);
-            let windows = count(layout.dim.axis(k), window.axis(k), step);
-            if windows > 0 {
-                counts.set_axis(k, windows);
-                apart.set_axis(k, layout.strides.axis(k).wrapping_mul(step));
-            }
-        }
         Tiles {
             storage: self.storage.seen(),
-            positions: Layout {
-                start: layout.start,
-                dim: counts,
-                strides: apart,
-            },
+            positions: window_positions(&self.layout, &window, steps),
             dim: window,
-            strides: layout.strides.copied(),
+            strides: self.layout.strides.copied(),
         }
     }
 }
