@@ -127,3 +127,9 @@ HasCells-take g ys n h = record { whole = h.whole; within = All-take (InBox g.le
 
 pub HasCells-drop : {A : Type 0} (g : Grid A) (ys : List (List ℕ)) (n : ℕ) → HasCells g ys → HasCells g (drop n ys)
 HasCells-drop g ys n h = record { whole = h.whole; within = All-drop (InBox g.lengths) n ys h.within }
+
+-- arrays of the same lengths and cells by their functions
+pub tabulate-same : {A : Type 0} (ns ms : List ℕ) (f h : List ℕ → Option A) → ns ≡ ms → ((is : List ℕ) → InBox ns is → f is ≡ h is) → tabulate ns f ≡ tabulate ms h
+unfolding tabulated
+tabulate-same ns ms f h e same =
+    ap (grid ns) (filter_map-same f h (InBox ns) (row_order ns) same (row_order-is ns).within) ∙ ap (λ ks. tabulate ks h) e

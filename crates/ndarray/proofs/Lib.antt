@@ -6,6 +6,7 @@ pub mod Filled
 pub mod Images
 pub mod Items
 pub mod Lists
+pub mod OneAxis
 pub mod Orders
 pub mod Pairs
 pub mod Permutations

@@ -17,10 +17,10 @@ use Rattle.ndarray.proofs.Pieces.{AreImages}
 
 -- ---- one axis
 
-none : (n w s : ℕ) → n < w → window_count n w s ≡ 0
+pub none : (n w s : ℕ) → n < w → window_count n w s ≡ 0
 none n w s h = grind (arith, nat_tests)
 
-some : (n w s : ℕ) → w ≤ n → window_count n w s ≡ (n - w) / s + 1
+pub some : (n w s : ℕ) → w ≤ n → window_count n w s ≡ (n - w) / s + 1
 some n w s h = grind (arith, nat_tests)
 
 -- a window at a position lies within the axis
