@@ -35,6 +35,13 @@ InBox-set (n ∷ ns) [] k v h l = absurd h
 InBox-set (n ∷ ns) (i ∷ is) zero v h l = (l, h.1)
 InBox-set (n ∷ ns) (i ∷ is) (suc k) v h l = (h.0, InBox-set ns is k v h.1 l)
 
+pub InBox-set_both : (ns is : List ℕ) (k n v : ℕ) → InBox ns is → v < n → InBox (set ns k n) (set is k v)
+InBox-set_both [] [] k n v h l = tt
+InBox-set_both [] (i ∷ is) k n v h l = absurd h
+InBox-set_both (m ∷ ns) [] k n v h l = absurd h
+InBox-set_both (m ∷ ns) (i ∷ is) zero n v h l = (l, h.1)
+InBox-set_both (m ∷ ns) (i ∷ is) (suc k) n v h l = (h.0, InBox-set_both ns is k n v h.1 l)
+
 -- zeros are in the box that is not empty, first of all
 pub InBox-zeros : (ns : List ℕ) → 0 < size ns → InBox ns (replicate (length ns) 0)
 InBox-zeros [] h = tt

@@ -1,5 +1,5 @@
 -- Where the cells of an array lie, and which cells these are.
-use Rattle.std.proofs.Common.{◌≡◌, ℕ, ◌+◌, ◌*◌, ◌/◌, ◌%◌, ◌<◌, ◌^◌, suc, zero, List, [], ◌∷◌, length, take, get_or, Option, Some, None, sym, ◌∙◌, ap, arith, subst}
+use Rattle.std.proofs.Common.{◌≡◌, ℕ, ◌+◌, ◌*◌, ◌/◌, ◌%◌, ◌<◌, ◌^◌, suc, zero, List, [], ◌∷◌, length, take, set, get_or, Option, Some, None, sym, ◌∙◌, ap, arith, subst}
 use Rattle.std.specs.Prelude.{slice_get, All, IsTrue}
 use Rattle.std.specs.Option.{is_some}
 use Rattle.std.proofs.lemmas.List.{take_all}
@@ -19,6 +19,14 @@ dot-take_more [] is k h g = absurd (omega arith)
 dot-take_more (b ∷ bs) [] k h g = absurd (omega arith)
 dot-take_more (b ∷ bs) (i ∷ is) zero h g = omega arith
 dot-take_more (b ∷ bs) (i ∷ is) (suc k) h g = let ih = dot-take_more bs is k (omega arith) (omega arith) in omega arith
+
+-- an axis with another index and another stride
+pub dot-set : (bs is : List ℕ) (k b i : ℕ) → length bs ≡ length is → k < length is → dot (set bs k b) (set is k i) + get_or is k 0 * get_or bs k 0 ≡ dot bs is + i * b
+unfolding dot
+dot-set [] is k b i l h = absurd (omega arith)
+dot-set (c ∷ bs) [] k b i l h = absurd (omega arith)
+dot-set (c ∷ bs) (j ∷ is) zero b i l h = omega arith
+dot-set (c ∷ bs) (j ∷ is) (suc k) b i l h = let ih = dot-set bs is k b i (omega arith) (omega arith) in omega arith
 
 mod_step : (m a b : ℕ) → (a % m + b % m) % m ≡ (a + b) % m
 mod_step m a b = mod-add-mod a m (b % m) ∙ add-mod-mod a b m
