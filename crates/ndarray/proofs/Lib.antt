@@ -15,6 +15,7 @@ pub mod Places
 pub mod RunningSum
 pub mod Selections
 pub mod Sizes
+pub mod Slices
 pub mod Stretching
 pub mod Strides
 pub mod Swaps
