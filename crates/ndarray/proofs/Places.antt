@@ -37,16 +37,6 @@ mod_twice m a b c =
     ∙ (ap (λ x. x % m) (let e : a + b % m + c ≡ a + c + b % m = omega arith in e)
     ∙ (add-mod-mod (a + c) b m ∙ ap (λ x. x % m) (let e : a + c + b ≡ a + b + c = omega arith in e)))
 
--- two numbers that add up to a multiple of m make no difference
-pub mod_opposite : (m b b' i y : ℕ) → (b' + b) % m ≡ 0 → (y + i * (b' + b)) % m ≡ y % m
-mod_opposite m b b' i y h =
-    let d = div-add-mod' (b' + b) m in
-    let q : ℕ = (b' + b) / m in
-    let d2 : q * m ≡ b' + b = omega (arith, h, d) in
-    let f : i * (b' + b) ≡ i * (q * m) = ap (λ x. i * x) (sym d2) in
-    let e : y + i * (b' + b) ≡ y + m * (i * q) = omega arith in
-    ap (λ x. x % m) e ∙ add-mul-mod_self_left y m (i * q)
-
 pub place-start : (start : ℕ) (bs is : List ℕ) → start < 2 ^ 64 → place start (take 0 bs) (take 0 is) ≡ start
 unfolding place dot
 place-start start bs is h = omega arith
