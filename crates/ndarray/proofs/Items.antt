@@ -1,13 +1,14 @@
 -- An axis taken out, and an index put in at it; an axis of length 1 put in.
 use Rattle.std.proofs.Common.{◌≡◌, ℕ, ◌+◌, ◌-◌, ◌*◌, ◌%◌, ◌<◌, ◌≤◌, ◌^◌, suc, zero, List, [], ◌∷◌, length, get_or, refl, sym, ◌∙◌, ap, arith, subst, Option}
 use Rattle.std.specs.Prelude.{insert, remove}
-use Rattle.std.proofs.Math.Nat.{mul-le-mul_left, mod-add-mod}
+use Rattle.std.proofs.Math.Nat.{mul-le-mul_left}
 use Rattle.std.proofs.lemmas.List.Edits.{length-remove, length-insert}
 use Rattle.ndarray.specs.Index.{InBox}
 use Rattle.ndarray.specs.Limits.{nonzero_size}
 use Rattle.ndarray.specs.base.Places.{dot, place, Reaches, Rearranges}
 use Rattle.ndarray.proofs.Boxes.{InBox-length}
 use Rattle.ndarray.proofs.Lists.{insert-remove}
+use Rattle.ndarray.proofs.Places.{mod_twice}
 use Rattle.ndarray.proofs.Sizes.{nonzero-insert_one}
 
 dot-insert : (bs js : List ℕ) (k i : ℕ) → k < length bs → length js + 1 ≡ length bs → dot bs (insert js k i) ≡ dot (remove bs k) js + i * get_or bs k 0
@@ -38,7 +39,7 @@ nonzero-remove (n ∷ ns) zero = nonzero-tail n ns
 nonzero-remove (n ∷ ns) (suc k) = nonzero-cons n (remove ns k) ns (nonzero-remove ns k)
 
 -- item i along an axis lies where the array lies at the index lists with i put in
-pub rearranges-item : {A one : Type 0} (at : ℕ → Option A) (ns : List ℕ) (start : ℕ) (bs : List ℕ) (k i start' : ℕ) → Reaches one at ns start bs → k < length ns → i < get_or ns k 0 → start' ≡ (start + i * get_or bs k 0) % 2 ^ 64 → Rearranges ⊥ ns start bs (remove ns k) start' (remove bs k) (λ js. insert js k i)
+pub rearranges-item : {A one : Type 0} (at : ℕ → Option A) (ns : List ℕ) (start : ℕ) (bs : List ℕ) (k i start' : ℕ) → Reaches one at ns start bs → k < length ns → i < get_or ns k 0 → start' ≡ (start + (i * get_or bs k 0) % 2 ^ 64) % 2 ^ 64 → Rearranges ⊥ ns start bs (remove ns k) start' (remove bs k) (λ js. insert js k i)
 unfolding place
 rearranges-item at ns start bs k i start' h lt below es =
     let ab = h.as_many in
@@ -51,7 +52,7 @@ rearranges-item at ns start bs k i start' h lt below es =
           let d = dot-insert bs js k i (omega arith) (omega (arith, length-remove {X = ℕ})) in
           let sum : start + i * get_or bs k 0 + dot (remove bs k) js ≡ start + dot bs (insert js k i) = omega arith in
           ap (λ x. (x + dot (remove bs k) js) % 2 ^ 64) es
-          ∙ (mod-add-mod (start + i * get_or bs k 0) (2 ^ 64) (dot (remove bs k) js) ∙ ap (λ x. x % 2 ^ 64) sum);
+          ∙ (mod_twice (2 ^ 64) start (i * get_or bs k 0) (dot (remove bs k) js) ∙ ap (λ x. x % 2 ^ 64) sum);
       distinct = λ no. absurd no;
     }
 

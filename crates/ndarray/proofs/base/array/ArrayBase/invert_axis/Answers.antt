@@ -26,7 +26,7 @@ invariant_of-self g c = Reaches-rearranged (turn g c) _ (λ x. x) c.self.invaria
 pub returns-clause-value : goal.returns-clause-value
 returns-clause-value g c =
     let same = ap (λ v. v.lengths) c.self.view_is in
-    let lengths = c.cut.ensures.dim ∙ (ap (set (g.D.Lengths.numbers c.self.inside.layout.dim) c.args.axis.0) c.axis-len.ensures ∙ (set-get_or (g.D.Lengths.numbers c.self.inside.layout.dim) c.args.axis.0 0 ∙ same)) in
+    let lengths : g.D.Lengths.numbers c.cut.new.self.dim ≡ c.args.self.now.lengths = rw (c.cut.ensures.dim, c.axis-len.ensures, set-get_or) same in
     grid-seen (turn g c) (g.S.Data.at c.self.inside.storage) _ _ _ (λ p. refl) c.self.invariant c.self.view_is lengths
     ∙ ap (λ ns. tabulate c.args.self.now.lengths (λ is. cell c.args.self.now (turned ns c.args.axis.0 is))) same
 
