@@ -1,7 +1,5 @@
-use Rattle.std.proofs.Common.{◌<◌, ◌*◌, ◌^◌, get_or, arith, length, ap, sym, ◌∙◌}
+use Rattle.std.proofs.Common.{◌<◌, get_or, arith, length, ap, sym, ◌∙◌}
 use Rattle.std.specs.Prelude.{insert, remove}
-use Rattle.std.proofs.Math.Nat.{add-mod-mod}
-use Rattle.ndarray.specs.Grid.{cell, tabulate}
 use Rattle.ndarray.specs.base.Places.{Rearranges}
 use Rattle.ndarray.proofs.Places.{Reaches-same, length-cells_at}
 use Rattle.ndarray.proofs.Images.{Reaches-rearranged, grid-seen}

@@ -1,4 +1,4 @@
-use Rattle.std.proofs.Common.{◌≡◌, ◌<◌, ◌^◌, arith, rules, length, get_or, set, ap, refl, sym, subst, ◌∙◌, w64}
+use Rattle.std.proofs.Common.{◌≡◌, ◌<◌, arith, rules, length, get_or, set, ap, refl, sym, subst, ◌∙◌, w64}
 use Rattle.std.specs.Prelude.{FitsSigned}
 use Rattle.std.specs.Int.{cast_unsigned}
 use Rattle.std.proofs.lemmas.Int.{to_z-of_z}

@@ -1,4 +1,4 @@
-use Rattle.std.proofs.Common.{◌≡◌, ◌<◌, ◌≤◌, ◌+◌, ◌-◌, ◌*◌, ◌%◌, ◌^◌, arith, length, get_or, set, ap, refl, sym, ◌∙◌}
+use Rattle.std.proofs.Common.{◌<◌, ◌≤◌, ◌+◌, arith, length, get_or, set, ap, refl, ◌∙◌}
 use Rattle.ndarray.specs.base.Places.{Rearranges}
 use Rattle.ndarray.specs.base.Storage.{seen_at}
 use Rattle.ndarray.proofs.Cuts.{IsCut-part, rearranges-cut}

@@ -1,9 +1,9 @@
-use Rattle.std.proofs.Common.{ℕ, ◌≡◌, ◌≢◌, ◌<◌, ◌≤◌, ◌+◌, ◌-◌, ◌*◌, ◌/◌, ◌%◌, ◌^◌, arith, sym, ◌∙◌, ap, min, subst, rules, w64}
+use Rattle.std.proofs.Common.{ℕ, ◌≡◌, ◌<◌, ◌≤◌, ◌+◌, ◌-◌, ◌%◌, ◌^◌, arith, sym, ◌∙◌, ap, rules, w64}
 use Rattle.std.specs.Prelude.{ℤ, pos, unsigned_abs, ◌-ℤ◌, ◌≤ℤ◌, ◌<ℤ◌, FitsSigned}
 use Rattle.std.specs.Int.{div_ceil, cast_signed, cast_unsigned}
 use Rattle.std.proofs.lemmas.Int.{ints, to_z-of_z, of_z-to_z}
-use Rattle.ndarray.specs.Slices.{IsSliceOf, counted, slice_end, slice_index_at, slice_length, slice_start}
-use Rattle.ndarray.proofs.Slices.{Ends, slice-ends, slice_length-is, ceil-is, size-pos, counted_from, counted_from-up, counted_from-down, slice_index-mod}
+use Rattle.ndarray.specs.Slices.{slice_end, slice_start}
+use Rattle.ndarray.proofs.Slices.{slice-ends, slice_length-is, ceil-is, size-pos, counted_from, counted_from-up, counted_from-down, slice_index-mod}
 use Rattle.ndarray.proofs.base.slice.Slice.extent.Goals as goal
 use Rattle.ndarray.proofs.base.slice.Slice.extent.Goals.{then-self-gt0, else-self-gt0}
 
