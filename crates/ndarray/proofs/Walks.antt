@@ -207,12 +207,13 @@ later o n i k left (suc rest) j h e at =
     let ri = rank_in-one o n i in
     let rj = rank_in-one o n j in
     let box : List (List ℕ) = box_in o (n ∷ []) in
-    let ranks : rank_in o (n ∷ []) (j ∷ []) ≡ rank_in o (n ∷ []) (i ∷ []) + k = omega arith in
-    (record { limit = h.limit; within = λ p. (omega arith, tt); fits = λ p. omega arith },
-     ap (λ r. take (suc rest) (drop r box)) ranks
-     ∙ (ap (take (suc rest)) (sym (drop-drop k (rank_in o (n ∷ []) (i ∷ [])) box))
-     ∙ (sym (drop-take k (suc rest) (drop (rank_in o (n ∷ []) (i ∷ [])) box))
-     ∙ ap (λ m. drop k (take m (drop (rank_in o (n ∷ []) (i ∷ [])) box))) e)))
+    let ranks : rank_in o (n ∷ []) (j ∷ []) ≡ rank_in o (n ∷ []) (i ∷ []) + k = omega arith in (
+      record { limit = h.limit; within = λ p. (omega arith, tt); fits = λ p. omega arith },
+      ap (λ r. take (suc rest) (drop r box)) ranks
+          ∙ (ap (take (suc rest)) (sym (drop-drop k (rank_in o (n ∷ []) (i ∷ [])) box))
+          ∙ (sym (drop-take k (suc rest) (drop (rank_in o (n ∷ []) (i ∷ [])) box))
+          ∙ ap (λ m. drop k (take m (drop (rank_in o (n ∷ []) (i ∷ [])) box))) e)),
+    )
 
 pub walk-later : (o : Order) (ns is : List ℕ) (k left rest j : ℕ) → length is ≡ 1 → length ns ≡ 1 → WalkStands o ns is left → k + rest ≡ left → (0 < rest → j ≡ get_or is 0 0 + k) → WalkStands o ns (j ∷ []) rest × (walk_rest o ns (j ∷ []) rest ≡ drop k (walk_rest o ns is left))
 walk-later o ns [] k left rest j li ln h e at = absurd (omega arith)

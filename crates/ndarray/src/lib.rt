@@ -9,8 +9,8 @@
 pub mod base;
 pub mod iter;
 pub mod order;
-pub mod subviews;
 pub mod reduce;
+pub mod subviews;
 
 pub use crate::base::array::{ArrayBase, ArrayView, ArrayView1};
 pub use crate::base::axis::Axis;

@@ -37,7 +37,7 @@ impl<S: Data, D: Lengths> ArrayBase<S, D> {
     pub fn slice_ok(&self, axis: Axis, slice: &Slice) -> bool
         ensures { IsTrue result ↔ ((axis.0 < length self.now.lengths) × IsSliceOf (slice_index self.now.lengths axis.0) slice.now) }
     {
-        axis.0 < self.ndim() && slice.is_within(self.layout.dim.axis(axis.0))
+        self.axis_ok(axis) && slice.is_within(self.layout.dim.axis(axis.0))
     }
 
     /// The array of the indices that a slice takes on an axis.
@@ -63,7 +63,8 @@ impl<S: Data, D: Lengths> ArrayBase<S, D> {
         ensures whole { IsGrid self.new }
     {
         let (from, len) = slice.extent(self.layout.dim.axis(axis.0));
-        self.layout.cut(axis.0, from, len, slice.step.cast_unsigned());
+        self.layout
+            .cut(axis.0, from, len, slice.step.cast_unsigned());
     }
 
     /// The same cells under another type of dimension; `IncompatibleShape` exactly where that type
@@ -136,7 +137,10 @@ impl<'a, A, D: Lengths> ArrayView<'a, A, D> {
         ensures second_whole { IsGrid result.1 }
     {
         let len = self.layout.dim.axis(axis.0);
-        (self.part(axis.0, 0, index), self.part(axis.0, index, len - index))
+        (
+            self.part(axis.0, 0, index),
+            self.part(axis.0, index, len - index),
+        )
     }
 
     /// The `len` places of an axis from `from` on.

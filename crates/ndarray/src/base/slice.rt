@@ -61,7 +61,11 @@ impl Slice {
     {
         let (start, end) = self.ends(len);
         let taken = ((end - start) as usize).div_ceil(self.step.unsigned_abs());
-        let from = if self.step > 0 { start } else { end.wrapping_sub(1) };
+        let from = if self.step > 0 {
+            start
+        } else {
+            end.wrapping_sub(1)
+        };
         (from.cast_unsigned(), taken)
     }
 }
