@@ -2,6 +2,7 @@ pub mod AddedApart
 pub mod Beside
 pub mod Boxes
 pub mod Cells
+pub mod Cuts
 pub mod Filled
 pub mod Images
 pub mod Items
@@ -15,9 +16,11 @@ pub mod Places
 pub mod RunningSum
 pub mod Selections
 pub mod Sizes
+pub mod Slices
 pub mod Steps
 pub mod Stretching
 pub mod Strides
+pub mod Swaps
 pub mod Unique
 pub mod Verdicts
 pub mod Walks

@@ -1,11 +1,14 @@
 -- Lists: what stands at each place.
-use Rattle.std.proofs.Common.{◌≡◌, ℕ, ◌+◌, ◌<◌, ◌≤◌, min, suc, zero, List, [], ◌∷◌, ◌++◌, length, drop, map, reverse, take, get_or, Option, Some, None, refl, sym, ◌∙◌, ap, arith, subst}
+use Rattle.std.proofs.Common.{◌≡◌, ℕ, ◌+◌, ◌<◌, ◌≤◌, min, suc, zero, List, [], ◌∷◌, ◌++◌, length, drop, map, reverse, take, get_or, Option, Some, None, refl, sym, ◌∙◌, ap, arith, subst, set, swap, insert, remove, get_or-set_other, inl, inr}
 use Rattle.std.specs.Prelude.{filter_map, slice_get, MatchOption, All, IsTrue}
 use Rattle.std.specs.Option.{is_some}
 use Rattle.std.specs.List.{cons_option}
 use Rattle.std.proofs.Math.Seq.{drop-cons}
 use Rattle.std.proofs.lemmas.Option.{slice_get_past, slice_get-get_or}
-use Rattle.std.proofs.lemmas.List.{length-drop, drop_all, reverse-append, get_or_at}
+use Rattle.std.proofs.lemmas.List.{length-drop, drop_all, reverse-append, get_or_at, same_lists}
+use Rattle.std.proofs.lemmas.Bool.{cases_eq}
+use Rattle.std.proofs.lemmas.Grind.{get_or-set_at}
+use Rattle.std.proofs.lemmas.List.Edits.{length-swap, swapped_from_swap}
 use Rattle.std.proofs.lemmas.List.Elements.{All-head, All-tail}
 
 pub reverse-cons : {X : Type 0} (x : X) (xs : List X) → reverse (x ∷ xs) ≡ reverse xs ++ x ∷ []
@@ -126,3 +129,34 @@ nth-from_next xs rest t n m (Some x) em er h =
     let et : t ≡ drop (suc m) xs = cc in
     let sn : suc m ≡ n + 1 = omega arith in
     (sym (ap (slice_get xs) (sym same) ∙ (slice_get-get_or xs m x lt ∙ ap (λ y. Some y) (sym ex))), et ∙ ap (λ k. drop k xs) sn)
+
+-- an element put in place of another is where it was, too
+pub get_or-set_own : (xs : List ℕ) (i j : ℕ) → i < length xs → get_or (set xs i (get_or xs j 0)) j 0 ≡ get_or xs j 0
+get_or-set_own xs i j h =
+    elim (cases_eq j i) [
+      | inl same ↦ get_or-set_at xs i j (get_or xs j 0) 0 same h
+      | inr other ↦ get_or-set_other xs i j (get_or xs j 0) 0 other
+    ]
+
+pub swap-swap : {X : Type 0} (xs : List X) (i j : ℕ) → i < length xs → j < length xs → swap (swap xs i j) i j ≡ xs
+swap-swap xs i j hi hj =
+    let once = swap xs i j in
+    let twice = swap once i j in
+    let l1 = length-swap xs i j in
+    let l2 = length-swap once i j in
+    same_lists twice xs (omega arith)
+    (λ k d lt.
+    let s = swapped_from_swap xs once i j d hi hj refl in
+    let t = swapped_from_swap once twice i j d (omega arith) (omega arith) refl in
+    elim (cases_eq k i) [
+      | inl left ↦ (ap (λ m. get_or twice m d) left ∙ (t.0 ∙ (s.1 ∙ ap (λ m. get_or xs m d) (sym left))))
+      | inr not_left ↦ elim (cases_eq k j) [
+        | inl right ↦ (ap (λ m. get_or twice m d) right ∙ (t.1 ∙ (s.0 ∙ ap (λ m. get_or xs m d) (sym right))))
+        | inr not_right ↦ (t.2 k not_left not_right ∙ s.2 k not_left not_right)
+      ]
+    ])
+
+pub insert-remove : {X : Type 0} (xs : List X) (k : ℕ) (d : X) → k < length xs → insert (remove xs k) k (get_or xs k d) ≡ xs
+insert-remove [] k d h = absurd (omega arith)
+insert-remove (x ∷ xs) zero d h = refl
+insert-remove (x ∷ xs) (suc k) d h = ap (λ ys. x ∷ ys) (insert-remove xs k d (omega arith))

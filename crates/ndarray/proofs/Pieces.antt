@@ -1,6 +1,7 @@
 -- The pieces of an array at the positions of a box: what each of them reaches, and which array it is.
 use Rattle.std.proofs.Common.{◌≡◌, ℕ, ◌+◌, ◌*◌, ◌%◌, ◌<◌, ◌≤◌, ◌^◌, ◌⊎◌, inl, inr, zero, suc, List, [], ◌∷◌, length, get_or, refl, sym, ◌∙◌, ap, arith, subst, Option}
 use Rattle.std.specs.Prelude.{insert, remove}
+use Rattle.std.proofs.Math.Nat.{add-mod-mod}
 use Rattle.ndarray.specs.Index.{InBox}
 use Rattle.ndarray.specs.Limits.{IsWithinLimit}
 use Rattle.ndarray.specs.Grid.{Grid, cell, tabulate, arranged}
@@ -40,7 +41,7 @@ module _ {ns : List ℕ} {start : ℕ} {bs ps steps ms cs : List ℕ} {f : List 
 images-items : {A one : Type 0} (at : ℕ → Option A) (ns : List ℕ) (start : ℕ) (bs : List ℕ) (k : ℕ) → Reaches one at ns start bs → k < length ns → (p : List ℕ) → InBox (get_or ns k 0 ∷ []) p → Rearranges ⊥ ns start bs (remove ns k) (place start (get_or bs k 0 ∷ []) p) (remove bs k) (λ js. insert js k (get_or p 0 0))
 unfolding place dot
 images-items at ns start bs k h lt [] b = absurd b
-images-items at ns start bs k h lt (i ∷ []) b = rearranges-item at ns start bs k i ((start + (i * get_or bs k 0 + 0)) % 2 ^ 64) h lt b.0 (ap (λ x. (start + x) % 2 ^ 64) (omega arith))
+images-items at ns start bs k h lt (i ∷ []) b = rearranges-item at ns start bs k i ((start + (i * get_or bs k 0 + 0)) % 2 ^ 64) h lt b.0 (ap (λ x. (start + x) % 2 ^ 64) (omega arith) ∙ sym (add-mod-mod start (i * get_or bs k 0) (2 ^ 64)))
 images-items at ns start bs k h lt (i ∷ j ∷ p) b = absurd b.1
 
 pub items-images : {A one : Type 0} (at : ℕ → Option A) (ns : List ℕ) (start : ℕ) (bs : List ℕ) (k : ℕ) → Reaches one at ns start bs → k < length ns → AreImages ns start bs (get_or ns k 0 ∷ []) (get_or bs k 0 ∷ []) (remove ns k) (remove bs k) (λ p js. insert js k (get_or p 0 0))

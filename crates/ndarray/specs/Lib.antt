@@ -1,4 +1,6 @@
 pub mod Broadcast
+pub mod Dimensions
+pub mod Errors
 pub mod Grid
 pub mod Index
 pub mod Limits

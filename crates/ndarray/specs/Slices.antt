@@ -32,13 +32,14 @@ pub record IsSliceOf (n : ℕ) (s : Slice) : Type 0 where
 abbrev pub slice_length : ℕ → Slice → ℕ
 slice_length n s = (unsigned_abs (slice_end n s -ℤ slice_start n s) + unsigned_abs s.step - 1) / unsigned_abs s.step
 
--- the index that it takes i-th, by its step: from the start on, or for a negative step back from the one before the end
-abbrev pub stepped : ℕ → Slice → ℤ → ℕ → ℕ
-stepped n s (pos k) i = unsigned_abs (slice_start n s) + i * k
-stepped n s (negsuc k) i = unsigned_abs (slice_end n s) - 1 - i * suc k
+-- the i-th index from `start` up to `end` by a step: from the start on, or for a negative step back from the one before the end
+abbrev pub stepped : ℕ → ℕ → ℤ → ℕ → ℕ
+stepped start end (pos k) i = start + i * k
+stepped start end (negsuc k) i = end - 1 - i * suc k
 
+-- the index that a slice takes i-th
 abbrev pub slice_index_at : ℕ → Slice → ℕ → ℕ
-slice_index_at n s i = stepped n s s.step i
+slice_index_at n s i = stepped (unsigned_abs (slice_start n s)) (unsigned_abs (slice_end n s)) s.step i
 
 -- the array of the indices that the slice takes on an axis
 abbrev pub sliced : {A : Type 0} → Grid A → ℕ → Slice → Grid A

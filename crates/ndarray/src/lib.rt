@@ -21,5 +21,6 @@ pub use crate::base::dimension::{
 pub use crate::base::error::{ErrorKind, ShapeError};
 pub use crate::base::into_dimension::IntoDimension;
 pub use crate::base::shape::{Shape, ShapeBuilder};
+pub use crate::base::slice::Slice;
 pub use crate::base::storage::{Data, ViewRepr};
 pub use crate::reduce::values::{SumElem, Valued};

@@ -37,7 +37,7 @@ impl<S: Data, D: Lengths> ArrayBase<S, D> {
     pub fn slice_ok(&self, axis: Axis, slice: &Slice) -> bool
         ensures { IsTrue result ↔ ((axis.0 < length self.now.lengths) × IsSliceOf (slice_index self.now.lengths axis.0) slice.now) }
     {
-        axis.0 < self.ndim() && slice.is_within(self.layout.dim.axis(axis.0))
+        self.axis_ok(axis) && slice.is_within(self.layout.dim.axis(axis.0))
     }
 
     /// The array of the indices that a slice takes on an axis.

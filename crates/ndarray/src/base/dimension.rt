@@ -4,7 +4,7 @@ ghost use Rattle.std.specs.Prelude.{◌≡◌, ◌⊎◌, List, ℕ, [], ◌∷�
 ghost use Rattle.std.specs.Borrow.{Lends, sem, Array as SliceOf, usize as word};
 ghost use Rattle.std.proofs.Common.{rules, refl};
 ghost use Rattle.std.proofs.lemmas.Grind.{common_steps};
-ghost use Rattle.arrayvec.specs.ArrayVec.{with_items};
+ghost use Rattle.ndarray.specs.Dimensions.{held_numbers, with_held};
 ghost use Rattle.ndarray.specs.Index.{size};
 ghost use Rattle.ndarray.specs.Limits.{IsWithinLimit};
 
@@ -199,8 +199,8 @@ impl DynLengths {
     ghost use Rattle.ndarray.specs.contracts.base.dimension.DynLengths.{the_row};
 
     fn lengths_mut(&mut self) -> &mut [usize]
-        ensures* writes_back { sem 𝓛 (Lends the_row (SliceOf word 0) self.entry result (λ ns. record { held = with_items self.old.held ns })) }
-        ensures now { result.now ≡ self.old.held.items }
+        ensures* writes_back { sem 𝓛 (Lends the_row (SliceOf word 0) self.entry result (with_held self.old)) }
+        ensures now { result.now ≡ held_numbers self.old }
     {
         self.held.as_mut_slice()
     }
@@ -275,7 +275,7 @@ pub fn Ix6(a: usize, b: usize, c: usize, d: usize, e: usize, f: usize) -> Ix6
 /// The dimension of the numbers of a slice, of which the caller owes at most 32.
 pub fn IxDyn(numbers: &[usize]) -> IxDyn
     requires { length numbers.now ≤ 32 }
-    ensures { result.0.held.items ≡ numbers.now }
+    ensures { held_numbers result.0 ≡ numbers.now }
 {
     match ArrayVec::try_from(numbers) {
         Ok(held) => Dim(DynLengths { held }),
@@ -318,11 +318,11 @@ impl<const N: usize> Lengths for Dim<[usize; N]> {
 }
 
 impl Lengths for Dim<DynLengths> {
-    ghost numbers = { λ d. d.0.held.items };
+    ghost numbers = { λ d. held_numbers d.0 };
 
     ghost has_axes = { λ n. n ≤ 32 };
 
-    ghost with_numbers = { λ d ns. record { 0 = record { held = with_items d.0.held ns } } };
+    ghost with_numbers = { λ d ns. record { 0 = with_held d.0 ns } };
 
     ghost with_numbers_law = { Prim.search (rules, common_steps) };
 
@@ -506,7 +506,7 @@ impl Dimension for Dim<DynLengths> {
 
     type Larger = IxDyn;
 
-    ghost pattern_numbers = { λ d. d.0.held.items };
+    ghost pattern_numbers = { λ d. held_numbers d.0 };
 
     ghost smaller_has = { Prim.search rules };
 

@@ -1,6 +1,7 @@
 //! Refusals of shapes.
 
-ghost use Rattle.std.specs.Prelude.{◌≡◌};
+ghost use Rattle.std.specs.Prelude.{◌≡◌, Some};
+ghost use Rattle.ndarray.specs.Errors.{refusal, refusal_text};
 
 use std::fmt;
 
@@ -30,29 +31,33 @@ pub struct ShapeError {
 impl ShapeError {
     /// The refusal of a kind.
     pub fn from_kind(kind: ErrorKind) -> Self
-        ensures { result.kind ≡ kind }
+        ensures { result ≡ refusal kind }
     {
         ShapeError { kind }
     }
 
     /// What the shape offends against.
     pub fn kind(&self) -> ErrorKind
-        ensures { result ≡ self.now.kind }
+        ensures { self.now ≡ refusal result }
     {
         self.kind
     }
 }
 
 impl fmt::Display for ShapeError {
+    ghost output = { λ e. Some (refusal_text e) };
+
     fn fmt<W: fmt::Write>(&self, f: &mut fmt::Formatter<W>) -> fmt::Result {
-        let description = match self.kind {
-            ErrorKind::IncompatibleShape => "incompatible shapes",
-            ErrorKind::IncompatibleLayout => "incompatible memory layout",
-            ErrorKind::RangeLimited => "the shape does not fit in type limits",
-            ErrorKind::OutOfBounds => "out of bounds indexing",
-            ErrorKind::Unsupported => "unsupported operation",
-            ErrorKind::Overflow => "arithmetic overflow",
+        let text = match self.kind {
+            ErrorKind::IncompatibleShape => "ShapeError/IncompatibleShape: incompatible shapes",
+            ErrorKind::IncompatibleLayout =>
+                "ShapeError/IncompatibleLayout: incompatible memory layout",
+            ErrorKind::RangeLimited =>
+                "ShapeError/RangeLimited: the shape does not fit in type limits",
+            ErrorKind::OutOfBounds => "ShapeError/OutOfBounds: out of bounds indexing",
+            ErrorKind::Unsupported => "ShapeError/Unsupported: unsupported operation",
+            ErrorKind::Overflow => "ShapeError/Overflow: arithmetic overflow",
         };
-        f.write_str(description)
+        f.write_str(text)
     }
 }

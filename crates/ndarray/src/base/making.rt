@@ -1,7 +1,9 @@
 //! Making arrays and views.
 
-ghost use Rattle.std.specs.Prelude.{◌≡◌, ◌≤◌, ◌↔◌, length, take, IsOk, IfOk};
+ghost use Rattle.std.specs.Prelude.{◌≡◌, ◌<◌, ◌≤◌, ◌↔◌, length, take, IsOk, IfOk, IsErrOf};
+ghost use Rattle.ndarray.specs.Errors.{refusal};
 ghost use Rattle.ndarray.specs.Grid.{IsGrid};
+ghost use Rattle.ndarray.specs.declared.base.error.ErrorKind.TheVariants.{OutOfBounds, Overflow};
 ghost use Rattle.ndarray.specs.Index.{size};
 ghost use Rattle.ndarray.specs.Limits.{IsWithinLimit};
 ghost use Rattle.ndarray.specs.Orders.{HasInOrder, cells_in};
@@ -29,6 +31,8 @@ impl<'a, A, D: Dimension> ArrayView<'a, A, D> {
         slice: &'a [A],
     ) -> Result<Self, ShapeError>
         ensures accepts { IsOk result ↔ (IsWithinLimit (Sh.shape_lengths shape) × (size (Sh.shape_lengths shape) ≤ length slice.now)) }
+        ensures overflow { IsErrOf result (refusal Overflow) ↔ (IsWithinLimit (Sh.shape_lengths shape) → ⊥) }
+        ensures short { IsErrOf result (refusal OutOfBounds) ↔ (IsWithinLimit (Sh.shape_lengths shape) × (length slice.now < size (Sh.shape_lengths shape))) }
         ensures lengths { IfOk result (λ v. v.lengths ≡ Sh.shape_lengths shape) }
         ensures cells { IfOk result (λ v. HasInOrder (Sh.shape_order shape) v (take (size v.lengths) slice.now)) }
         ensures list { IfOk result (λ v. cells_in (Sh.shape_order shape) v ≡ take (size v.lengths) slice.now) }

@@ -1,6 +1,7 @@
 //! Orders of a box, and shapes: lengths with the order in which their cells are stored.
 
 ghost use Rattle.std.specs.Prelude.{◌≡◌, List, ℕ};
+ghost use Rattle.ndarray.specs.Dimensions.{shape_dim, stored_in};
 ghost use Rattle.ndarray.specs.declared.base.shape.Order.{Order};
 ghost use Rattle.ndarray.specs.declared.base.shape.Order.TheVariants.{ColumnMajor, RowMajor};
 
@@ -37,8 +38,8 @@ pub trait ShapeBuilder: Sized {
 
     /// The shape.
     fn into_shape_with_order(self) -> Shape<Self::Dim>
-        ensures lengths { Self.Dim.numbers result.dim ≡ shape_lengths self }
-        ensures order { result.order ≡ shape_order self };
+        ensures lengths { Self.Dim.numbers (shape_dim result) ≡ shape_lengths self }
+        ensures order { stored_in result ≡ shape_order self };
 
     /// The shape stored column-major.
     ///
@@ -46,8 +47,8 @@ pub trait ShapeBuilder: Sized {
     /// let view = ArrayView::from_shape((2, 3).f(), &[1, 4, 2, 5, 3, 6]);
     /// ```
     fn f(self) -> Shape<Self::Dim>
-        ensures lengths { Self.Dim.numbers result.dim ≡ shape_lengths self }
-        ensures order { result.order ≡ ColumnMajor };
+        ensures lengths { Self.Dim.numbers (shape_dim result) ≡ shape_lengths self }
+        ensures order { stored_in result ≡ ColumnMajor };
 }
 
 impl<T: IntoDimension> ShapeBuilder for T {
@@ -75,9 +76,9 @@ impl<T: IntoDimension> ShapeBuilder for T {
 impl<D: Dimension> ShapeBuilder for Shape<D> {
     type Dim = D;
 
-    ghost shape_lengths = { λ s. D.numbers s.dim };
+    ghost shape_lengths = { λ s. D.numbers (shape_dim s) };
 
-    ghost shape_order = { λ s. s.order };
+    ghost shape_order = { λ s. stored_in s };
 
     fn into_shape_with_order(self) -> Shape<D> {
         self

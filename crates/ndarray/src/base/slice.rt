@@ -1,8 +1,10 @@
 //! Slices of an axis.
 
-ghost use Rattle.std.specs.Prelude.{◌≡◌, ℕ, ◌+◌, ◌*◌, ◌%◌, ◌^◌, ◌<◌, ◌↔◌, IsTrue};
+ghost use Rattle.std.specs.Prelude.{◌≡◌, ℕ, ◌+◌, ◌*◌, ◌%◌, ◌^◌, ◌<◌, ◌↔◌, IsTrue, pos, Some, None};
 ghost use Rattle.std.specs.Int.{cast_unsigned, w64};
 ghost use Rattle.ndarray.specs.Slices.{IsSliceOf, counted, slice_end, slice_index_at, slice_length, slice_start};
+
+use std::ops::{Range, RangeFrom, RangeFull, RangeTo};
 
 /// Every `step`-th index of an axis, from `start` up to `end`, or for a negative step back from the
 /// index before `end`.
@@ -65,6 +67,42 @@ impl Slice {
             end.wrapping_sub(1)
         };
         (from.cast_unsigned(), taken)
+    }
+}
+
+/// The indices of a range, each of them.
+impl From<Range<isize>> for Slice {
+    ghost from_gives = { λ range s. s ≡ record { start = range.start; end = Some range.end; step = pos 1 } };
+
+    fn from(range: Range<isize>) -> Slice {
+        Slice::new(range.start, Some(range.end), 1)
+    }
+}
+
+/// The indices from a start on.
+impl From<RangeFrom<isize>> for Slice {
+    ghost from_gives = { λ range s. s ≡ record { start = range.start; end = None; step = pos 1 } };
+
+    fn from(range: RangeFrom<isize>) -> Slice {
+        Slice::new(range.start, None, 1)
+    }
+}
+
+/// The indices up to an end.
+impl From<RangeTo<isize>> for Slice {
+    ghost from_gives = { λ range s. s ≡ record { start = pos 0; end = Some range.end; step = pos 1 } };
+
+    fn from(range: RangeTo<isize>) -> Slice {
+        Slice::new(0, Some(range.end), 1)
+    }
+}
+
+/// All indices.
+impl From<RangeFull> for Slice {
+    ghost from_gives = { λ _ s. s ≡ record { start = pos 0; end = None; step = pos 1 } };
+
+    fn from(_range: RangeFull) -> Slice {
+        Slice::new(0, None, 1)
     }
 }
 

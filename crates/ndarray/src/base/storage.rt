@@ -1,6 +1,6 @@
 //! What arrays keep their elements in.
 
-ghost use Rattle.std.specs.Prelude.{◌≡◌, ℕ, slice_get, Some, Option, IsTrue};
+ghost use Rattle.std.specs.Prelude.{◌≡◌, ℕ, slice_get, Some, Option, IsTrue, ⊤};
 ghost use Rattle.std.specs.Option.{is_some};
 ghost use Rattle.ndarray.specs.base.Storage.{seen_at};
 
@@ -34,6 +34,10 @@ pub struct ViewRepr<'a, A> {
 }
 
 impl<'a, A> Clone for ViewRepr<'a, A> {
+    ghost is_clone = { λ s r. r ≡ s };
+
+    ghost is_infallible = { λ _. ⊤ };
+
     fn clone(&self) -> Result<Self, AllocError> {
         Ok(*self)
     }

@@ -1,4 +1,4 @@
-use Rattle.std.proofs.Common.{◌≡◌, ◌+◌, ◌-◌, ◌<◌, ◌≤◌, ◌^◌, ◌∷◌, [], ap, ◌∙◌, arith, rules, length, drop, get_or, inl, inr}
+use Rattle.std.proofs.Common.{◌≡◌, ◌+◌, ◌-◌, ◌∷◌, [], ap, ◌∙◌, arith, rules, length, drop, inl, inr}
 use Rattle.std.proofs.lemmas.Bool.{cases_lt}
 use Rattle.ndarray.specs.order.Steps.{WalkStands, walk_rest}
 use Rattle.ndarray.proofs.Walks.{walk-later, length-walk_rest, one-fits}

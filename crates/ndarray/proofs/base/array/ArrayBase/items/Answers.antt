@@ -1,5 +1,5 @@
-use Rattle.std.proofs.Common.{ap, length, arith, ◌≡◌, ◌<◌, ◌∷◌, [], get_or, sym, refl}
-use Rattle.std.specs.Prelude.{remove, insert, slice_index}
+use Rattle.std.proofs.Common.{ap, length, arith, ◌<◌, ◌∷◌, [], get_or}
+use Rattle.std.specs.Prelude.{remove, insert}
 use Rattle.ndarray.proofs.Pieces.{AreImages, items-images, pieces-reach, pieces-seen}
 use Rattle.ndarray.proofs.base.array.ArrayBase.items.Goals as goal
 

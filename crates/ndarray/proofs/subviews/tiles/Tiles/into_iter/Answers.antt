@@ -1,6 +1,6 @@
-use Rattle.std.proofs.Common.{sym, ap, ◌∙◌, ◌≡◌, subst, filter_map, arith, length}
+use Rattle.std.proofs.Common.{ap, ◌∙◌, filter_map, arith, length}
 use Rattle.ndarray.specs.Index.{row_order}
-use Rattle.ndarray.specs.Grid.{HasCells, cell}
+use Rattle.ndarray.specs.Grid.{cell}
 use Rattle.ndarray.proofs.Cells.{along-row_order}
 use Rattle.ndarray.proofs.Sizes.{size-le}
 use Rattle.ndarray.proofs.subviews.tiles.Tiles.into_iter.Goals as goal

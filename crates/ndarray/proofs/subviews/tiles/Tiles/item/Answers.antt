@@ -1,4 +1,4 @@
-use Rattle.std.proofs.Common.{◌≡◌, sym, ◌∙◌, ap, subst, length, arith}
+use Rattle.std.proofs.Common.{sym, ◌∙◌, ap, subst, length, arith}
 use Rattle.ndarray.specs.Index.{InBox}
 use Rattle.ndarray.specs.Grid.{cell}
 use Rattle.ndarray.proofs.Boxes.{InBox-length}

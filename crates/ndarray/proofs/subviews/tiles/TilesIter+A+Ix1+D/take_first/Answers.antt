@@ -1,6 +1,5 @@
-use Rattle.std.proofs.Common.{sym, ap, ◌∙◌, ◌≡◌, length, take, drop, subst, filter_map, arith}
-use Rattle.ndarray.specs.Grid.{HasCells, cell}
-use Rattle.ndarray.proofs.Cells.{length-along, along-take, along-drop, HasCells-take, HasCells-drop}
+use Rattle.std.proofs.Common.{ap, ◌∙◌, length, take, drop, arith}
+use Rattle.ndarray.proofs.Cells.{length-along, along-take, along-drop}
 use Rattle.ndarray.proofs.subviews.tiles.TilesIter+A+Ix1+D.take_first.Goals as goal
 
 pub take_first-requires : goal.take_first-requires

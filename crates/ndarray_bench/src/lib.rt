@@ -1,0 +1,6 @@
+//! What the library's tests stand on.
+#![tactic(auto)]
+
+pub mod refusing;
+#[cfg(test)]
+mod tests;

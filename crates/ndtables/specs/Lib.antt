@@ -1,0 +1,4 @@
+pub mod Answering
+pub mod Reading
+pub mod Spelling
+pub mod Stored

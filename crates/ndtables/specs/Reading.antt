@@ -1,0 +1,31 @@
+-- What is read off the words of a command line.
+use Rattle.std.specs.Prelude.{◌≡◌, ℕ, ℤ, List, [], ◌∷◌, ◌++◌, map, All}
+use Rattle.std.specs.Fmt.{signed_decimal}
+use Rattle.std.specs.Str.Parse.{signed_digits_value}
+use Rattle.ndarray.specs.Grid.{Grid}
+use Rattle.ndarray.specs.Sums.{total}
+use Rattle.ndarray.specs.Whole.{int_sums}
+use Rattle.ndarray.specs.declared.base.shape.Order.{Order}
+use Rattle.ndtables.specs.Spelling.{IsSignedDigits, SpellsShape}
+
+-- of the words `old` the first were read as these numbers, a word each, and `new` are left
+pub record ReadsNumbers (old new : List (List ℕ)) (numbers : List ℤ) : Type 0 where
+  pub read : List (List ℕ)
+  pub words : old ≡ read ++ new
+  pub spelled : All IsSignedDigits read
+  pub values : numbers ≡ map (signed_digits_value 10) read
+
+-- of the words `old` a shape word and then its cells in row order were read, and `new` are left
+pub record ReadsTable (old new : List (List ℕ)) (table : Grid ℤ) : Type 0 where
+  pub word : List ℕ
+  pub order : Order
+  pub rest : List (List ℕ)
+  pub words : old ≡ word ∷ rest
+  pub shape : SpellsShape word table.lengths order
+  pub cells : ReadsNumbers rest new table.cells
+
+-- all of the words were read as a table, and the text is the sum of its cells, as a line
+pub record PrintsSum (words : List (List ℕ)) (text : List ℕ) : Type 0 where
+  pub table : Grid ℤ
+  pub read : ReadsTable words [] table
+  pub line : text ≡ signed_decimal (total int_sums table.cells) ++ 10 ∷ []

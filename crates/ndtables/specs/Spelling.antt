@@ -1,0 +1,30 @@
+-- How numbers and shapes are spelled.
+use Rattle.std.specs.Prelude.{◌≡◌, ℕ, ◌<◌, List, [], ◌∷◌, ◌++◌, length, map, All}
+use Rattle.std.specs.List.{join_with_byte}
+use Rattle.std.specs.Str.Parse.{IsNumeral, digits_value, without_leading_sign}
+use Rattle.ndarray.specs.declared.base.shape.Order.{Order}
+use Rattle.ndarray.specs.declared.base.shape.Order.TheVariants.{RowMajor, ColumnMajor}
+
+-- one or more decimal digits
+abbrev pub IsDigits : List ℕ → Type 0
+IsDigits bs = IsNumeral 10 bs
+
+-- one or more decimal digits after an optional sign
+abbrev pub IsSignedDigits : List ℕ → Type 0
+IsSignedDigits bs = IsNumeral 10 (without_leading_sign bs)
+
+-- `.` spells no lengths; digits joined by `x` spell one length each
+pub data SpellsLengths : List ℕ → List ℕ → Type 0 where
+  none : SpellsLengths (46 ∷ []) []
+  some : (pieces : List (List ℕ)) → 0 < length pieces → All IsDigits pieces → SpellsLengths (join_with_byte 120 pieces) (map (digits_value 10) pieces)
+
+-- what stands behind the lengths: `f` where the table is stored column-major
+abbrev pub ending : Order → List ℕ
+ending RowMajor = []
+ending ColumnMajor = 102 ∷ []
+
+-- the word spells a shape: its lengths, and the order of storage
+pub record SpellsShape (word ns : List ℕ) (order : Order) : Type 0 where
+  pub spelled : List ℕ
+  pub lengths : SpellsLengths spelled ns
+  pub ends : word ≡ spelled ++ ending order

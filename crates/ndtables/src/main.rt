@@ -1,0 +1,34 @@
+//! Sums of tables: `ndtables COMMAND ARGS`.
+#![tactic(auto)]
+
+mod command;
+mod fault;
+mod program;
+mod spelling;
+mod table;
+#[cfg(test)]
+mod tests;
+mod words;
+
+use crate::fault::Fault;
+use std::process::ExitCode;
+use std::rt::Env;
+use std::{env, io};
+
+fn main(rt: HostRuntime) -> ExitCode {
+    let status = match given_words(&rt) {
+        Ok(words) => program::run(
+            rt.alloc(),
+            words.as_slice(),
+            &mut rt.stdout(),
+            &mut rt.stderr(),
+        ),
+        Err(_) => program::report(Fault::Memory, &mut rt.stderr()),
+    };
+    ExitCode::from(status)
+}
+
+/// The words after the program's name.
+fn given_words<R: Env + AllocGlobal>(rt: &R) -> io::Result<Vec<String>> {
+    Ok(env::args(rt)?.skip(1).collect(rt.alloc())?)
+}

@@ -1,0 +1,70 @@
+//! How lengths, cells and shapes are spelled.
+
+ghost use Rattle.std.specs.Prelude.{◌≡◌, ◌<◌, ◌^◌, SomeIff, IfOk, IfErr};
+ghost use Rattle.std.specs.Int.{w64};
+ghost use Rattle.std.specs.Str.Parse.{digits_value, ParsesSigned};
+ghost use Rattle.ndarray.specs.Limits.{IsWithinLimit};
+ghost use Rattle.ndtables.specs.Spelling.{IsDigits, SpellsLengths, SpellsShape};
+
+use crate::fault::Fault;
+use arrayvec::ArrayVec;
+use ndarray::order::Order;
+use ndarray::{IxDyn, Lengths};
+
+/// A length: one or more ASCII digits that fit `usize`.
+pub fn length(word: &str) -> Option<usize>
+    ensures { SomeIff result (IsDigits word.now × (digits_value 10 word.now < 2 ^ 64)) (digits_value 10 word.now) }
+{
+    // Before a number `parse` takes a sign too.
+    if let [b'+', ..] = word.as_bytes() {
+        return None;
+    }
+    word.parse::<usize>().ok()
+}
+
+/// A cell: one or more ASCII digits after an optional `+` or `-`, that fit `i64`.
+pub fn cell(word: &str) -> Result<i64, Fault>
+    ensures value { ParsesSigned w64 10 word.now result }
+    ensures err { IfErr result (λ fault. fault ≡ Fault.Number) }
+{
+    word.parse::<i64>().map_err(|_| Fault::Number)
+}
+
+/// A shape word: `.` for no axes, or lengths joined by `x`, and at its end an `f` where the table
+/// is stored column-major.
+pub fn shape(word: &str) -> Result<(IxDyn, Order), Fault>
+    ensures spelled { IfOk result (λ shape. SpellsShape word.now (⟦<IxDyn as Lengths>⟧.numbers shape.0) shape.1) }
+    ensures limit { IfOk result (λ shape. IsWithinLimit (⟦<IxDyn as Lengths>⟧.numbers shape.0)) }
+    ensures err { IfErr result (λ fault. fault ≡ Fault.Shape) }
+{
+    let (spelled, order) = match word.strip_suffix('f') {
+        Some(spelled) => (spelled, Order::ColumnMajor),
+        None => (word, Order::RowMajor),
+    };
+    let dim = lengths(spelled)?;
+    if !dim.size_ok() {
+        return Err(Fault::Shape);
+    }
+    Ok((dim, order))
+}
+
+/// `.` for no lengths, or lengths joined by `x`, of which there are at most 32.
+fn lengths(word: &str) -> Result<IxDyn, Fault>
+    ensures spelled { IfOk result (λ dim. SpellsLengths word.now (⟦<IxDyn as Lengths>⟧.numbers dim)) }
+    ensures err { IfErr result (λ fault. fault ≡ Fault.Shape) }
+{
+    if word == "." {
+        return Ok(IxDyn(&[]));
+    }
+    let mut axes: ArrayVec<usize, 32> = ArrayVec::new();
+    for piece in word.split('x') {
+        let Some(len) = length(piece) else {
+            return Err(Fault::Shape);
+        };
+        if axes.is_full() {
+            return Err(Fault::Shape);
+        }
+        axes.push(len);
+    }
+    Ok(IxDyn(axes.as_slice()))
+}

@@ -1,0 +1,205 @@
+//! What `run` prints and answers.
+
+use crate::program::run;
+use std::alloc::{AllocError, Global};
+use std::io;
+use std::io::Write;
+use std::test::Fail;
+
+fn words_of(alloc: Global, line: &str) -> Result<Vec<String>, AllocError> {
+    let mut words = Vec::new(alloc);
+    for word in line.split(' ') {
+        words.push(word.to_string(alloc)?)?;
+    }
+    Ok(words)
+}
+
+/// Holds what it was given, and refuses each call from the one with the number `refused` on.
+struct Stream {
+    held: Vec<u8>,
+    calls: usize,
+    refused: usize,
+}
+
+impl Drop for Stream {
+    fn drop(self) {
+        let Stream {
+            held: _,
+            calls: _,
+            refused: _,
+        } = self;
+    }
+}
+
+impl Stream {
+    fn new(alloc: Global, refused: usize) -> Stream {
+        Stream {
+            held: Vec::new(alloc),
+            calls: 0,
+            refused,
+        }
+    }
+
+    fn call(&mut self) -> io::Result<()> {
+        self.calls = self.calls.saturating_add(1);
+        if self.calls < self.refused {
+            Ok(())
+        } else {
+            Err(io::Error::from(io::ErrorKind::BrokenPipe))
+        }
+    }
+}
+
+impl Write for Stream {
+    fn write(&mut self, buf: &[u8]) -> io::Result<usize> {
+        self.call()?;
+        self.held.write(buf)
+    }
+
+    fn flush(&mut self) -> io::Result<()> {
+        self.call()
+    }
+}
+
+#[test]
+fn prints_sums(rt: HostRuntime) -> Result<(), Fail> {
+    let alloc = rt.alloc();
+    for (line, printed) in [
+        ("sum 2x3f 1 2 3 4 5 6", "21\n"),
+        ("sum 2x3 1 2 3 4 5 6", "21\n"),
+        ("sum . 7", "7\n"),
+        ("sum .f 7", "7\n"),
+        ("sum 2 9223372036854775807 -1", "9223372036854775806\n"),
+        ("sum 1 -9223372036854775808", "-9223372036854775808\n"),
+        (
+            "sum 1 00000000000000000000009223372036854775807",
+            "9223372036854775807\n",
+        ),
+        ("sum 3 +5 -0 +00", "5\n"),
+        ("sum 002 1 2", "3\n"),
+        ("sum 0", "0\n"),
+        ("sum 4611686018427387904x0", "0\n"),
+        ("sum 0x4611686018427387904f", "0\n"),
+        (
+            "sum 1x1x1x1x1x1x1x1x1x1x1x1x1x1x1x1x1x1x1x1x1x1x1x1x1x1x1x1x1x1x1x1 5",
+            "5\n",
+        ),
+    ] {
+        let mut out = Vec::new(alloc);
+        let mut err = Vec::new(alloc);
+        let status = run(alloc, words_of(alloc, line)?.as_slice(), &mut out, &mut err);
+        assert_eq!(rt; out.as_slice(), printed.as_bytes(), "{line}");
+        assert_eq!(rt; err.as_slice(), b"".as_slice(), "{line}");
+        assert_eq!(rt; status, 0, "{line}");
+    }
+    Ok(())
+}
+
+#[test]
+fn prints_faults(rt: HostRuntime) -> Result<(), Fail> {
+    let alloc = rt.alloc();
+    for (line, printed) in [
+        // Words that are missing, unknown or left over.
+        ("", "ndtables: usage\n"),
+        ("sum", "ndtables: usage\n"),
+        ("product 1 2", "ndtables: usage\n"),
+        ("SUM . 7", "ndtables: usage\n"),
+        ("sum .", "ndtables: usage\n"),
+        ("sum 2 1", "ndtables: usage\n"),
+        ("sum 2 a", "ndtables: usage\n"),
+        ("sum 2 1 2 3", "ndtables: usage\n"),
+        ("sum 0 1", "ndtables: usage\n"),
+        ("sum 9223372036854775807", "ndtables: usage\n"),
+        // Left over words are found last of what is read, and before the answer is made.
+        ("sum 2 1 a 3", "ndtables: number\n"),
+        ("sum 2 9223372036854775807 1 3", "ndtables: usage\n"),
+        // Words that are no shape words.
+        ("sum ", "ndtables: shape\n"),
+        ("sum f", "ndtables: shape\n"),
+        ("sum .. 7", "ndtables: shape\n"),
+        ("sum .x1 7", "ndtables: shape\n"),
+        ("sum 2x 1 2", "ndtables: shape\n"),
+        ("sum x2 1 2", "ndtables: shape\n"),
+        ("sum 2xx2 1 2 3 4", "ndtables: shape\n"),
+        ("sum +2 1 2", "ndtables: shape\n"),
+        ("sum -2 1 2", "ndtables: shape\n"),
+        ("sum 2ff 1 2", "ndtables: shape\n"),
+        ("sum 2x3ff 1 2 3 4 5 6", "ndtables: shape\n"),
+        ("sum 2fx3 1 2 3 4 5 6", "ndtables: shape\n"),
+        ("sum 2F 1 2", "ndtables: shape\n"),
+        ("sum 2X3 1 2 3 4 5 6", "ndtables: shape\n"),
+        // Shapes beyond the limits, before the words left are counted.
+        (
+            "sum 1x1x1x1x1x1x1x1x1x1x1x1x1x1x1x1x1x1x1x1x1x1x1x1x1x1x1x1x1x1x1x1x1 5",
+            "ndtables: shape\n",
+        ),
+        ("sum 9223372036854775808x0", "ndtables: shape\n"),
+        ("sum 18446744073709551616", "ndtables: shape\n"),
+        ("sum 4611686018427387904x2", "ndtables: shape\n"),
+        // Cells.
+        ("sum 2 1 a", "ndtables: number\n"),
+        ("sum 1 -", "ndtables: number\n"),
+        ("sum 1 +", "ndtables: number\n"),
+        ("sum 1 ", "ndtables: number\n"),
+        ("sum 1 +-1", "ndtables: number\n"),
+        ("sum 1 1.0", "ndtables: number\n"),
+        ("sum 1 9223372036854775808", "ndtables: number\n"),
+        ("sum 1 -9223372036854775809", "ndtables: number\n"),
+        ("sum 1 10000000000000000000", "ndtables: number\n"),
+        // Sums.
+        ("sum 2 9223372036854775807 1", "ndtables: range\n"),
+        ("sum 3f 9223372036854775807 -1 1", "ndtables: range\n"),
+        ("sum 2 -9223372036854775808 -1", "ndtables: range\n"),
+    ] {
+        let mut out = Vec::new(alloc);
+        let mut err = Vec::new(alloc);
+        let status = run(alloc, words_of(alloc, line)?.as_slice(), &mut out, &mut err);
+        assert_eq!(rt; err.as_slice(), printed.as_bytes(), "{line}");
+        assert_eq!(rt; out.as_slice(), b"".as_slice(), "{line}");
+        assert_eq!(rt; status, 2, "{line}");
+    }
+    Ok(())
+}
+
+#[test]
+fn wants_a_command(rt: HostRuntime) -> Result<(), Fail> {
+    let alloc = rt.alloc();
+    let words: Vec<String> = Vec::new(alloc);
+    let mut out = Vec::new(alloc);
+    let mut err = Vec::new(alloc);
+    assert_eq!(rt; run(alloc, words.as_slice(), &mut out, &mut err), 2);
+    assert_eq!(rt; err.as_slice(), b"ndtables: usage\n".as_slice());
+    assert_eq!(rt; out.as_slice(), b"".as_slice());
+    Ok(())
+}
+
+#[test]
+fn ends_at_a_fault_of_the_output(rt: HostRuntime) -> Result<(), Fail> {
+    let alloc = rt.alloc();
+    let words = words_of(alloc, "sum 2x3f 1 2 3 4 5 6")?;
+    // The first call writes the answer, and the second flushes it.
+    for (refused, printed) in [(1, ""), (2, "21\n")] {
+        let mut out = Stream::new(alloc, refused);
+        let mut err = Vec::new(alloc);
+        assert_eq!(rt; run(alloc, words.as_slice(), &mut out, &mut err), 2);
+        assert_eq!(rt; out.held.as_slice(), printed.as_bytes());
+        assert_eq!(rt; out.calls, refused);
+        assert_eq!(rt; err.as_slice(), b"".as_slice());
+    }
+    Ok(())
+}
+
+#[test]
+fn ends_at_a_fault_of_the_error_stream(rt: HostRuntime) -> Result<(), Fail> {
+    let alloc = rt.alloc();
+    let words = words_of(alloc, "sum 2 1")?;
+    for refused in 1..6 {
+        let mut out = Vec::new(alloc);
+        let mut err = Stream::new(alloc, refused);
+        assert_eq!(rt; run(alloc, words.as_slice(), &mut out, &mut err), 2);
+        assert!(rt; b"ndtables: usage\n".starts_with(err.held.as_slice()));
+        assert!(rt; err.calls <= refused);
+        assert_eq!(rt; out.as_slice(), b"".as_slice());
+    }
+    Ok(())
+}

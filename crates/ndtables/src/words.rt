@@ -1,0 +1,89 @@
+//! The words of a command line, read from left to right.
+
+ghost use Rattle.std.specs.Prelude.{◌≡◌, ◌↔◌, ◌∷◌, [], map, length, IfOk, IfErr, OnErr, MatchResult, IsOk, string_bytes};
+ghost use Rattle.ndtables.specs.Reading.{ReadsNumbers, ReadsTable};
+
+use crate::fault::Fault;
+use crate::spelling;
+use crate::table::Table;
+use ndarray::{IxDyn, Lengths};
+use std::alloc::Global;
+use std::marker::Model;
+
+/// The words that are still to be read.
+#[derive(Drop)]
+pub struct Words<'a> {
+    rest: &'a [String],
+}
+
+impl<'a> Model for Words<'a> {
+    ghost use Rattle.std.specs.Prelude.{ℕ, List, map, string_bytes};
+
+    ghost Value = { List (List ℕ) };
+
+    ghost view = { λ w. map string_bytes w.rest.now };
+}
+
+impl<'a> Words<'a> {
+    /// All of the words are still to be read.
+    pub fn new(words: &'a [String]) -> Self
+        ensures { result ≡ map string_bytes words.now }
+    {
+        Words { rest: words }
+    }
+
+    /// How many words are still to be read.
+    pub fn len(&self) -> usize
+        ensures { result ≡ length self.now }
+    {
+        self.rest.len()
+    }
+
+    /// Reads the next word. Where there is none the fault is `usage`.
+    pub fn word(&mut self) -> Result<&'a str, Fault>
+        ensures cases { MatchResult result (λ word. self.old ≡ word.now ∷ self.new) (λ fault. (self.old ≡ []) × (fault ≡ Fault.Usage)) }
+        ensures err { OnErr result (self.new ≡ self.old) }
+    {
+        let (word, rest) = self.rest.split_first().ok_or(Fault::Usage)?;
+        self.rest = rest;
+        Ok(word.as_str())
+    }
+
+    /// Reads the next words as a table: a shape word, and then as many cells as the shape has, in
+    /// row order. That there are so many words is tested before any cell is read.
+    pub fn table(&mut self, alloc: Global) -> Result<Table<IxDyn>, Fault>
+        ensures { IfOk result (ReadsTable self.old self.new) }
+    {
+        let (dim, order) = spelling::shape(self.word()?)?;
+        let size = dim.size();
+        if self.len() < size {
+            return Err(Fault::Usage);
+        }
+        let cells = self.cells(alloc, size)?;
+        Ok(Table::new(alloc, dim, order, cells)?)
+    }
+
+    /// Reads the next words as cells.
+    fn cells(&mut self, alloc: Global, count: usize) -> Result<Vec<i64>, Fault>
+        ensures as_many { IfOk result (λ cells. length cells.items ≡ count) }
+        ensures read { IfOk result (λ cells. ReadsNumbers self.old self.new cells.items) }
+    {
+        let mut cells = Vec::with_capacity(alloc, count)?;
+        for _ in 0..count {
+            cells.push(spelling::cell(self.word()?)?)?;
+        }
+        Ok(cells)
+    }
+
+    /// Tests that no word is left over. Else the fault is `usage`.
+    pub fn end(&self) -> Result<(), Fault>
+        ensures none_left { IsOk result ↔ (self.now ≡ []) }
+        ensures err { IfErr result (λ fault. fault ≡ Fault.Usage) }
+    {
+        if self.rest.is_empty() {
+            Ok(())
+        } else {
+            Err(Fault::Usage)
+        }
+    }
+}
