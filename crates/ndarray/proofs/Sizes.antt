@@ -192,3 +192,8 @@ nonzero-insert_one ns zero = omega arith
 nonzero-insert_one [] (suc k) = omega arith
 nonzero-insert_one (zero ∷ ns) (suc k) = nonzero-insert_one ns k
 nonzero-insert_one (suc n ∷ ns) (suc k) = ap (λ x. suc n * x) (nonzero-insert_one ns k)
+
+-- one length that fits a signed word is a shape within the limit
+pub limit-one : (n : ℕ) → n < 2 ^ 63 → nonzero_size (n ∷ []) < 2 ^ 63
+limit-one zero h = omega arith
+limit-one (suc n) h = omega arith

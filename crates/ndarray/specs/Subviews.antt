@@ -1,5 +1,6 @@
 -- Subviews by index equations, and at which positions they are. Positions come in row order.
 use Rattle.std.specs.Prelude.{ℕ, ◌+◌, ◌-◌, ◌*◌, ◌/◌, ◌<◌, ◌≤◌, ◌≡◌, min, nat_lt, if◌then◌else◌, All, List, [], ◌∷◌, length, map, insert, remove, slice_index}
+use Rattle.std.specs.Int.{div_ceil}
 use Rattle.std.specs.List.{range_with_len}
 use Rattle.ndarray.specs.Grid.{Grid, cell, tabulate, arranged}
 use Rattle.ndarray.specs.Views.{axis_item, axis_part}
@@ -8,17 +9,13 @@ use Rattle.ndarray.specs.Views.{axis_item, axis_part}
 abbrev pub axis_items : {A : Type 0} → Grid A → ℕ → List (Grid A)
 axis_items g axis = map (axis_item g axis) (range_with_len 0 (slice_index g.lengths axis))
 
--- the number of chunks of size s on an axis of length n: n divided by s, rounded up
-abbrev pub axis_chunk_count : ℕ → ℕ → ℕ
-axis_chunk_count n s = (n + s - 1) / s
-
 -- chunk c of size s along an axis: the last one has what is left
 abbrev pub axis_chunk : {A : Type 0} → Grid A → ℕ → ℕ → ℕ → Grid A
 axis_chunk g axis s c = axis_part g axis (c * s) (min (c * s + s) (slice_index g.lengths axis))
 
--- the chunks of size s along an axis, from the first to the last
+-- the chunks of size s along an axis, from the first to the last: their number is the length divided by s, rounded up
 abbrev pub axis_chunks : {A : Type 0} → Grid A → ℕ → ℕ → List (Grid A)
-axis_chunks g axis s = map (axis_chunk g axis s) (range_with_len 0 (axis_chunk_count (slice_index g.lengths axis) s))
+axis_chunks g axis s = map (axis_chunk g axis s) (range_with_len 0 (div_ceil (slice_index g.lengths axis) s))
 
 -- the lane along an axis at an index list of the other axes: at an index, the cell with the index put in at the axis
 abbrev pub lane : {A : Type 0} → Grid A → ℕ → List ℕ → Grid A

@@ -2,6 +2,7 @@
 //! iterators over them.
 
 pub mod axis;
+pub mod axis_chunks;
 pub mod exact_chunks;
 pub mod lanes;
 pub(crate) mod positions;

@@ -103,7 +103,11 @@ impl<D: Lengths> Layout<D> {
         ensures dim { E.numbers result.dim ≡ D.numbers self.dim }
         ensures strides { E.numbers result.strides ≡ D.numbers self.strides }
     {
-        let Layout { start, dim, strides } = self;
+        let Layout {
+            start,
+            dim,
+            strides,
+        } = self;
         Layout {
             start,
             dim: same_numbers(&dim),
@@ -141,7 +145,11 @@ impl<D: Dimension> Layout<D> {
         ensures dim { D.Larger.numbers result.dim ≡ insert (D.numbers self.dim) axis.0 1 }
         ensures strides { D.Larger.numbers result.strides ≡ insert (D.numbers self.strides) axis.0 1 }
     {
-        let Layout { start, dim, strides } = self;
+        let Layout {
+            start,
+            dim,
+            strides,
+        } = self;
         Layout {
             start,
             dim: dim.insert_axis(axis),
