@@ -1,6 +1,6 @@
 -- Lists: what stands at each place.
 use Rattle.std.proofs.Common.{◌≡◌, ℕ, ◌+◌, ◌<◌, ◌≤◌, min, suc, zero, List, [], ◌∷◌, ◌++◌, length, drop, map, reverse, take, get_or, Option, Some, None, refl, sym, ◌∙◌, ap, arith, subst, set, swap, insert, remove, get_or-set_other, inl, inr}
-use Rattle.std.specs.Prelude.{filter_map, slice_get, MatchOption, All, IsTrue}
+use Rattle.std.specs.Prelude.{filter_map, zip, slice_get, MatchOption, All, IsTrue}
 use Rattle.std.specs.Option.{is_some}
 use Rattle.std.specs.List.{cons_option}
 use Rattle.std.proofs.Math.Seq.{drop-cons}
@@ -9,7 +9,7 @@ use Rattle.std.proofs.lemmas.List.{length-drop, drop_all, reverse-append, get_or
 use Rattle.std.proofs.lemmas.Bool.{cases_eq}
 use Rattle.std.proofs.lemmas.Grind.{get_or-set_at}
 use Rattle.std.proofs.lemmas.List.Edits.{length-swap, swapped_from_swap}
-use Rattle.std.proofs.lemmas.List.Elements.{All-head, All-tail}
+use Rattle.std.proofs.lemmas.List.Elements.{All-nil, All-cons, All-same, All-head, All-tail}
 
 pub reverse-cons : {X : Type 0} (x : X) (xs : List X) → reverse (x ∷ xs) ≡ reverse xs ++ x ∷ []
 reverse-cons x xs = reverse-append (x ∷ []) xs
@@ -38,6 +38,21 @@ module _ {X Y : Type 0} (f : X → Option Y) where
   slice_get-filter_map_all (x ∷ xs) (suc k) d h lt =
       let here = h 0 x (omega arith) in
       rw here.1 (slice_get-filter_map_all xs k d (λ j e l. h (suc j) e (omega arith)) (omega arith))
+
+-- each element beside its image
+module _ {X Y : Type 0} (f : X → Option Y) where
+  pub length-zip-filter_map : (xs : List X) → All (λ x. (y : Y) × (f x ≡ Some y)) xs → length (zip xs (filter_map f xs)) ≡ length xs
+  length-zip-filter_map [] h = refl
+  length-zip-filter_map (x ∷ xs) h =
+      let here = h 0 x (omega arith) in
+      rw here.1 (ap (λ n. suc n) (length-zip-filter_map xs (λ k d lt. h (suc k) d (omega arith))))
+
+  pub zip-filter_map : (xs : List X) → All (λ x. (y : Y) × (f x ≡ Some y)) xs → All (λ p. f p.0 ≡ Some p.1) (zip xs (filter_map f xs))
+  zip-filter_map [] h = All-nil (λ p. f p.0 ≡ Some p.1)
+  zip-filter_map (x ∷ xs) h =
+      let here = h 0 x (omega arith) in
+      let both : zip (x ∷ xs) (filter_map f (x ∷ xs)) ≡ (x, here.0) ∷ zip xs (filter_map f xs) = rw here.1 refl in
+      All-same (λ p. f p.0 ≡ Some p.1) _ _ both (All-cons (λ p. f p.0 ≡ Some p.1) (x, here.0) _ here.1 (zip-filter_map xs (λ k d lt. h (suc k) d (omega arith))))
 
 pub slice_get-Some : {X : Type 0} (xs : List X) (k : ℕ) → k < length xs → (x : X) × (slice_get xs k ≡ Some x)
 slice_get-Some [] k h = absurd (omega arith)
