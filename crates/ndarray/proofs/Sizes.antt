@@ -1,13 +1,13 @@
 -- The size of a box, and the limit on shapes, one axis at a time.
 use Rattle.std.proofs.Common.{◌≡◌, ℕ, ◌+◌, ◌*◌, ◌<◌, ◌≤◌, ◌⊎◌, inl, inr, ◌^◌, suc, zero, List, [], ◌∷◌, ◌++◌, length, reverse, refl, take, drop, get_or, sym, ◌∙◌, ◌/◌, ◌%◌, ap, arith, set, insert, swap}
 use Rattle.std.proofs.Math.Seq.{take-suc}
-use Rattle.std.proofs.Math.Nat.{mul-le-mul_left, mul-lt-mul_of_pos_right, mul-div_cancel, div-lt_iff_lt-mul, mul_comm}
+use Rattle.std.proofs.Math.Nat.{mul-le-mul_left, mul-lt-mul_of_pos_right, mul-div_cancel, mul_comm, div-lt_iff_lt-mul}
 use Rattle.std.proofs.lemmas.Bool.{cases_lt}
 use Rattle.std.proofs.lemmas.Nat.{div-add-mod'}
 use Rattle.std.proofs.lemmas.List.{take_all, take-append-drop, length-set}
+use Rattle.std.proofs.lemmas.List.Edits.{swap_is}
 use Rattle.ndarray.specs.Index.{size}
 use Rattle.ndarray.specs.Limits.{nonzero_size}
-use Rattle.std.proofs.lemmas.List.Edits.{swap_is}
 use Rattle.ndarray.proofs.Lists.{reverse-cons, get_or-set_own}
 
 pub size-append : (ns ms : List ℕ) → size (ns ++ ms) ≡ size ns * size ms
@@ -147,7 +147,7 @@ length-fits ns k h limit = let a = size-le (get_or ns k 0 ∷ []) in let b = non
 
 -- ---- one length put in place of another
 
-pub nonzero-set : (ns : List ℕ) (k n : ℕ) → k < length ns → nonzero_size (set ns k n) * nonzero_size (get_or ns k 0 ∷ []) ≡ nonzero_size ns * nonzero_size (n ∷ [])
+nonzero-set : (ns : List ℕ) (k n : ℕ) → k < length ns → nonzero_size (set ns k n) * nonzero_size (get_or ns k 0 ∷ []) ≡ nonzero_size ns * nonzero_size (n ∷ [])
 nonzero-set [] k n h = absurd (omega arith)
 nonzero-set (m ∷ ns) zero n h =
     let a = nonzero-append (n ∷ []) ns in

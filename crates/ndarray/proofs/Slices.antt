@@ -1,14 +1,14 @@
 -- Slices of an axis: which indices they take.
+use Rattle.std.proofs.Common.{◌≡◌, ◌≢◌, ℕ, ◌+◌, ◌-◌, ◌*◌, ◌/◌, ◌%◌, ◌<◌, ◌≤◌, ◌^◌, suc, zero, inl, inr, refl, sym, ◌∙◌, ap, subst, arith, min, w64}
+use Rattle.std.specs.Prelude.{ℤ, pos, negsuc, ◌-ℤ◌, ◌≤ℤ◌, ◌<ℤ◌, unsigned_abs, FitsSigned}
+use Rattle.std.specs.Int.{int_max, cast_unsigned}
 use Rattle.std.proofs.Math.Nat.{le-div_iff_mul-le, le-mul_of_pos_right, mul-div_cancel, add-mul-mod_self_right}
 use Rattle.std.proofs.lemmas.Nat.{div-add-mod', div-mul-add}
 use Rattle.std.proofs.lemmas.Bool.{cases_lt}
-use Rattle.std.proofs.Common.{subst, ◌≡◌, ◌≢◌, refl, inl, inr, ℕ, ◌+◌, ◌-◌, ◌*◌, ◌/◌, ◌%◌, ◌<◌, ◌≤◌, ◌^◌, suc, zero, sym, ◌∙◌, ap, arith, min, w64}
-use Rattle.std.specs.Prelude.{ℤ, pos, negsuc, ◌-ℤ◌, ◌≤ℤ◌, ◌<ℤ◌, unsigned_abs, FitsSigned}
-use Rattle.std.specs.Int.{int_max, cast_unsigned}
 use Rattle.std.proofs.lemmas.Int.{ints, clamps}
-use Rattle.ndarray.proofs.Cuts.{IsCut}
 use Rattle.ndarray.specs.Slices.{IsSliceOf, slice_start, slice_end, counted_end, slice_length, stepped, slice_index_at}
 use Rattle.ndarray.specs.declared.base.slice.Slice.{Slice}
+use Rattle.ndarray.proofs.Cuts.{IsCut}
 
 pub ceil-is : (x y : ℕ) → 0 < y → x / y + min 1 (x % y) ≡ (x + y - 1) / y
 ceil-is x y h =
