@@ -10,3 +10,4 @@ mod reduce;
 mod refusing;
 mod shown;
 mod subviews;
+mod windows;

@@ -37,7 +37,10 @@ fn no_chunk_is_larger_than_its_axis(rt: HostRuntime) -> Result<(), Fail> {
     let view = ArrayView::from_shape((2, 3), &[1i64, 2, 3, 4, 5, 6])?;
     assert!(rt; view.exact_chunks((4, 1)).into_iter().next().is_none());
     assert!(rt; view.exact_chunks((1, 4)).into_iter().next().is_none());
-    assert_eq!(rt; view.exact_chunks((4, 1)).into_iter().size_hint(), (0, Some(0)));
+    assert_eq!(rt;
+        view.exact_chunks((4, 1)).into_iter().size_hint(),
+        (0, Some(0))
+    );
     Ok(())
 }
 

@@ -6,7 +6,10 @@ use ndarray::{ArrayView, Lengths};
 use std::alloc::{AllocError, Global};
 
 /// The lengths of a view and its cells in row order, as `[2, 2]: [1, 2, 3, 4]`.
-pub fn shown<D: Lengths>(alloc: Global, view: &ArrayView<'_, i64, D>) -> Result<String, AllocError> {
+pub fn shown<D: Lengths>(
+    alloc: Global,
+    view: &ArrayView<'_, i64, D>,
+) -> Result<String, AllocError> {
     let cells: Vec<i64> = view.iter().copied().collect(alloc)?;
     format!(in alloc; "{:?}: {:?}", view.shape(), cells.as_slice())
 }

@@ -231,12 +231,7 @@ fn the_largest_chunk_is_the_whole_axis(rt: HostRuntime) -> Result<(), Fail> {
     let none: [i64; 0] = [];
     let empty = ArrayView::from_shape(0, &none)?;
     assert_eq!(rt; empty.axis_chunks_iter(Axis(0), usize::MAX).len(), 0);
-    assert!(rt;
-        empty
-            .axis_chunks_iter(Axis(0), usize::MAX)
-            .next()
-            .is_none()
-    );
+    assert!(rt; empty.axis_chunks_iter(Axis(0), usize::MAX).next().is_none());
     Ok(())
 }
 
