@@ -9,5 +9,6 @@ mod order;
 mod reduce;
 mod refusing;
 mod shown;
+mod slices;
 mod subviews;
 mod windows;

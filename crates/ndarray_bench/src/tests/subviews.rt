@@ -238,12 +238,11 @@ fn the_largest_chunk_is_the_whole_axis(rt: HostRuntime) -> Result<(), Fail> {
 #[test]
 fn four_chunks_along_the_middle_of_three_axes(rt: HostRuntime) -> Result<(), Fail> {
     let view = ArrayView::from_shape((2, 8, 3), &[0i64; 48])?;
-    let mut chunks = 0;
-    for chunk in view.axis_chunks_iter(Axis(1), 2) {
+    let chunks = view.axis_chunks_iter(Axis(1), 2);
+    assert_eq!(rt; chunks.len(), 4);
+    for chunk in chunks {
         assert_eq!(rt; chunk.shape(), [2, 2, 3].as_slice());
-        chunks += 1;
     }
-    assert_eq!(rt; chunks, 4);
     Ok(())
 }
 
