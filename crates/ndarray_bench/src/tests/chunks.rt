@@ -2,7 +2,7 @@
 
 use crate::tests::layouts::layouts;
 use crate::tests::shown::{all_shown, shown};
-use ndarray::{ArrayView, Ix0, Ix1, Ix2, IxDyn};
+use ndarray::{ArrayView, Ix0, Ix1, Ix2, IxDyn, ShapeBuilder};
 use std::test::Fail;
 
 #[test]
@@ -170,5 +170,35 @@ fn which_chunk_lengths_may_be_asked_for(rt: HostRuntime) -> Result<(), Fail> {
     assert!(rt; !any.chunks_ok(&IxDyn(&[])));
     let no_axes: ArrayView<'_, i64, Ix0> = ArrayView::from_shape((), &[7])?;
     assert!(rt; no_axes.chunks_ok(&Ix0()));
+    Ok(())
+}
+
+#[test]
+fn huge_axes_without_cells_have_no_whole_chunks(rt: HostRuntime) -> Result<(), Fail> {
+    let none: [i64; 0] = [];
+    let view = ArrayView::from_shape((1 << 62, 0), &none)?;
+    let mut chunks = view.exact_chunks((1, 1)).into_iter();
+    assert_eq!(rt; chunks.size_hint(), (0, Some(0)));
+    assert!(rt; chunks.next().is_none());
+    Ok(())
+}
+
+#[test]
+fn chunks_of_a_chunk(rt: HostRuntime) -> Result<(), Fail> {
+    let view = ArrayView::from_shape((2, 4).f(), &[1i64, 5, 2, 6, 3, 7, 4, 8])?;
+    let mut chunks = view.exact_chunks((2, 3)).into_iter();
+    let chunk = chunks.next().ok_or("chunk")?;
+    assert_eq!(rt;
+        shown(rt.alloc(), &chunk)?.as_str(),
+        "[2, 3]: [1, 2, 3, 5, 6, 7]"
+    );
+    if !chunk.chunks_ok(&Ix2(1, 2)) {
+        return Err("chunks".into());
+    }
+    assert_eq!(rt;
+        all_shown(rt.alloc(), chunk.exact_chunks(Ix2(1, 2)).into_iter())?.as_str(),
+        "[1, 2]: [1, 2]; [1, 2]: [5, 6]"
+    );
+    assert!(rt; chunks.next().is_none());
     Ok(())
 }

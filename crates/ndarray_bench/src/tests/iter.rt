@@ -324,6 +324,11 @@ fn references_are_collected_in_order(rt: HostRuntime) -> Result<(), Fail> {
     view.invert_axis(Axis(0));
     let references: Vec<&i64> = view.iter().collect(rt.alloc())?;
     assert_eq!(rt; references.as_slice(), [&3, &2, &1].as_slice());
+    let tried: Vec<&i64> = view
+        .iter()
+        .map(|x| -> Result<&i64, AllocError> { Ok(x) })
+        .try_collect(rt.alloc())?;
+    assert_eq!(rt; tried.as_slice(), [&3, &2, &1].as_slice());
     Ok(())
 }
 

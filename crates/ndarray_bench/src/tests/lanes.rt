@@ -183,3 +183,28 @@ fn which_lanes_may_be_asked_for(rt: HostRuntime) -> Result<(), Fail> {
     assert!(rt; !no_axes.axis_ok(Axis(9)));
     Ok(())
 }
+
+#[test]
+fn huge_axes_without_cells_have_their_lanes(rt: HostRuntime) -> Result<(), Fail> {
+    let none: [i64; 0] = [];
+    let view = ArrayView::from_shape((1 << 31, 1 << 31, 0), &none)?;
+    let mut lanes = view.rows().into_iter();
+    assert_eq!(rt; lanes.len(), 1 << 62);
+    let first = lanes.next().ok_or("first")?;
+    assert_eq!(rt; shown(rt.alloc(), &first)?.as_str(), "[0]: []");
+    assert_eq!(rt; lanes.len(), (1 << 62) - 1);
+    assert_eq!(rt; view.columns().into_iter().len(), 0);
+    Ok(())
+}
+
+#[test]
+fn lanes_of_an_item_of_a_turned_view(rt: HostRuntime) -> Result<(), Fail> {
+    let view = ArrayView::from_shape((2, 2, 2), &[1i64, 2, 3, 4, 5, 6, 7, 8])?;
+    let turned = view.t();
+    let item = turned.index_axis(Axis(0), 1);
+    assert_eq!(rt;
+        all_shown(rt.alloc(), item.rows().into_iter())?.as_str(),
+        "[2]: [2, 6]; [2]: [4, 8]"
+    );
+    Ok(())
+}

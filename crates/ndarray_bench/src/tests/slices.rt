@@ -301,3 +301,21 @@ fn each_layout_is_split_into_the_same_parts(rt: HostRuntime) -> Result<(), Fail>
     }
     Ok(())
 }
+
+#[test]
+fn an_empty_axis_is_turned_and_sliced(rt: HostRuntime) -> Result<(), Fail> {
+    let none: [i64; 0] = [];
+    let mut view = ArrayView::from_shape((0, 2), &none)?;
+    view.invert_axis(Axis(0));
+    assert_eq!(rt; shown(rt.alloc(), &view)?.as_str(), "[0, 2]: []");
+    let back = Slice::new(0, None, -1);
+    if !view.slice_ok(Axis(0), &back) {
+        return Err("slice".into());
+    }
+    view.slice_axis_inplace(Axis(0), back);
+    view.invert_axis(Axis(1));
+    assert_eq!(rt; shown(rt.alloc(), &view)?.as_str(), "[0, 2]: []");
+    let column = view.index_axis(Axis(1), 1);
+    assert_eq!(rt; shown(rt.alloc(), &column)?.as_str(), "[0]: []");
+    Ok(())
+}

@@ -2,7 +2,7 @@
 
 use crate::tests::layouts::layouts;
 use crate::tests::shown::{all_shown, shown};
-use ndarray::{ArrayView, Axis, Ix0, IxDyn};
+use ndarray::{ArrayView, Axis, Ix0, Ix2, IxDyn};
 use std::test::Fail;
 
 #[test]
@@ -340,5 +340,38 @@ fn which_chunks_may_be_asked_for(rt: HostRuntime) -> Result<(), Fail> {
     assert!(rt; !view.chunk_ok(Axis(1), 1));
     let no_axes: ArrayView<'_, i64, Ix0> = ArrayView::from_shape((), &[7])?;
     assert!(rt; !no_axes.chunk_ok(Axis(0), 1));
+    Ok(())
+}
+
+#[test]
+fn huge_axes_without_cells_are_not_gone_over(rt: HostRuntime) -> Result<(), Fail> {
+    let none: [i64; 0] = [];
+    let view = ArrayView::from_shape((1 << 62, 0), &none)?;
+    let mut items = view.axis_iter(Axis(0));
+    assert_eq!(rt; items.len(), 1 << 62);
+    let late = items.nth((1 << 62) - 2).ok_or("late")?;
+    assert_eq!(rt; shown(rt.alloc(), &late)?.as_str(), "[0]: []");
+    assert_eq!(rt; items.len(), 1);
+    assert_eq!(rt;
+        view.axis_chunks_iter(Axis(0), 3).len(),
+        1537228672809129302
+    );
+    let mut chunks = view.axis_chunks_iter(Axis(0), 3);
+    let last = chunks.next_back().ok_or("last")?;
+    assert_eq!(rt; shown(rt.alloc(), &last)?.as_str(), "[1, 0]: []");
+    Ok(())
+}
+
+#[test]
+fn elements_of_size_zero_have_items_and_chunks(rt: HostRuntime) -> Result<(), Fail> {
+    let view: ArrayView<'_, (), Ix2> = ArrayView::from_shape((2, 3), &[(); 6])?;
+    let mut items = view.axis_iter(Axis(1));
+    assert_eq!(rt; items.len(), 3);
+    let last = items.next_back().ok_or("last")?;
+    assert_eq!(rt; last.shape(), [2].as_slice());
+    let mut chunks = view.axis_chunks_iter(Axis(1), 2);
+    let last = chunks.next_back().ok_or("last")?;
+    assert_eq!(rt; last.shape(), [2, 1].as_slice());
+    assert_eq!(rt; last.iter().len(), 2);
     Ok(())
 }

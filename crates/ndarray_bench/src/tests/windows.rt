@@ -276,3 +276,37 @@ fn which_windows_may_be_asked_for(rt: HostRuntime) -> Result<(), Fail> {
     assert!(rt; no_axes.windows_ok(&Ix0(), &Ix0()));
     Ok(())
 }
+
+#[test]
+fn huge_axes_without_cells_have_their_windows(rt: HostRuntime) -> Result<(), Fail> {
+    let none: [i64; 0] = [];
+    let view = ArrayView::from_shape((1 << 62, 0), &none)?;
+    assert_eq!(rt; view.windows((1, 1)).into_iter().size_hint(), (0, Some(0)));
+    let mut windows = view.axis_windows(Axis(0), 2).into_iter();
+    assert_eq!(rt; windows.size_hint(), ((1 << 62) - 1, Some((1 << 62) - 1)));
+    let first = windows.next().ok_or("first")?;
+    assert_eq!(rt; shown(rt.alloc(), &first)?.as_str(), "[2, 0]: []");
+    let mut windows = view.axis_windows(Axis(0), 1 << 62).into_iter();
+    let whole = windows.next().ok_or("whole")?;
+    assert_eq!(rt; whole.shape(), [1 << 62, 0].as_slice());
+    assert!(rt; windows.next().is_none());
+    Ok(())
+}
+
+#[test]
+fn windows_of_a_window(rt: HostRuntime) -> Result<(), Fail> {
+    let view = ArrayView::from_shape(6, &[1i64, 2, 3, 4, 5, 6])?;
+    let mut windows = view.windows_with_stride(4, 2).into_iter();
+    let _ = windows.next();
+    let window = windows.next().ok_or("window")?;
+    assert_eq!(rt; shown(rt.alloc(), &window)?.as_str(), "[4]: [3, 4, 5, 6]");
+    if !window.windows_ok(&Ix1(2), &Ix1(2)) {
+        return Err("windows".into());
+    }
+    let inner = window.windows_with_stride(Ix1(2), Ix1(2));
+    assert_eq!(rt;
+        all_shown(rt.alloc(), inner.into_iter())?.as_str(),
+        "[2]: [3, 4]; [2]: [5, 6]"
+    );
+    Ok(())
+}
