@@ -253,9 +253,11 @@ fn index_lists_of_a_dimension_known_when_run(rt: HostRuntime) -> Result<(), Fail
     let view = ArrayView::from_shape(IxDyn(&[1, 2]), &[1i64, 2])?;
     let mut iter = view.indexed_iter();
     let (first, one) = iter.next().ok_or("first")?;
-    assert_eq!(rt; (first.slice(), one), ([0, 0].as_slice(), &1));
+    assert_eq!(rt; first.slice(), [0, 0].as_slice());
+    assert_eq!(rt; one, &1);
     let (second, two) = iter.next().ok_or("second")?;
-    assert_eq!(rt; (second.slice(), two), ([0, 1].as_slice(), &2));
+    assert_eq!(rt; second.slice(), [0, 1].as_slice());
+    assert_eq!(rt; two, &2);
     assert!(rt; iter.next().is_none());
     Ok(())
 }
