@@ -93,6 +93,10 @@ fn each_layout_has_the_same_lanes(rt: HostRuntime) -> Result<(), Fail> {
             all_shown(rt.alloc(), view.columns().into_iter())?.as_str(),
             "[2]: [1, 4]; [2]: [2, 5]; [2]: [3, 6]"
         );
+        assert_eq!(rt;
+            all_shown(rt.alloc(), view.columns().into_iter().rev())?.as_str(),
+            "[2]: [3, 6]; [2]: [2, 5]; [2]: [1, 4]"
+        );
     }
     Ok(())
 }

@@ -39,6 +39,24 @@ fn each_layout_has_the_same_items(rt: HostRuntime) -> Result<(), Fail> {
 }
 
 #[test]
+fn each_layout_has_the_same_items_from_the_back(rt: HostRuntime) -> Result<(), Fail> {
+    for view in &layouts()? {
+        if !view.axis_ok(Axis(1)) || !view.chunk_ok(Axis(1), 2) {
+            return Err("axis".into());
+        }
+        assert_eq!(rt;
+            all_shown(rt.alloc(), view.axis_iter(Axis(1)).rev())?.as_str(),
+            "[2]: [3, 6]; [2]: [2, 5]; [2]: [1, 4]"
+        );
+        assert_eq!(rt;
+            all_shown(rt.alloc(), view.axis_chunks_iter(Axis(1), 2).rev())?.as_str(),
+            "[2, 1]: [3, 6]; [2, 2]: [1, 2, 4, 5]"
+        );
+    }
+    Ok(())
+}
+
+#[test]
 fn a_broadcast_axis_repeats_its_item(rt: HostRuntime) -> Result<(), Fail> {
     let row = ArrayView::from_shape(3, &[1i64, 2, 3])?;
     let rows = row.broadcast((2, 3)).ok_or("broadcast")?;

@@ -245,6 +245,11 @@ fn each_layout_has_the_same_windows_along_an_axis(rt: HostRuntime) -> Result<(),
             all_shown(rt.alloc(), view.axis_windows(Axis(1), 2).into_iter())?.as_str(),
             "[2, 2]: [1, 2, 4, 5]; [2, 2]: [2, 3, 5, 6]"
         );
+        let stepped = view.axis_windows_with_stride(Axis(1), 1, 2);
+        assert_eq!(rt;
+            all_shown(rt.alloc(), stepped.into_iter())?.as_str(),
+            "[2, 1]: [1, 4]; [2, 1]: [3, 6]"
+        );
     }
     Ok(())
 }
