@@ -1,17 +1,16 @@
 -- Views of views.
-use Rattle.std.proofs.Common.{◌≡◌, ℕ, ◌+◌, ◌-◌, ◌*◌, ◌%◌, ◌<◌, ◌^◌, suc, zero, List, [], ◌∷◌, ◌++◌, length, reverse, set, get_or, Option, refl, sym, ◌∙◌, ap, arith, subst}
+use Rattle.std.proofs.Common.{◌≡◌, ℕ, ◌+◌, ◌*◌, ◌%◌, ◌^◌, List, [], ◌∷◌, ◌++◌, length, reverse, Option, refl, sym, ◌∙◌, ap, arith, subst}
 use Rattle.std.specs.Prelude.{IsTrue}
 use Rattle.std.specs.Option.{is_some}
-use Rattle.std.proofs.lemmas.List.{get_or-set_same, set-set, set-get_or, length-reverse, length-set, reverse-reverse}
+use Rattle.std.proofs.lemmas.List.{length-reverse, reverse-reverse}
 use Rattle.ndarray.specs.Index.{InBox}
 use Rattle.ndarray.specs.Grid.{Grid, cell, tabulate}
-use Rattle.ndarray.specs.Views.{turned}
 use Rattle.ndarray.specs.base.Places.{dot, place, Reaches, grid_at, Rearranges}
 use Rattle.ndarray.proofs.Lists.{reverse-cons}
-use Rattle.ndarray.proofs.Boxes.{InBox-length, InBox-reverse, InBox-get, InBox-set}
+use Rattle.ndarray.proofs.Boxes.{InBox-length, InBox-reverse}
 use Rattle.ndarray.proofs.Sizes.{nonzero-reverse}
 use Rattle.ndarray.proofs.Cells.{tabulate-is}
-use Rattle.ndarray.proofs.Places.{length-cells_at, cell-at, grid_at-same, Reaches-same, mod_twice}
+use Rattle.ndarray.proofs.Places.{length-cells_at, cell-at, grid_at-same, Reaches-same}
 
 module _ {ns : List ℕ} {start : ℕ} {bs ns' : List ℕ} {start' : ℕ} {bs' : List ℕ} {f : List ℕ → List ℕ} {two : Type 0} (r : Rearranges two ns start bs ns' start' bs' f) where
   pub Reaches-rearranged : {one : Type 0} {A : Type 0} (at : ℕ → Option A) → (two → one) → Reaches one at ns start bs → Reaches two at ns' start' bs'

@@ -1,5 +1,5 @@
 -- Windows along one axis: on the others there is one position.
-use Rattle.std.proofs.Common.{◌≡◌, ℕ, ◌+◌, ◌-◌, ◌*◌, ◌/◌, ◌<◌, ◌≤◌, suc, zero, List, [], ◌∷◌, ◌++◌, length, map, set, get_or, replicate, inl, inr, refl, sym, ◌∙◌, ap, arith, subst}
+use Rattle.std.proofs.Common.{◌≡◌, ℕ, ◌+◌, ◌-◌, ◌*◌, ◌/◌, ◌<◌, ◌≤◌, suc, zero, List, [], ◌∷◌, ◌++◌, length, map, set, get_or, replicate, inl, inr, refl, sym, ◌∙◌, ap, arith}
 use Rattle.std.specs.Prelude.{All, flat_map}
 use Rattle.std.specs.List.{range_with_len}
 use Rattle.std.proofs.lemmas.Simd.{map-map}
@@ -8,8 +8,8 @@ use Rattle.std.proofs.lemmas.List.FromFn.{length-map-range_with_len}
 use Rattle.std.proofs.lemmas.List.Elements.{All-head, All-tail}
 use Rattle.std.proofs.Math.Nat.{div-eq-sub-div, div-eq_of_lt}
 use Rattle.std.proofs.lemmas.Bool.{cases_lt}
-use Rattle.ndarray.specs.Index.{InBox, row_order}
-use Rattle.ndarray.specs.Grid.{Grid, cell, tabulate, arranged, line, grid}
+use Rattle.ndarray.specs.Index.{row_order}
+use Rattle.ndarray.specs.Grid.{Grid, cell, line, grid}
 use Rattle.ndarray.specs.Views.{axis_part}
 use Rattle.ndarray.specs.Subviews.{ArePositive, axis_windows_of, chunk_counts, exact_chunks_of, moved, window, window_count, window_counts, windows_of}
 use Rattle.ndarray.proofs.Boxes.{InBox-length}

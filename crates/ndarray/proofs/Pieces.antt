@@ -1,11 +1,11 @@
 -- The pieces of an array at the positions of a box: what each of them reaches, and which array it is.
-use Rattle.std.proofs.Common.{◌≡◌, ℕ, ◌+◌, ◌*◌, ◌%◌, ◌<◌, ◌≤◌, ◌^◌, ◌⊎◌, inl, inr, zero, suc, List, [], ◌∷◌, length, get_or, refl, sym, ◌∙◌, ap, arith, subst, Option}
+use Rattle.std.proofs.Common.{◌≡◌, ℕ, ◌+◌, ◌*◌, ◌%◌, ◌<◌, ◌^◌, ◌⊎◌, inl, inr, zero, suc, List, [], ◌∷◌, length, get_or, refl, sym, ◌∙◌, ap, arith, subst, Option}
 use Rattle.std.specs.Prelude.{insert, remove}
 use Rattle.std.proofs.Math.Nat.{add-mod-mod}
 use Rattle.ndarray.specs.Index.{InBox}
 use Rattle.ndarray.specs.Limits.{IsWithinLimit}
 use Rattle.ndarray.specs.Grid.{Grid, cell, tabulate, arranged}
-use Rattle.ndarray.specs.Subviews.{lanes_along, lanes_of, lane}
+use Rattle.ndarray.specs.Subviews.{lanes_of}
 use Rattle.ndarray.specs.base.Places.{dot, place, Reaches, Rearranges, grid_at}
 use Rattle.ndarray.specs.base.Tiles.{ReachTiles, tiles_at}
 use Rattle.ndarray.proofs.Cells.{arranged-same}

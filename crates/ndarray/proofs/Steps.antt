@@ -1,15 +1,14 @@
 -- Windows whose positions are steps apart: where they lie, and how many there are.
 use Rattle.std.proofs.Common.{◌≡◌, ℕ, ◌+◌, ◌-◌, ◌*◌, ◌/◌, ◌%◌, ◌<◌, ◌≤◌, ◌^◌, ◌⊎◌, inl, inr, suc, zero, List, [], ◌∷◌, length, get_or, refl, sym, ◌∙◌, ap, arith, subst, Option}
-use Rattle.std.specs.Prelude.{All, nat_lt, if◌then◌else◌}
+use Rattle.std.specs.Prelude.{All}
 use Rattle.std.proofs.lemmas.Bool.{cases_lt}
 use Rattle.std.proofs.lemmas.Bool.Decides.{nat_tests}
 use Rattle.std.proofs.lemmas.List.Elements.{All-head, All-tail}
-use Rattle.std.proofs.Math.Nat.{le-div_iff_mul-le, mul-le-mul_left, mod-add-mod, add-mod-mod, add-mul-mod_self_left, div-le_self}
+use Rattle.std.proofs.Math.Nat.{le-div_iff_mul-le, mod-add-mod, add-mul-mod_self_left, div-le_self}
 use Rattle.std.proofs.lemmas.Nat.{div-add-mod'}
 use Rattle.ndarray.specs.Index.{InBox}
-use Rattle.ndarray.specs.Limits.{nonzero_size}
 use Rattle.ndarray.specs.Subviews.{ArePositive, moved, window_count, window_counts}
-use Rattle.ndarray.specs.base.Places.{dot, place, Reaches, Rearranges}
+use Rattle.ndarray.specs.base.Places.{dot, place, Reaches}
 use Rattle.ndarray.specs.base.Tiles.{AreStepsOf, AreWindowsOf}
 use Rattle.ndarray.proofs.Boxes.{InBox-length, InBox-get}
 use Rattle.ndarray.proofs.Sizes.{nonzero-smaller}

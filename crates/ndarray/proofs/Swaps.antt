@@ -3,7 +3,6 @@ use Rattle.std.proofs.Common.{◌≡◌, ℕ, ◌+◌, ◌*◌, ◌%◌, ◌<◌
 use Rattle.std.proofs.lemmas.List.{length-set}
 use Rattle.std.proofs.lemmas.List.Edits.{length-swap, swap_is}
 use Rattle.ndarray.specs.Index.{InBox}
-use Rattle.ndarray.specs.Limits.{nonzero_size}
 use Rattle.ndarray.specs.base.Places.{dot, place, Reaches, Rearranges}
 use Rattle.ndarray.proofs.Boxes.{InBox-length, InBox-get, InBox-set_both}
 use Rattle.ndarray.proofs.Lists.{get_or-set_own, swap-swap}

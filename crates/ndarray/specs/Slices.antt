@@ -1,5 +1,5 @@
 -- Slices of an axis: every so-manieth index from a start up to an end, or back from it.
-use Rattle.std.specs.Prelude.{◌≡◌, ◌≢◌, ℕ, ◌+◌, ◌-◌, ◌*◌, ◌/◌, ℤ, pos, negsuc, ◌-ℤ◌, ◌≤ℤ◌, suc, unsigned_abs, List, slice_index, slice_set, Option, Some, None}
+use Rattle.std.specs.Prelude.{◌≢◌, ℕ, ◌+◌, ◌-◌, ◌*◌, ◌/◌, ℤ, pos, negsuc, ◌-ℤ◌, ◌≤ℤ◌, suc, unsigned_abs, slice_index, slice_set, Option, Some, None}
 use Rattle.std.specs.Int.{int_max}
 use Rattle.ndarray.specs.Grid.{Grid, cell, tabulate}
 use Rattle.ndarray.specs.declared.base.slice.Slice.{Slice}

@@ -1,5 +1,5 @@
 -- Subviews by index equations, and at which positions they are. Positions come in row order.
-use Rattle.std.specs.Prelude.{ℕ, ◌+◌, ◌-◌, ◌*◌, ◌/◌, ◌<◌, ◌≤◌, ◌≡◌, min, nat_lt, if◌then◌else◌, All, List, [], ◌∷◌, length, map, insert, remove, slice_index}
+use Rattle.std.specs.Prelude.{ℕ, ◌+◌, ◌-◌, ◌*◌, ◌/◌, ◌≤◌, ◌≡◌, min, nat_lt, if◌then◌else◌, All, List, [], ◌∷◌, length, map, insert, remove, slice_index}
 use Rattle.std.specs.Int.{div_ceil}
 use Rattle.std.specs.List.{range_with_len}
 use Rattle.ndarray.specs.Grid.{Grid, cell, tabulate, arranged}

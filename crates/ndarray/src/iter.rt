@@ -9,6 +9,9 @@ ghost use Rattle.ndarray.specs.declared.base.shape.Order.TheVariants.{RowMajor};
 pub mod elements;
 pub mod indexed;
 
+use crate::base::array::ArrayBase;
+use crate::base::dimension::{Ix1, Lengths};
+use crate::base::storage::Data;
 pub use crate::iter::elements::ElementsBase;
 pub use crate::iter::indexed::IndexedIter;
 pub use crate::subviews::axis::AxisIter;
@@ -16,10 +19,6 @@ pub use crate::subviews::axis_chunks::AxisChunksIter;
 pub use crate::subviews::exact_chunks::{ExactChunks, ExactChunksIter};
 pub use crate::subviews::lanes::{Lanes, LanesIter};
 pub use crate::subviews::windows::{AxisWindows, Windows, WindowsIter};
-
-use crate::base::array::ArrayBase;
-use crate::base::dimension::{Ix1, Lengths};
-use crate::base::storage::Data;
 use std::alloc::AllocError;
 use std::iter::ExactSizeIterator;
 use std::marker::Model;

@@ -1,4 +1,4 @@
-use Rattle.std.proofs.Common.{◌<◌, ◌*◌, ap, arith, subst, sym}
+use Rattle.std.proofs.Common.{arith}
 use Rattle.ndarray.proofs.Chunked.{chunk-begins}
 use Rattle.ndarray.proofs.subviews.axis_chunks.chunk.Goals as goal
 

@@ -1,9 +1,8 @@
 use Rattle.std.proofs.Common.{◌≡◌, ◌⊎◌, ◌<◌, ◌+◌, ◌*◌, ◌%◌, ◌^◌, ℕ, [], ◌∷◌, List, arith, inl, inr, sym, ap, subst, ◌∙◌, length, get_or, set, length-set, get_or-set_other, get_or-set_same}
 use Rattle.std.proofs.lemmas.Bool.{cases_lt}
 use Rattle.std.proofs.lemmas.List.{length-replicate}
-use Rattle.ndarray.specs.Limits.{nonzero_size}
 use Rattle.ndarray.specs.Subviews.{window_count, window_counts}
-use Rattle.ndarray.proofs.Filled.{IsFilledTo, IsFilledTo-none, IsFilledTo-more, IsFilledTo-all}
+use Rattle.ndarray.proofs.Filled.{IsFilledTo-none, IsFilledTo-more, IsFilledTo-all}
 use Rattle.ndarray.proofs.Sizes.{nonzero-one_of, size-le}
 use Rattle.ndarray.proofs.Steps.{length-window_counts, get_or-window_counts}
 use Rattle.ndarray.proofs.subviews.positions.window_positions.Goals as goal

@@ -1,13 +1,12 @@
-use Rattle.std.proofs.Common.{◌≡◌, ◌∷◌, [], ◌<◌, ◌^◌, ℕ, List, ap, sym, ◌∙◌, subst, length, map, get_or, arith}
+use Rattle.std.proofs.Common.{◌≡◌, ◌∷◌, [], ◌<◌, ◌^◌, ap, sym, ◌∙◌, subst, length, get_or, arith}
 use Rattle.std.proofs.lemmas.Simd.{map-map}
 use Rattle.std.proofs.lemmas.List.FromFn.{length-map-range_with_len}
-use Rattle.std.specs.Prelude.{All}
 use Rattle.std.specs.Int.{div_ceil}
 use Rattle.std.specs.List.{range_with_len}
 use Rattle.ndarray.specs.Limits.{nonzero_size}
-use Rattle.ndarray.specs.Index.{InBox, row_order}
-use Rattle.ndarray.specs.Subviews.{axis_chunk, axis_chunks}
-use Rattle.ndarray.specs.base.Chunks.{chunks_along, ChunksStand}
+use Rattle.ndarray.specs.Index.{row_order}
+use Rattle.ndarray.specs.Subviews.{axis_chunk}
+use Rattle.ndarray.specs.base.Chunks.{chunks_along}
 use Rattle.ndarray.proofs.Chunked.{div_ceil-le}
 use Rattle.ndarray.proofs.Orders.{row_order-is, row_order-one}
 use Rattle.ndarray.proofs.Sizes.{limit-one}

@@ -1,5 +1,5 @@
-use Rattle.std.proofs.Common.{sym, ap, ◌∙◌, ◌≡◌, subst, filter_map, arith, length}
-use Rattle.std.specs.Prelude.{zip, All, Some}
+use Rattle.std.proofs.Common.{sym, ap, ◌∙◌, ◌≡◌, subst, arith, length}
+use Rattle.std.specs.Prelude.{zip, Some}
 use Rattle.std.proofs.lemmas.List.Elements.{All-same}
 use Rattle.ndarray.specs.Index.{row_order}
 use Rattle.ndarray.specs.Grid.{HasCells, cell}

@@ -1,4 +1,4 @@
-use Rattle.std.proofs.Common.{◌≡◌, ap, length, sym, ◌∙◌, subst}
+use Rattle.std.proofs.Common.{ap, sym, ◌∙◌, subst}
 use Rattle.ndarray.specs.Subviews.{ArePositive, moved, window_counts}
 use Rattle.ndarray.specs.base.Tiles.{AreStepsOf, AreWindowsOf}
 use Rattle.ndarray.proofs.Pieces.{AreImages, pieces-reach, pieces-seen}

@@ -1,4 +1,4 @@
-use Rattle.std.proofs.Common.{◌≡◌, ◌+◌, min, length, drop, ap, sym, ◌∙◌}
+use Rattle.std.proofs.Common.{◌≡◌, ◌+◌, min, length, drop, ap, ◌∙◌}
 use Rattle.std.specs.Prelude.{slice_get}
 use Rattle.ndarray.proofs.Lists.{nth-from_next}
 use Rattle.ndarray.proofs.subviews.axis.AxisIter.nth.Goals as goal
