@@ -1,6 +1,7 @@
 -- The index lists of a box.
-use Rattle.std.proofs.Common.{◌≡◌, ℕ, ◌*◌, ◌<◌, suc, zero, List, [], ◌∷◌, ◌++◌, length, reverse, drop, set, get_or, replicate, inl, inr, refl, ap, arith}
+use Rattle.std.proofs.Common.{◌≡◌, ℕ, ◌*◌, ◌<◌, suc, zero, List, [], ◌∷◌, ◌++◌, length, reverse, drop, set, get_or, replicate, inl, inr, refl, ap, arith, subst}
 use Rattle.std.proofs.lemmas.Bool.{cases_lt}
+use Rattle.std.proofs.lemmas.List.{set-get_or}
 use Rattle.ndarray.specs.Index.{InBox, size}
 use Rattle.ndarray.proofs.Lists.{reverse-cons}
 
@@ -28,12 +29,15 @@ InBox-get (n ∷ ns) [] k h l = absurd h
 InBox-get (n ∷ ns) (i ∷ is) zero h l = h.0
 InBox-get (n ∷ ns) (i ∷ is) (suc k) h l = InBox-get ns is k h.1 (omega arith)
 
+pub InBox-set_both : (ns is : List ℕ) (k n v : ℕ) → InBox ns is → v < n → InBox (set ns k n) (set is k v)
+InBox-set_both [] [] k n v h l = tt
+InBox-set_both [] (i ∷ is) k n v h l = absurd h
+InBox-set_both (m ∷ ns) [] k n v h l = absurd h
+InBox-set_both (m ∷ ns) (i ∷ is) zero n v h l = (l, h.1)
+InBox-set_both (m ∷ ns) (i ∷ is) (suc k) n v h l = (h.0, InBox-set_both ns is k n v h.1 l)
+
 pub InBox-set : (ns is : List ℕ) (k v : ℕ) → InBox ns is → v < get_or ns k 0 → InBox ns (set is k v)
-InBox-set [] [] k v h l = tt
-InBox-set [] (i ∷ is) k v h l = absurd h
-InBox-set (n ∷ ns) [] k v h l = absurd h
-InBox-set (n ∷ ns) (i ∷ is) zero v h l = (l, h.1)
-InBox-set (n ∷ ns) (i ∷ is) (suc k) v h l = (h.0, InBox-set ns is k v h.1 l)
+InBox-set ns is k v h l = subst (λ ms. InBox ms (set is k v)) (set-get_or ns k 0) (InBox-set_both ns is k (get_or ns k 0) v h l)
 
 -- zeros are in the box that is not empty, first of all
 pub InBox-zeros : (ns : List ℕ) → 0 < size ns → InBox ns (replicate (length ns) 0)

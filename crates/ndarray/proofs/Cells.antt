@@ -1,12 +1,14 @@
 -- The cells of an array, and along a list of index lists.
-use Rattle.std.proofs.Common.{◌≡◌, ℕ, List, [], ◌∷◌, ◌++◌, length, map, get_or, Option, Some, None, refl, sym, ◌∙◌, ap, arith, subst}
+use Rattle.std.proofs.Common.{◌≡◌, ℕ, List, [], ◌∷◌, ◌++◌, length, map, take, drop, get_or, Option, Some, None, refl, sym, ◌∙◌, ap, arith, subst}
 use Rattle.std.specs.Prelude.{filter_map, slice_get, All}
-use Rattle.std.proofs.lemmas.List.Elements.{filter_map-append, All-head, All-tail}
-use Rattle.std.proofs.lemmas.List.{get_or_append_left, length-append}
+use Rattle.std.proofs.lemmas.List.Elements.{filter_map-append, All-head, All-tail, All-take, All-drop}
+use Rattle.std.specs.Option.{option_map}
+use Rattle.std.proofs.lemmas.Option.{slice_get-get_or, slice_get-map}
+use Rattle.std.proofs.lemmas.List.{get_or_append_left, length-append, length-map}
 use Rattle.ndarray.specs.Index.{InBox, row_order, IsBefore}
-use Rattle.ndarray.specs.Grid.{Grid, grid, beside, cell, IsGrid, HasCells, tabulate, tabulated, IsKnownByCells}
+use Rattle.ndarray.specs.Grid.{Grid, grid, beside, cell, IsGrid, HasCells, tabulate, tabulated, IsKnownByCells, arranged}
 use Rattle.ndarray.specs.order.Steps.{rank}
-use Rattle.ndarray.proofs.Lists.{same_from_slice_get, length-filter_map_all, slice_get-filter_map_all, slice_get-Some, filter_map-same, map-from_filter_map, get_or-append-last}
+use Rattle.ndarray.proofs.Lists.{same_from_slice_get, length-filter_map_all, slice_get-filter_map_all, slice_get-Some, filter_map-same, map-from_filter_map, get_or-append-last, map-same, filter_map-take_all, filter_map-drop_all}
 use Rattle.ndarray.proofs.Orders.{length-row_order, row_order-is, row_order-at, row_order-back, rank-lt, box_in-is, box_in-within, IsBefore-not_itself}
 use Rattle.ndarray.specs.Orders.{box_in, cells_in, HasInOrder}
 use Rattle.ndarray.specs.declared.base.shape.Order.{Order}
@@ -94,3 +96,40 @@ HasInOrder-from o g xs e is order = ap (map (cell g)) (box_in-unique o g.lengths
 
 pub cells_in-HasInOrder : {A : Type 0} (o : Order) (g : Grid A) → IsGrid g → HasInOrder o g (cells_in o g)
 cells_in-HasInOrder o g whole = HasInOrder-from o g (cells_in o g) (map-from_filter_map (cell g) (box_in o g.lengths) (all-cells g whole (box_in o g.lengths) (box_in-within o g.lengths)))
+
+-- ---- arrays that have a function of each index list
+
+module _ {A : Type 0} where
+  pub arranged-whole : (ns : List ℕ) (f : List ℕ → A) → IsGrid (arranged ns f)
+  arranged-whole ns f = length-map (row_order ns) f ∙ length-row_order ns
+
+  pub arranged-cell : (ns : List ℕ) (f : List ℕ → A) (is : List ℕ) → InBox ns is → cell (arranged ns f) is ≡ Some (f is)
+  arranged-cell ns f is b =
+      let l = length-row_order ns in
+      let lt = rank-lt ns is b in
+      cell-within (arranged ns f) (arranged-whole ns f) is b
+      ∙ (slice_get-map f (row_order ns) (rank ns is)
+      ∙ ap (option_map f) (slice_get-get_or (row_order ns) (rank ns is) [] (omega arith) ∙ ap (λ js. Some js) (row_order-at ns is [] b)))
+
+  pub arranged-same : (ns ms : List ℕ) (f h : List ℕ → A) → ns ≡ ms → ((is : List ℕ) → InBox ns is → f is ≡ h is) → arranged ns f ≡ arranged ms h
+  arranged-same ns ms f h e same = ap (grid ns) (map-same f h (InBox ns) (row_order ns) same (row_order-is ns).within) ∙ ap (λ ks. arranged ks h) e
+
+-- ---- the first items, and the others
+
+pub along-take : {A : Type 0} (g : Grid A) (ys : List (List ℕ)) (n : ℕ) → HasCells g ys → filter_map (cell g) (take n ys) ≡ take n (filter_map (cell g) ys)
+along-take g ys n h = filter_map-take_all (cell g) ys n (all-cells g h.whole ys h.within)
+
+pub along-drop : {A : Type 0} (g : Grid A) (ys : List (List ℕ)) (n : ℕ) → HasCells g ys → filter_map (cell g) (drop n ys) ≡ drop n (filter_map (cell g) ys)
+along-drop g ys n h = filter_map-drop_all (cell g) ys n (all-cells g h.whole ys h.within)
+
+pub HasCells-take : {A : Type 0} (g : Grid A) (ys : List (List ℕ)) (n : ℕ) → HasCells g ys → HasCells g (take n ys)
+HasCells-take g ys n h = record { whole = h.whole; within = All-take (InBox g.lengths) n ys h.within }
+
+pub HasCells-drop : {A : Type 0} (g : Grid A) (ys : List (List ℕ)) (n : ℕ) → HasCells g ys → HasCells g (drop n ys)
+HasCells-drop g ys n h = record { whole = h.whole; within = All-drop (InBox g.lengths) n ys h.within }
+
+-- arrays of the same lengths and cells by their functions
+pub tabulate-same : {A : Type 0} (ns ms : List ℕ) (f h : List ℕ → Option A) → ns ≡ ms → ((is : List ℕ) → InBox ns is → f is ≡ h is) → tabulate ns f ≡ tabulate ms h
+unfolding tabulated
+tabulate-same ns ms f h e same =
+    ap (grid ns) (filter_map-same f h (InBox ns) (row_order ns) same (row_order-is ns).within) ∙ ap (λ ks. tabulate ks h) e

@@ -216,3 +216,12 @@ box_in-within ColumnMajor ns = (column_order-is ns).within
 pub IsBefore-not_itself : (is : List ℕ) → IsBefore is is → ⊥
 IsBefore-not_itself [] h = h
 IsBefore-not_itself (i ∷ is) h = elim h [ inl a ↦ omega (arith, a) | inr a ↦ IsBefore-not_itself is a.1 ]
+
+singles : (ks : List ℕ) → flat_map (λ k. map (λ is. k ∷ is) ([] ∷ [])) ks ≡ map (λ k. k ∷ []) ks
+singles [] = refl
+singles (k ∷ ks) = ap (λ xs. (k ∷ []) ∷ xs) (singles ks)
+
+-- along one axis
+pub row_order-one : (n : ℕ) → row_order (n ∷ []) ≡ map (λ k. k ∷ []) (range_with_len 0 n)
+unfolding row_order
+row_order-one n = singles (range_with_len 0 n)

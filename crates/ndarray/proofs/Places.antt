@@ -1,10 +1,9 @@
 -- Where the cells of an array lie, and which cells these are.
-use Rattle.std.proofs.Common.{◌≡◌, ℕ, ◌+◌, ◌*◌, ◌/◌, ◌%◌, ◌<◌, ◌^◌, suc, zero, List, [], ◌∷◌, length, take, get_or, Option, Some, None, sym, ◌∙◌, ap, arith, subst}
+use Rattle.std.proofs.Common.{◌≡◌, ℕ, ◌+◌, ◌*◌, ◌%◌, ◌<◌, ◌^◌, suc, zero, List, [], ◌∷◌, length, take, set, get_or, Option, Some, None, sym, ◌∙◌, ap, arith, subst}
 use Rattle.std.specs.Prelude.{slice_get, All, IsTrue}
 use Rattle.std.specs.Option.{is_some}
 use Rattle.std.proofs.lemmas.List.{take_all}
-use Rattle.std.proofs.lemmas.Nat.{div-add-mod'}
-use Rattle.std.proofs.Math.Nat.{mod-add-mod, add-mod-mod, add-mul-mod_self_left}
+use Rattle.std.proofs.Math.Nat.{mod-add-mod, add-mod-mod}
 use Rattle.ndarray.specs.Index.{InBox, size, row_order}
 use Rattle.ndarray.specs.Grid.{Grid, grid, cell}
 use Rattle.ndarray.specs.base.Places.{dot, place, Reaches, cells_at, grid_at}
@@ -20,6 +19,14 @@ dot-take_more (b ∷ bs) [] k h g = absurd (omega arith)
 dot-take_more (b ∷ bs) (i ∷ is) zero h g = omega arith
 dot-take_more (b ∷ bs) (i ∷ is) (suc k) h g = let ih = dot-take_more bs is k (omega arith) (omega arith) in omega arith
 
+-- an axis with another index and another stride
+pub dot-set : (bs is : List ℕ) (k b i : ℕ) → length bs ≡ length is → k < length is → dot (set bs k b) (set is k i) + get_or is k 0 * get_or bs k 0 ≡ dot bs is + i * b
+unfolding dot
+dot-set [] is k b i l h = absurd (omega arith)
+dot-set (c ∷ bs) [] k b i l h = absurd (omega arith)
+dot-set (c ∷ bs) (j ∷ is) zero b i l h = omega arith
+dot-set (c ∷ bs) (j ∷ is) (suc k) b i l h = let ih = dot-set bs is k b i (omega arith) (omega arith) in omega arith
+
 mod_step : (m a b : ℕ) → (a % m + b % m) % m ≡ (a + b) % m
 mod_step m a b = mod-add-mod a m (b % m) ∙ add-mod-mod a b m
 
@@ -28,16 +35,6 @@ mod_twice m a b c =
     mod-add-mod (a + b % m) m c
     ∙ (ap (λ x. x % m) (let e : a + b % m + c ≡ a + c + b % m = omega arith in e)
     ∙ (add-mod-mod (a + c) b m ∙ ap (λ x. x % m) (let e : a + c + b ≡ a + b + c = omega arith in e)))
-
--- two numbers that add up to a multiple of m make no difference
-pub mod_opposite : (m b b' i y : ℕ) → (b' + b) % m ≡ 0 → (y + i * (b' + b)) % m ≡ y % m
-mod_opposite m b b' i y h =
-    let d = div-add-mod' (b' + b) m in
-    let q : ℕ = (b' + b) / m in
-    let d2 : q * m ≡ b' + b = omega (arith, h, d) in
-    let f : i * (b' + b) ≡ i * (q * m) = ap (λ x. i * x) (sym d2) in
-    let e : y + i * (b' + b) ≡ y + m * (i * q) = omega arith in
-    ap (λ x. x % m) e ∙ add-mul-mod_self_left y m (i * q)
 
 pub place-start : (start : ℕ) (bs is : List ℕ) → start < 2 ^ 64 → place start (take 0 bs) (take 0 is) ≡ start
 unfolding place dot

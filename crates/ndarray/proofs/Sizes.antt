@@ -1,13 +1,14 @@
 -- The size of a box, and the limit on shapes, one axis at a time.
-use Rattle.std.proofs.Common.{◌≡◌, ℕ, ◌+◌, ◌*◌, ◌<◌, ◌≤◌, ◌^◌, suc, zero, List, [], ◌∷◌, ◌++◌, length, reverse, refl, take, drop, get_or, sym, ◌∙◌, ◌/◌, ◌%◌, ap, arith}
+use Rattle.std.proofs.Common.{◌≡◌, ℕ, ◌+◌, ◌*◌, ◌<◌, ◌≤◌, ◌⊎◌, inl, inr, ◌^◌, suc, zero, List, [], ◌∷◌, ◌++◌, length, reverse, refl, take, drop, get_or, sym, ◌∙◌, ◌/◌, ◌%◌, ap, arith, set, insert, swap}
 use Rattle.std.proofs.Math.Seq.{take-suc}
-use Rattle.std.proofs.Math.Nat.{mul-le-mul_left, div-lt_iff_lt-mul}
+use Rattle.std.proofs.Math.Nat.{mul-le-mul_left, mul-lt-mul_of_pos_right, mul-div_cancel, mul_comm, div-lt_iff_lt-mul}
+use Rattle.std.proofs.lemmas.Bool.{cases_lt}
 use Rattle.std.proofs.lemmas.Nat.{div-add-mod'}
-use Rattle.std.proofs.lemmas.List.{take_all, take-append-drop}
+use Rattle.std.proofs.lemmas.List.{take_all, take-append-drop, length-set}
+use Rattle.std.proofs.lemmas.List.Edits.{swap_is}
 use Rattle.ndarray.specs.Index.{size}
 use Rattle.ndarray.specs.Limits.{nonzero_size}
-use Rattle.std.proofs.Math.Nat.{mul_comm}
-use Rattle.ndarray.proofs.Lists.{reverse-cons}
+use Rattle.ndarray.proofs.Lists.{reverse-cons, get_or-set_own}
 
 pub size-append : (ns ms : List ℕ) → size (ns ++ ms) ≡ size ns * size ms
 size-append [] ms = omega arith
@@ -106,3 +107,93 @@ nonzero-reverse [] = refl
 nonzero-reverse (n ∷ ns) =
     let h = nonzero-reverse ns in
     ap nonzero_size (reverse-cons n ns) ∙ (nonzero-append (reverse ns) (n ∷ []) ∙ (ap (λ x. x * nonzero_size (n ∷ [])) h ∙ (mul_comm (nonzero_size ns) (nonzero_size (n ∷ [])) ∙ sym (nonzero-append (n ∷ []) ns))))
+
+-- one length of a shape within the limit is within it
+pub nonzero-one_of : (ns : List ℕ) (k : ℕ) → k < length ns → nonzero_size (get_or ns k 0 ∷ []) ≤ nonzero_size ns
+nonzero-one_of [] k h = absurd (omega arith)
+nonzero-one_of (zero ∷ ns) zero h = nonzero-pos ns
+nonzero-one_of (suc n ∷ ns) zero h = mul-le-mul_left (suc n) (nonzero-pos ns)
+nonzero-one_of (zero ∷ ns) (suc k) h = nonzero-one_of ns k (omega arith)
+nonzero-one_of (suc n ∷ ns) (suc k) h =
+    let ih = nonzero-one_of ns k (omega arith) in
+    let m : nonzero_size ns * 1 ≤ nonzero_size ns * suc n = mul-le-mul_left (nonzero_size ns) (omega arith) in
+    omega arith
+
+-- lengths that are each no larger, or at most 1, multiply to no more
+pub nonzero-smaller : (ms ns : List ℕ) → length ms ≡ length ns → ((k : ℕ) → k < length ns → (get_or ms k 0 ≤ get_or ns k 0) ⊎ (get_or ms k 0 ≤ 1)) → nonzero_size ms ≤ nonzero_size ns
+nonzero-smaller [] [] l h = omega arith
+nonzero-smaller [] (n ∷ ns) l h = absurd (omega arith)
+nonzero-smaller (m ∷ ms) [] l h = absurd (omega arith)
+nonzero-smaller (zero ∷ ms) (zero ∷ ns) l h = nonzero-smaller ms ns (omega arith) (λ k lt. h (suc k) (omega arith))
+nonzero-smaller (zero ∷ ms) (suc n ∷ ns) l h =
+    let ih = nonzero-smaller ms ns (omega arith) (λ k lt. h (suc k) (omega arith)) in
+    let m : nonzero_size ns * 1 ≤ nonzero_size ns * suc n = mul-le-mul_left (nonzero_size ns) (omega arith) in
+    omega arith
+nonzero-smaller (suc m ∷ ms) (zero ∷ ns) l h =
+    let ih = nonzero-smaller ms ns (omega arith) (λ k lt. h (suc k) (omega arith)) in
+    let z : m ≡ 0 = elim (h 0 (omega arith)) [ inl a ↦ absurd (omega (arith, a)) | inr a ↦ omega (arith, a) ] in
+    let e : m * nonzero_size ms ≡ 0 = ap (λ x. x * nonzero_size ms) z ∙ omega arith in
+    omega arith
+nonzero-smaller (suc m ∷ ms) (suc n ∷ ns) l h =
+    let ih = nonzero-smaller ms ns (omega arith) (λ k lt. h (suc k) (omega arith)) in
+    let le : m ≤ n = elim (h 0 (omega arith)) [ inl a ↦ omega (arith, a) | inr a ↦ omega (arith, a) ] in
+    let a : suc m * nonzero_size ms ≤ suc m * nonzero_size ns = mul-le-mul_left (suc m) ih in
+    let b : nonzero_size ns * suc m ≤ nonzero_size ns * suc n = mul-le-mul_left (nonzero_size ns) (omega arith) in
+    omega arith
+
+-- so it fits a signed word
+pub length-fits : (ns : List ℕ) (k : ℕ) → k < length ns → nonzero_size ns < 2 ^ 63 → get_or ns k 0 < 2 ^ 63
+length-fits ns k h limit = let a = size-le (get_or ns k 0 ∷ []) in let b = nonzero-one_of ns k h in omega arith
+
+-- ---- one length put in place of another
+
+nonzero-set : (ns : List ℕ) (k n : ℕ) → k < length ns → nonzero_size (set ns k n) * nonzero_size (get_or ns k 0 ∷ []) ≡ nonzero_size ns * nonzero_size (n ∷ [])
+nonzero-set [] k n h = absurd (omega arith)
+nonzero-set (m ∷ ns) zero n h =
+    let a = nonzero-append (n ∷ []) ns in
+    let b = nonzero-append (m ∷ []) ns in
+    rw (a, b) (omega arith)
+nonzero-set (zero ∷ ns) (suc k) n h = nonzero-set ns k n (omega arith)
+nonzero-set (suc m ∷ ns) (suc k) n h =
+    let ih = nonzero-set ns k n (omega arith) in
+    let e = ap (λ x. suc m * x) ih in
+    omega arith
+
+nonzero-one_le : (n m : ℕ) → n ≤ m → nonzero_size (n ∷ []) ≤ nonzero_size (m ∷ [])
+nonzero-one_le zero m h = nonzero-pos (m ∷ [])
+nonzero-one_le (suc n) zero h = absurd (omega arith)
+nonzero-one_le (suc n) (suc m) h = omega arith
+
+pub nonzero-set_le : (ns : List ℕ) (k n : ℕ) → k < length ns → n ≤ get_or ns k 0 → nonzero_size (set ns k n) ≤ nonzero_size ns
+nonzero-set_le ns k n h le =
+    let e = nonzero-set ns k n h in
+    let w = nonzero-one_le n (get_or ns k 0) le in
+    let m : nonzero_size ns * nonzero_size (n ∷ []) ≤ nonzero_size ns * nonzero_size (get_or ns k 0 ∷ []) = mul-le-mul_left (nonzero_size ns) w in
+    elim (cases_lt (nonzero_size ns) (nonzero_size (set ns k n))) [
+      | inl more ↦ absurd (let l = mul-lt-mul_of_pos_right more (nonzero-pos (get_or ns k 0 ∷ [])) in omega arith)
+      | inr not_more ↦ not_more
+    ]
+
+pub nonzero-swap : (ns : List ℕ) (i j : ℕ) → i < length ns → j < length ns → nonzero_size (swap ns i j) ≡ nonzero_size ns
+nonzero-swap ns i j hi hj =
+    let x : ℕ = get_or ns i 0 in
+    let y : ℕ = get_or ns j 0 in
+    let once : List ℕ = set ns i y in
+    let a = nonzero-set ns i y hi in
+    let b = nonzero-set once j x (omega (arith, length-set {A = ℕ})) in
+    let there : get_or once j 0 ≡ y = get_or-set_own ns i j hi in
+    let c : nonzero_size (set once j x) * nonzero_size (y ∷ []) ≡ nonzero_size ns * nonzero_size (y ∷ []) =
+    ap (λ n. nonzero_size (set once j x) * nonzero_size (n ∷ [])) (sym there) ∙ (b ∙ a) in
+    let pos = nonzero-pos (y ∷ []) in
+    ap nonzero_size (sym (swap_is ns i j 0 hi hj)) ∙ (sym (mul-div_cancel (nonzero_size (set once j x)) pos) ∙ (ap (λ n. n / nonzero_size (y ∷ [])) c ∙ mul-div_cancel (nonzero_size ns) pos))
+
+pub nonzero-insert_one : (ns : List ℕ) (k : ℕ) → nonzero_size (insert ns k 1) ≡ nonzero_size ns
+nonzero-insert_one ns zero = omega arith
+nonzero-insert_one [] (suc k) = omega arith
+nonzero-insert_one (zero ∷ ns) (suc k) = nonzero-insert_one ns k
+nonzero-insert_one (suc n ∷ ns) (suc k) = ap (λ x. suc n * x) (nonzero-insert_one ns k)
+
+-- one length that fits a signed word is a shape within the limit
+pub limit-one : (n : ℕ) → n < 2 ^ 63 → nonzero_size (n ∷ []) < 2 ^ 63
+limit-one zero h = omega arith
+limit-one (suc n) h = omega arith

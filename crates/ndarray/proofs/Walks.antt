@@ -1,14 +1,15 @@
 -- One step of a walk.
-use Rattle.std.proofs.Common.{◌≡◌, ℕ, ◌+◌, ◌-◌, ◌*◌, ◌<◌, ◌≤◌, suc, zero, List, [], ◌∷◌, ◌++◌, length, take, drop, set, get_or, replicate, refl, sym, ◌∙◌, ap, arith, subst}
-use Rattle.std.proofs.lemmas.List.{take_all, drop_all, length-take-le, length-drop, get_or-drop}
+use Rattle.std.proofs.Common.{◌≡◌, ℕ, ◌+◌, ◌-◌, ◌*◌, ◌<◌, ◌≤◌, ◌^◌, suc, zero, List, [], ◌∷◌, ◌++◌, length, take, drop, set, get_or, replicate, refl, sym, ◌∙◌, ap, arith, subst}
+use Rattle.std.proofs.lemmas.List.{take-take, drop-drop, drop-take, take_all, drop_all, length-take-le, length-drop, get_or-drop}
 use Rattle.std.proofs.Math.Seq.{take-suc, drop-cons}
 use Rattle.ndarray.specs.Index.{InBox, size}
+use Rattle.ndarray.specs.Limits.{IsWithinLimit}
 use Rattle.ndarray.specs.Orders.{box_in}
 use Rattle.ndarray.specs.order.Steps.{rank, column_rank, rank_in, axis_in, block_in, walk_rest, WalkStands}
 use Rattle.ndarray.specs.declared.base.shape.Order.{Order}
 use Rattle.ndarray.specs.declared.base.shape.Order.TheVariants.{RowMajor, ColumnMajor}
 use Rattle.ndarray.proofs.Boxes.{InBox-length, InBox-get, InBox-set, InBox-zeros}
-use Rattle.ndarray.proofs.Sizes.{size-append}
+use Rattle.ndarray.proofs.Sizes.{size-append, size-le}
 use Rattle.ndarray.proofs.Orders.{length-box_in, box_in-at}
 
 pub axis_in-lt : (o : Order) (n p : ℕ) → p < n → axis_in o n p < n
@@ -110,8 +111,9 @@ walk-new o ns =
     let l = length-box_in o ns in
     ap (λ x. take (size ns) (drop x (box_in o ns))) z ∙ take_all (size ns) (box_in o ns) (omega arith)
 
-pub walk-stands_new : (o : Order) (ns : List ℕ) → WalkStands o ns (replicate (length ns) 0) (size ns)
-walk-stands_new o ns = record {
+pub walk-stands_new : (o : Order) (ns : List ℕ) → IsWithinLimit ns → WalkStands o ns (replicate (length ns) 0) (size ns)
+walk-stands_new o ns limit = record {
+  limit = limit;
   within = λ h. InBox-zeros ns h;
   fits = λ h. let z = rank_in-zeros o ns in omega arith;
 }
@@ -172,6 +174,14 @@ one-below o (n ∷ m ∷ ns) (i ∷ []) left l p h = absurd ((h.within p).1)
 one-below o (n ∷ []) (i ∷ []) left l p h = let f = h.fits p in let r = rank_in-one o n i in omega arith
 one-below o (n ∷ ns) (i ∷ j ∷ is) left l p h = absurd (omega arith)
 
+-- so its end fits a word
+pub one-fits : (o : Order) (ns is : List ℕ) (left : ℕ) → length is ≡ 1 → 0 < left → WalkStands o ns is left → get_or is 0 0 + left < 2 ^ 63
+one-fits o [] is left l p h = let b = one-below o [] is left l p h in omega arith
+one-fits o (n ∷ m ∷ ns) [] left l p h = absurd (omega arith)
+one-fits o (n ∷ m ∷ ns) (i ∷ []) left l p h = absurd ((h.within p).1)
+one-fits o (n ∷ m ∷ ns) (i ∷ j ∷ is) left l p h = absurd (omega arith)
+one-fits o (n ∷ []) is left l p h = let b = one-below o (n ∷ []) is left l p h in let s = size-le (n ∷ []) in let m = h.limit in omega arith
+
 pub walk_rest-back_one : (o : Order) (ns is : List ℕ) (i left rest : ℕ) → length is ≡ 1 → i ≡ get_or is 0 0 → WalkStands o ns is left → rest + 1 ≡ left → walk_rest o ns is left ≡ walk_rest o ns is rest ++ ((i + rest) ∷ []) ∷ []
 walk_rest-back_one o ns [] i left rest l e h q = absurd (omega arith)
 walk_rest-back_one o [] (j ∷ is) i left rest l e h q = absurd (h.within (omega arith))
@@ -181,6 +191,36 @@ walk_rest-back_one o (n ∷ ns) (j ∷ k ∷ is) i left rest l e h q = absurd (o
 
 pub WalkStands-fewer : (o : Order) (ns is : List ℕ) (left rest : ℕ) → WalkStands o ns is left → rest ≤ left → WalkStands o ns is rest
 WalkStands-fewer o ns is left rest h le = record {
+  limit = h.limit;
   within = λ p. h.within (omega arith);
   fits = λ p. let f = h.fits (omega arith) in omega arith;
 }
+
+-- with one axis, what is left after the first k
+later : (o : Order) (n i k left rest j : ℕ) → WalkStands o (n ∷ []) (i ∷ []) left → k + rest ≡ left → (0 < rest → j ≡ i + k) → WalkStands o (n ∷ []) (j ∷ []) rest × (walk_rest o (n ∷ []) (j ∷ []) rest ≡ drop k (walk_rest o (n ∷ []) (i ∷ []) left))
+later o n i k left zero j h e at =
+    let l = length-walk_rest o (n ∷ []) (i ∷ []) left h in
+    (record { limit = h.limit; within = λ p. absurd (omega arith); fits = λ p. absurd (omega arith) }, sym (drop_all k (walk_rest o (n ∷ []) (i ∷ []) left) (omega arith)))
+later o n i k left (suc rest) j h e at =
+    let ej = at (omega arith) in
+    let f = h.fits (omega arith) in
+    let ri = rank_in-one o n i in
+    let rj = rank_in-one o n j in
+    let box : List (List ℕ) = box_in o (n ∷ []) in
+    let ranks : rank_in o (n ∷ []) (j ∷ []) ≡ rank_in o (n ∷ []) (i ∷ []) + k = omega arith in (
+      record { limit = h.limit; within = λ p. (omega arith, tt); fits = λ p. omega arith },
+      ap (λ r. take (suc rest) (drop r box)) ranks
+          ∙ (ap (take (suc rest)) (sym (drop-drop k (rank_in o (n ∷ []) (i ∷ [])) box))
+          ∙ (sym (drop-take k (suc rest) (drop (rank_in o (n ∷ []) (i ∷ [])) box))
+          ∙ ap (λ m. drop k (take m (drop (rank_in o (n ∷ []) (i ∷ [])) box))) e)),
+    )
+
+pub walk-later : (o : Order) (ns is : List ℕ) (k left rest j : ℕ) → length is ≡ 1 → length ns ≡ 1 → WalkStands o ns is left → k + rest ≡ left → (0 < rest → j ≡ get_or is 0 0 + k) → WalkStands o ns (j ∷ []) rest × (walk_rest o ns (j ∷ []) rest ≡ drop k (walk_rest o ns is left))
+walk-later o ns [] k left rest j li ln h e at = absurd (omega arith)
+walk-later o [] (i ∷ is) k left rest j li ln h e at = absurd (omega arith)
+walk-later o (n ∷ []) (i ∷ []) k left rest j li ln h e at = later o n i k left rest j h e at
+walk-later o (n ∷ m ∷ ns) (i ∷ []) k left rest j li ln h e at = absurd (omega arith)
+walk-later o (n ∷ ns) (i ∷ i2 ∷ is) k left rest j li ln h e at = absurd (omega arith)
+
+pub walk-first : (o : Order) (ns is : List ℕ) (k left : ℕ) → k ≤ left → walk_rest o ns is k ≡ take k (walk_rest o ns is left)
+walk-first o ns is k left le = sym (take-take k left (drop (rank_in o ns is) (box_in o ns)) le)

@@ -1,5 +1,5 @@
 -- What a contract sees of an array: its lengths, and its cells.
-use Rattle.std.specs.Prelude.{◌≡◌, ℕ, Bool, true, false, ◌&&◌, nat_eq, if◌then◌else◌, List, [], ◌∷◌, length, Option, Some, None, All, filter_map, refl}
+use Rattle.std.specs.Prelude.{◌≡◌, ℕ, Bool, true, false, ◌&&◌, nat_eq, if◌then◌else◌, List, [], ◌∷◌, length, map, Option, Some, None, All, filter_map, refl}
 use Rattle.std.specs.Coded.{Coded, code_by, coded×, coded_list, coded_ℕ}
 use Rattle.ndarray.specs.Index.{InBox, size, row_order}
 
@@ -50,3 +50,11 @@ tabulate ns f = grid ns (tabulated ns f)
 -- no other array has these lengths and these cells
 abbrev pub IsKnownByCells : {A : Type 0} → Grid A → Type 0
 IsKnownByCells {A} g = (h : Grid A) → IsGrid h → h.lengths ≡ g.lengths → ((is : List ℕ) → InBox g.lengths is → cell h is ≡ cell g is) → h ≡ g
+
+-- the array of lengths ns that has f of each index list as its cell there
+abbrev pub arranged : {B : Type 0} → List ℕ → (List ℕ → B) → Grid B
+arranged ns f = grid ns (map f (row_order ns))
+
+-- the array of one axis that has the elements of a list as its cells
+abbrev pub line : {B : Type 0} → List B → Grid B
+line xs = grid (length xs ∷ []) xs

@@ -5,6 +5,8 @@ pub mod Grid
 pub mod Index
 pub mod Limits
 pub mod Orders
+pub mod Slices
+pub mod Subviews
 pub mod Sums
 pub mod Views
 pub mod Whole

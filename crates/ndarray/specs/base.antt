@@ -1,4 +1,6 @@
 -- What only `base` speaks of: places and strides.
+pub mod Chunks
 pub mod Places
 pub mod Storage
 pub mod Strides
+pub mod Tiles

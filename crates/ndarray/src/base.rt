@@ -1,6 +1,7 @@
 //! The core: dimensions, shapes, arrays and views, and what they mean.
 
 pub mod array;
+pub mod axes;
 pub mod axis;
 pub mod dim_max;
 pub mod dimension;
@@ -9,5 +10,6 @@ pub mod into_dimension;
 pub(crate) mod layout;
 pub mod making;
 pub mod shape;
+pub mod slice;
 pub mod storage;
 pub mod views;

@@ -1,4 +1,4 @@
-//! Iterators over the cells of an array, in row order.
+//! Iterators over the cells of an array, in row order, and the names of those over its subviews.
 
 ghost use Rattle.std.specs.Prelude.{◌≡◌, ◌<◌, ◌^◌, length, ⊤, IfSome};
 ghost use Rattle.std.specs.Iterator.{YieldsFirstRef, YieldsLastRef, UpTo, item_count};
@@ -6,10 +6,19 @@ ghost use Rattle.std.specs.Iterator.SizeHint.{IsExactHint, IsWithinCount};
 ghost use Rattle.ndarray.specs.Orders.{HasInOrder};
 ghost use Rattle.ndarray.specs.declared.base.shape.Order.TheVariants.{RowMajor};
 
-use crate::base::array::{ArrayBase, ArrayView};
+pub mod elements;
+pub mod indexed;
+
+use crate::base::array::ArrayBase;
 use crate::base::dimension::{Ix1, Lengths};
 use crate::base::storage::Data;
-use crate::order::{Order, Walk};
+pub use crate::iter::elements::ElementsBase;
+pub use crate::iter::indexed::IndexedIter;
+pub use crate::subviews::axis::AxisIter;
+pub use crate::subviews::axis_chunks::AxisChunksIter;
+pub use crate::subviews::exact_chunks::{ExactChunks, ExactChunksIter};
+pub use crate::subviews::lanes::{Lanes, LanesIter};
+pub use crate::subviews::windows::{AxisWindows, Windows, WindowsIter};
 use std::alloc::AllocError;
 use std::iter::ExactSizeIterator;
 use std::marker::Model;
@@ -19,19 +28,17 @@ use std::marker::Model;
 /// An iterator takes no memory, and neither does any of its steps.
 #[derive(Drop)]
 pub struct Iter<'a, A, D: Lengths> {
-    view: ArrayView<'a, A, D>,
-    walk: Walk<D>,
+    elements: ElementsBase<'a, A, D>,
 }
 
 impl<'a, A, D: Lengths> Model for Iter<'a, A, D> {
-    ghost use Rattle.std.specs.Prelude.{List, filter_map};
-    ghost use Rattle.ndarray.specs.Grid.{cell, HasCells};
+    ghost use Rattle.std.specs.Prelude.{List, ⊤};
 
     ghost Value = { List A };
 
-    ghost view = { λ s. filter_map (cell s.view) s.walk };
+    ghost view = { λ s. s.elements };
 
-    ghost invariant = { λ s. HasCells s.view s.walk };
+    ghost invariant = { λ _. ⊤ };
 }
 
 impl<S: Data, D: Lengths> ArrayBase<S, D> {
@@ -48,8 +55,7 @@ impl<S: Data, D: Lengths> ArrayBase<S, D> {
         ensures fits { length result < 2 ^ 63 }
     {
         Iter {
-            view: self.view(),
-            walk: Walk::new(self.raw_dim(), Order::RowMajor),
+            elements: ElementsBase::new(self.view()),
         }
     }
 }
@@ -62,10 +68,7 @@ impl<'a, A, D: Lengths> Iterator for Iter<'a, A, D> {
     ghost remaining = { item_count (λ rest. rest) };
 
     fn next(&mut self) -> Option<&'a A> {
-        let Some(index) = self.walk.next() else {
-            return None;
-        };
-        Some(self.view.item(&index))
+        self.elements.next()
     }
 
     fn size_hint(&self) -> (usize, Option<usize>)
@@ -73,14 +76,13 @@ impl<'a, A, D: Lengths> Iterator for Iter<'a, A, D> {
         ensures upper { IfSome result.1 (UpTo (item_count (λ rest. rest) self.now)) }
         ensures exact { IsExactHint result (length self.now) }
     {
-        let len = self.len();
-        (len, Some(len))
+        self.elements.size_hint()
     }
 }
 
 impl<'a, A, D: Lengths> ExactSizeIterator for Iter<'a, A, D> {
     fn len(&self) -> usize {
-        self.walk.len()
+        self.elements.len()
     }
 }
 
@@ -88,10 +90,7 @@ impl<'a, A> DoubleEndedIterator for Iter<'a, A, Ix1> {
     ghost next_back_gives = { YieldsLastRef (λ rest. rest) };
 
     fn next_back(&mut self) -> Option<&'a A> {
-        let Some(index) = self.walk.next_back() else {
-            return None;
-        };
-        Some(self.view.item(&index))
+        self.elements.next_back()
     }
 }
 
@@ -102,8 +101,7 @@ impl<'a, A, D: Lengths> Clone for Iter<'a, A, D> {
 
     fn clone(&self) -> Result<Iter<'a, A, D>, AllocError> {
         Ok(Iter {
-            view: self.view.again(),
-            walk: self.walk.clone()?,
+            elements: self.elements.clone()?,
         })
     }
 }

@@ -10,6 +10,7 @@ pub mod base;
 pub mod iter;
 pub mod order;
 pub mod reduce;
+pub mod subviews;
 
 pub use crate::base::array::{ArrayBase, ArrayView, ArrayView1};
 pub use crate::base::axis::Axis;
@@ -20,5 +21,6 @@ pub use crate::base::dimension::{
 pub use crate::base::error::{ErrorKind, ShapeError};
 pub use crate::base::into_dimension::IntoDimension;
 pub use crate::base::shape::{Shape, ShapeBuilder};
+pub use crate::base::slice::Slice;
 pub use crate::base::storage::{Data, ViewRepr};
 pub use crate::reduce::values::{SumElem, Valued};

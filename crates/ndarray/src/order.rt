@@ -1,6 +1,6 @@
 //! The two orders of a box, and the walk over its index lists.
 
-ghost use Rattle.std.specs.Prelude.{◌≡◌, List, ℕ, ◌+◌, ◌<◌, length, ⊤, IfSome, IsPermutation};
+ghost use Rattle.std.specs.Prelude.{◌≡◌, List, ℕ, ◌+◌, ◌<◌, ◌≤◌, length, take, drop, ⊤, IfSome, IsPermutation};
 ghost use Rattle.std.specs.Iterator.{YieldsFirstBy, YieldsLastBy, UpTo, item_count};
 ghost use Rattle.std.specs.Iterator.SizeHint.{IsExactHint, IsWithinCount};
 ghost use Rattle.ndarray.specs.Index.{InBox, size, IsRowOrder};
@@ -102,6 +102,25 @@ impl<D: Lengths> Walk<D> {
     }
 }
 
+impl Walk<Ix1> {
+    /// Takes the first `count` index lists still to come.
+    pub(crate) fn take_first(&mut self, count: usize) -> Self
+        requires { count ≤ length self.old }
+        ensures first { result ≡ take count self.old }
+        ensures rest { self.new ≡ drop count self.old }
+    {
+        let first = Walk {
+            dim: self.dim,
+            index: self.index,
+            left: count,
+            order: self.order,
+        };
+        self.index = Dim([self.index.axis(0) + count]);
+        self.left -= count;
+        first
+    }
+}
+
 impl<D: Lengths> Iterator for Walk<D> {
     type Item = D;
 
@@ -140,7 +159,6 @@ impl DoubleEndedIterator for Walk<Ix1> {
         if self.left == 0 {
             return None;
         }
-        let end = self.dim.axis(0);
         self.left -= 1;
         Some(Dim([self.index.axis(0) + self.left]))
     }

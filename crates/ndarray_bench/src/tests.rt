@@ -1,7 +1,14 @@
 //! The worked rows and vectors of the library's calls, by the module that has them.
 
 mod base;
+mod chunks;
 mod iter;
+mod lanes;
+mod layouts;
 mod order;
 mod reduce;
 mod refusing;
+mod shown;
+mod slices;
+mod subviews;
+mod windows;

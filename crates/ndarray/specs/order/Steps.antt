@@ -1,6 +1,7 @@
 -- Inside `order`: where a walk stands in its box.
 use Rattle.std.specs.Prelude.{ℕ, ◌+◌, ◌-◌, ◌*◌, ◌<◌, ◌≤◌, List, [], ◌∷◌, length, take, drop}
 use Rattle.ndarray.specs.Index.{InBox, size}
+use Rattle.ndarray.specs.Limits.{IsWithinLimit}
 use Rattle.ndarray.specs.Orders.{box_in}
 use Rattle.ndarray.specs.declared.base.shape.Order.{Order}
 use Rattle.ndarray.specs.declared.base.shape.Order.TheVariants.{RowMajor, ColumnMajor}
@@ -37,5 +38,6 @@ walk_rest order ns is left = take left (drop (rank_in order ns is) (box_in order
 
 -- a walk at is, with `left` index lists to go, stands in its box
 pub record WalkStands (order : Order) (ns is : List ℕ) (left : ℕ) : Type 0 where
+  pub limit : IsWithinLimit ns
   pub within : 0 < left → InBox ns is
   pub fits : 0 < left → rank_in order ns is + left ≤ size ns

@@ -1,6 +1,6 @@
 //! Arrays and views, and what they mean: their lengths and their cells.
 
-ghost use Rattle.std.specs.Prelude.{◌≡◌, List, ℕ, ◌<◌, length, slice_index, ◌↔◌, IsSome, Some};
+ghost use Rattle.std.specs.Prelude.{◌≡◌, List, ℕ, ◌<◌, ◌^◌, length, slice_index, ◌↔◌, IsSome, Some};
 ghost use Rattle.std.specs.Option.{option_copied};
 ghost use Rattle.ndarray.specs.Index.{InBox, size};
 ghost use Rattle.ndarray.specs.Grid.{cell, IsGrid, IsKnownByCells};
@@ -75,7 +75,8 @@ impl<S: Data, D: Lengths> ArrayBase<S, D> {
     /// The length of an axis, which the caller owes to be below the number of axes.
     pub fn len_of(&self, axis: Axis) -> usize
         requires { axis.0 < length self.now.lengths }
-        ensures { result ≡ slice_index self.now.lengths axis.0 }
+        ensures value { result ≡ slice_index self.now.lengths axis.0 }
+        ensures fits { result < 2 ^ 63 }
     {
         self.layout.dim.axis(axis.0)
     }

@@ -1,6 +1,6 @@
 //! Dimensions: lists of lengths or of indices, one number for each axis.
 
-ghost use Rattle.std.specs.Prelude.{◌≡◌, List, ℕ, [], ◌∷◌, length, ◌<◌, ◌≤◌, ◌+◌, slice_index, slice_set, replicate, insert, remove, IsTrue, ◌↔◌};
+ghost use Rattle.std.specs.Prelude.{◌≡◌, ◌⊎◌, List, ℕ, [], ◌∷◌, length, ◌<◌, ◌≤◌, ◌+◌, slice_index, slice_set, replicate, insert, remove, IsTrue, ◌↔◌};
 ghost use Rattle.std.specs.Borrow.{Lends, sem, Array as SliceOf, usize as word};
 ghost use Rattle.std.proofs.Common.{rules, refl};
 ghost use Rattle.std.proofs.lemmas.Grind.{common_steps};
@@ -144,7 +144,30 @@ pub trait Dimension: Lengths {
         larger
     }
 
+    /// The list without the number of an axis; a list of no axes stays as it is.
+    ///
+    /// The caller owes an axis that is below the number of axes, or no axes at all.
+    fn try_remove_axis(&self, axis: Axis) -> Self::Smaller
+        requires { (Self.numbers self.now ≡ []) ⊎ (axis.0 < length (Self.numbers self.now)) }
+        ensures { Self.Smaller.numbers result ≡ remove (Self.numbers self.now) axis.0 }
+    {
+        let ndim = self.ndim();
+        if ndim == 0 {
+            return Self::Smaller::zeros(0);
+        }
+        let mut smaller = Self::Smaller::zeros(ndim - 1);
+        for k in 0..axis.0 {
+            smaller.set_axis(k, self.axis(k));
+        }
+        for k in axis.0..ndim - 1 {
+            smaller.set_axis(k, self.axis(k + 1));
+        }
+        smaller
+    }
+
     ghost smaller_has: { (n : ℕ) → Self.has_axes (n + 1) → Self.Smaller.has_axes n };
+
+    ghost smaller_has_none: { Self.has_axes 0 → Self.Smaller.has_axes 0 };
 
     ghost larger_has: { (n : ℕ) → n < 32 → Self.has_axes n → Self.Larger.has_axes (n + 1) };
 }
@@ -157,15 +180,7 @@ pub trait RemoveAxis: Dimension {
         requires { axis.0 < length (Self.numbers self.now) }
         ensures { Self.Smaller.numbers result ≡ remove (Self.numbers self.now) axis.0 }
     {
-        let ndim = self.ndim();
-        let mut smaller = Self::Smaller::zeros(ndim - 1);
-        for k in 0..axis.0 {
-            smaller.set_axis(k, self.axis(k));
-        }
-        for k in axis.0..ndim - 1 {
-            smaller.set_axis(k, self.axis(k + 1));
-        }
-        smaller
+        self.try_remove_axis(axis)
     }
 }
 
@@ -351,6 +366,8 @@ impl Dimension for Dim<[usize; 0]> {
 
     ghost smaller_has = { Prim.search rules };
 
+    ghost smaller_has_none = { Prim.search rules };
+
     ghost larger_has = { Prim.search rules };
 
     fn into_pattern(self) {}
@@ -366,6 +383,8 @@ impl Dimension for Dim<[usize; 1]> {
     ghost pattern_numbers = { λ i. i ∷ [] };
 
     ghost smaller_has = { Prim.search rules };
+
+    ghost smaller_has_none = { Prim.search rules };
 
     ghost larger_has = { Prim.search rules };
 
@@ -386,6 +405,8 @@ impl Dimension for Dim<[usize; 2]> {
 
     ghost smaller_has = { Prim.search rules };
 
+    ghost smaller_has_none = { Prim.search rules };
+
     ghost larger_has = { Prim.search rules };
 
     fn into_pattern(self) -> (usize, usize) {
@@ -404,6 +425,8 @@ impl Dimension for Dim<[usize; 3]> {
     ghost pattern_numbers = { λ p. p.0 ∷ p.1 ∷ p.2 ∷ [] };
 
     ghost smaller_has = { Prim.search rules };
+
+    ghost smaller_has_none = { Prim.search rules };
 
     ghost larger_has = { Prim.search rules };
 
@@ -424,6 +447,8 @@ impl Dimension for Dim<[usize; 4]> {
 
     ghost smaller_has = { Prim.search rules };
 
+    ghost smaller_has_none = { Prim.search rules };
+
     ghost larger_has = { Prim.search rules };
 
     fn into_pattern(self) -> (usize, usize, usize, usize) {
@@ -442,6 +467,8 @@ impl Dimension for Dim<[usize; 5]> {
     ghost pattern_numbers = { λ p. p.0 ∷ p.1 ∷ p.2 ∷ p.3 ∷ p.4 ∷ [] };
 
     ghost smaller_has = { Prim.search rules };
+
+    ghost smaller_has_none = { Prim.search rules };
 
     ghost larger_has = { Prim.search rules };
 
@@ -462,6 +489,8 @@ impl Dimension for Dim<[usize; 6]> {
 
     ghost smaller_has = { Prim.search rules };
 
+    ghost smaller_has_none = { Prim.search rules };
+
     ghost larger_has = { Prim.search rules };
 
     fn into_pattern(self) -> (usize, usize, usize, usize, usize, usize) {
@@ -480,6 +509,8 @@ impl Dimension for Dim<DynLengths> {
     ghost pattern_numbers = { λ d. held_numbers d.0 };
 
     ghost smaller_has = { Prim.search rules };
+
+    ghost smaller_has_none = { Prim.search rules };
 
     ghost larger_has = { Prim.search rules };
 

@@ -1,13 +1,14 @@
 //! Inside `base`: where the cells of an array lie in its storage.
 
-ghost use Rattle.std.specs.Prelude.{◌≡◌, ◌<◌, ◌≤◌, length, MatchOption, reverse, slice_set, ℕ};
+ghost use Rattle.std.specs.Prelude.{◌≡◌, ◌<◌, ◌≤◌, ◌+◌, ◌*◌, ◌%◌, ◌^◌, ℕ, length, insert, remove, reverse, slice_index, slice_set, swap, MatchOption};
 ghost use Rattle.ndarray.specs.Index.{InBox};
 ghost use Rattle.ndarray.specs.Limits.{IsWithinLimit};
 ghost use Rattle.ndarray.specs.Broadcast.{BroadcastsTo};
 ghost use Rattle.ndarray.specs.base.Places.{place};
 ghost use Rattle.ndarray.specs.base.Strides.{AreStridesOf, StretchedBy};
 
-use crate::base::dimension::Lengths;
+use crate::base::axis::Axis;
+use crate::base::dimension::{Dimension, Lengths, RemoveAxis};
 use crate::base::shape::Order;
 use crate::order::axis_at;
 
@@ -65,6 +66,109 @@ impl<D: Lengths> Layout<D> {
             strides: self.strides.copied(),
         }
     }
+
+    /// Exchanges two axes.
+    pub(crate) fn swap_axes(&mut self, i: usize, j: usize)
+        requires as_many { length (D.numbers self.old.strides) ≡ length (D.numbers self.old.dim) }
+        requires first { i < length (D.numbers self.old.dim) }
+        requires second { j < length (D.numbers self.old.dim) }
+        ensures start { self.new.start ≡ self.old.start }
+        ensures dim { D.numbers self.new.dim ≡ swap (D.numbers self.old.dim) i j }
+        ensures strides { D.numbers self.new.strides ≡ swap (D.numbers self.old.strides) i j }
+    {
+        self.dim.slice_mut().swap(i, j);
+        self.strides.slice_mut().swap(i, j);
+    }
+
+    /// Keeps `len` places of an axis: that of index `from`, and on from it `step` at a time. A step
+    /// is the bits of a signed number.
+    pub(crate) fn cut(&mut self, axis: usize, from: usize, len: usize, step: usize)
+        requires as_many { length (D.numbers self.old.strides) ≡ length (D.numbers self.old.dim) }
+        requires axis { axis < length (D.numbers self.old.dim) }
+        ensures start { self.new.start ≡ (self.old.start + (from * slice_index (D.numbers self.old.strides) axis) % 2 ^ 64) % 2 ^ 64 }
+        ensures dim { D.numbers self.new.dim ≡ slice_set (D.numbers self.old.dim) axis len }
+        ensures strides { D.numbers self.new.strides ≡ slice_set (D.numbers self.old.strides) axis ((slice_index (D.numbers self.old.strides) axis * step) % 2 ^ 64) }
+    {
+        let stride = self.strides.axis(axis);
+        self.start = self.start.wrapping_add(from.wrapping_mul(stride));
+        self.dim.set_axis(axis, len);
+        self.strides.set_axis(axis, stride.wrapping_mul(step));
+    }
+
+    /// The same under another type of dimension, which has this number of axes.
+    pub(crate) fn into_dimensionality<E: Lengths>(self) -> Layout<E>
+        requires as_many { length (D.numbers self.strides) ≡ length (D.numbers self.dim) }
+        requires has { E.has_axes (length (D.numbers self.dim)) }
+        ensures start { result.start ≡ self.start }
+        ensures dim { E.numbers result.dim ≡ D.numbers self.dim }
+        ensures strides { E.numbers result.strides ≡ D.numbers self.strides }
+    {
+        let Layout {
+            start,
+            dim,
+            strides,
+        } = self;
+        Layout {
+            start,
+            dim: same_numbers(&dim),
+            strides: same_numbers(&strides),
+        }
+    }
+}
+
+impl<D: RemoveAxis> Layout<D> {
+    /// That of the item at an index of an axis.
+    pub(crate) fn item(&self, axis: Axis, index: usize) -> Layout<D::Smaller>
+        requires as_many { length (D.numbers self.now.strides) ≡ length (D.numbers self.now.dim) }
+        requires axis { axis.0 < length (D.numbers self.now.dim) }
+        ensures start { result.start ≡ (self.now.start + (index * slice_index (D.numbers self.now.strides) axis.0) % 2 ^ 64) % 2 ^ 64 }
+        ensures dim { D.Smaller.numbers result.dim ≡ remove (D.numbers self.now.dim) axis.0 }
+        ensures strides { D.Smaller.numbers result.strides ≡ remove (D.numbers self.now.strides) axis.0 }
+    {
+        Layout {
+            start: self
+                .start
+                .wrapping_add(index.wrapping_mul(self.strides.axis(axis.0))),
+            dim: self.dim.remove_axis(axis),
+            strides: self.strides.remove_axis(axis),
+        }
+    }
+}
+
+impl<D: Dimension> Layout<D> {
+    /// The same with an axis of length 1 put in.
+    pub(crate) fn insert_axis(self, axis: Axis) -> Layout<D::Larger>
+        requires as_many { length (D.numbers self.strides) ≡ length (D.numbers self.dim) }
+        requires axis { axis.0 ≤ length (D.numbers self.dim) }
+        requires room { length (D.numbers self.dim) < 32 }
+        ensures start { result.start ≡ self.start }
+        ensures dim { D.Larger.numbers result.dim ≡ insert (D.numbers self.dim) axis.0 1 }
+        ensures strides { D.Larger.numbers result.strides ≡ insert (D.numbers self.strides) axis.0 1 }
+    {
+        let Layout {
+            start,
+            dim,
+            strides,
+        } = self;
+        Layout {
+            start,
+            dim: dim.insert_axis(axis),
+            strides: strides.insert_axis(axis),
+        }
+    }
+}
+
+/// The same numbers under another type of dimension, which has this number of axes.
+fn same_numbers<D: Lengths, E: Lengths>(numbers: &D) -> E
+    requires { E.has_axes (length (D.numbers numbers.now)) }
+    ensures { E.numbers result ≡ D.numbers numbers.now }
+{
+    let ndim = numbers.ndim();
+    let mut same = E::zeros(ndim);
+    for k in 0..ndim {
+        same.set_axis(k, numbers.axis(k));
+    }
+    same
 }
 
 /// The strides of a box whose cells lie side by side in the order.

@@ -39,10 +39,9 @@ impl<S: Data, D: Lengths> ArrayBase<S, D> {
         ensures whole { IsGrid self.new }
     {
         let len = self.layout.dim.axis(axis.0);
-        let stride = self.layout.strides.axis(axis.0);
-        let reach = len.wrapping_sub(1).wrapping_mul(stride);
-        self.layout.start = self.layout.start.wrapping_add(reach);
-        self.layout.strides.set_axis(axis.0, stride.wrapping_neg());
+        // All its places, from the last one back: `usize::MAX` is the bits of -1.
+        self.layout
+            .cut(axis.0, len.wrapping_sub(1), len, usize::MAX);
     }
 
     /// The array seen at other lengths: aligned at the last axes, each length is the one that it

@@ -1,6 +1,8 @@
 //! The cells of an array, one by one.
 
-use ndarray::{ArrayView, Axis, Dimension, Ix0, Ix1, Ix2, IxDyn, Lengths, ShapeBuilder};
+use crate::tests::layouts::layouts;
+use ndarray::iter::ElementsBase;
+use ndarray::{ArrayView, Axis, Dimension, Ix0, Ix1, Ix2, IxDyn, Lengths, ShapeBuilder, Slice};
 use std::alloc::{AllocError, Global};
 use std::test::Fail;
 
@@ -153,5 +155,264 @@ fn dimensions_known_when_run(rt: HostRuntime) -> Result<(), Fail> {
     );
     let pattern = view.raw_dim().into_pattern();
     assert_eq!(rt; pattern.slice(), [2, 2].as_slice());
+    Ok(())
+}
+
+#[test]
+fn each_layout_has_the_same_cells(rt: HostRuntime) -> Result<(), Fail> {
+    for view in &layouts()? {
+        assert_eq!(rt;
+            cells(rt.alloc(), view)?.as_slice(),
+            [1, 2, 3, 4, 5, 6].as_slice()
+        );
+        let indexed: Vec<((usize, usize), &i64)> = view.indexed_iter().collect(rt.alloc())?;
+        assert_eq!(rt;
+            indexed.as_slice(),
+            [
+                ((0, 0), &1),
+                ((0, 1), &2),
+                ((0, 2), &3),
+                ((1, 0), &4),
+                ((1, 1), &5),
+                ((1, 2), &6),
+            ]
+            .as_slice()
+        );
+    }
+    Ok(())
+}
+
+#[test]
+fn transposed_cells_beside_their_index_lists(rt: HostRuntime) -> Result<(), Fail> {
+    let view = ArrayView::from_shape((2, 3), &[1i64, 2, 3, 4, 5, 6])?;
+    let turned = view.t();
+    let indexed: Vec<((usize, usize), &i64)> = turned.indexed_iter().collect(rt.alloc())?;
+    assert_eq!(rt;
+        indexed.as_slice(),
+        [
+            ((0, 0), &1),
+            ((0, 1), &4),
+            ((1, 0), &2),
+            ((1, 1), &5),
+            ((2, 0), &3),
+            ((2, 1), &6),
+        ]
+        .as_slice()
+    );
+    Ok(())
+}
+
+#[test]
+fn one_index_is_a_plain_number(rt: HostRuntime) -> Result<(), Fail> {
+    let mut view = ArrayView::from_shape(3, &[1i64, 2, 3])?;
+    view.invert_axis(Axis(0));
+    let mut iter = view.indexed_iter();
+    assert_eq!(rt; iter.len(), 3);
+    assert_eq!(rt; iter.next(), Some((0, &3)));
+    assert_eq!(rt; iter.next(), Some((1, &2)));
+    assert_eq!(rt; iter.size_hint(), (1, Some(1)));
+    assert_eq!(rt; iter.next(), Some((2, &1)));
+    assert_eq!(rt; iter.next(), None);
+    assert_eq!(rt; iter.next(), None);
+    assert_eq!(rt; iter.len(), 0);
+    Ok(())
+}
+
+#[test]
+fn index_lists_of_a_broadcast_row(rt: HostRuntime) -> Result<(), Fail> {
+    let row = ArrayView::from_shape(2, &[1i64, 2])?;
+    let rows = row.broadcast((2, 2)).ok_or("broadcast")?;
+    let indexed: Vec<((usize, usize), &i64)> = rows.indexed_iter().collect(rt.alloc())?;
+    assert_eq!(rt;
+        indexed.as_slice(),
+        [((0, 0), &1), ((0, 1), &2), ((1, 0), &1), ((1, 1), &2)].as_slice()
+    );
+    Ok(())
+}
+
+#[test]
+fn no_axes_have_the_empty_index_list(rt: HostRuntime) -> Result<(), Fail> {
+    let view: ArrayView<'_, i64, Ix0> = ArrayView::from_shape((), &[7])?;
+    let mut iter = view.indexed_iter();
+    assert_eq!(rt; iter.next(), Some(((), &7)));
+    assert_eq!(rt; iter.next(), None);
+    Ok(())
+}
+
+#[test]
+fn an_empty_axis_leaves_no_index_lists(rt: HostRuntime) -> Result<(), Fail> {
+    let none: [i64; 0] = [];
+    let view = ArrayView::from_shape((2, 0), &none)?;
+    assert_eq!(rt; view.indexed_iter().len(), 0);
+    assert_eq!(rt; view.indexed_iter().next(), None);
+    Ok(())
+}
+
+#[test]
+fn index_lists_of_a_dimension_known_when_run(rt: HostRuntime) -> Result<(), Fail> {
+    let view = ArrayView::from_shape(IxDyn(&[1, 2]), &[1i64, 2])?;
+    let mut iter = view.indexed_iter();
+    let (first, one) = iter.next().ok_or("first")?;
+    assert_eq!(rt; first.slice(), [0, 0].as_slice());
+    assert_eq!(rt; one, &1);
+    let (second, two) = iter.next().ok_or("second")?;
+    assert_eq!(rt; second.slice(), [0, 1].as_slice());
+    assert_eq!(rt; two, &2);
+    assert!(rt; iter.next().is_none());
+    Ok(())
+}
+
+#[test]
+fn a_clone_goes_on_with_the_same_index_lists(rt: HostRuntime) -> Result<(), Fail> {
+    let view = ArrayView::from_shape((1, 3), &[1i64, 2, 3])?;
+    let mut iter = view.indexed_iter();
+    let _ = iter.next();
+    let mut again = iter.clone()?;
+    assert_eq!(rt; iter.next(), Some(((0, 1), &2)));
+    assert_eq!(rt; iter.next(), Some(((0, 2), &3)));
+    assert_eq!(rt; again.next(), Some(((0, 1), &2)));
+    assert_eq!(rt; again.len(), 1);
+    Ok(())
+}
+
+#[test]
+fn the_elements_of_a_view_are_its_cells(rt: HostRuntime) -> Result<(), Fail> {
+    let view = ArrayView::from_shape((2, 2).f(), &[1i64, 3, 2, 4])?;
+    let mut elements = ElementsBase::new(view);
+    assert_eq!(rt; elements.len(), 4);
+    assert_eq!(rt; elements.next(), Some(&1));
+    let again = elements.clone()?;
+    assert_eq!(rt; elements.next(), Some(&2));
+    assert_eq!(rt; elements.size_hint(), (2, Some(2)));
+    let left: Vec<i64> = again.copied().collect(rt.alloc())?;
+    assert_eq!(rt; left.as_slice(), [2, 3, 4].as_slice());
+    Ok(())
+}
+
+#[test]
+fn both_ends_of_the_elements_meet(rt: HostRuntime) -> Result<(), Fail> {
+    let mut view = ArrayView::from_shape(3, &[1i64, 2, 3])?;
+    view.invert_axis(Axis(0));
+    let mut elements = ElementsBase::new(view);
+    assert_eq!(rt; elements.next_back(), Some(&1));
+    assert_eq!(rt; elements.next(), Some(&3));
+    assert_eq!(rt; elements.len(), 1);
+    assert_eq!(rt; elements.next_back(), Some(&2));
+    for _ in 0..2 {
+        assert_eq!(rt; elements.next(), None);
+        assert_eq!(rt; elements.next_back(), None);
+        assert_eq!(rt; elements.len(), 0);
+    }
+    Ok(())
+}
+
+#[test]
+fn every_second_cell(rt: HostRuntime) -> Result<(), Fail> {
+    let mut view = ArrayView::from_shape(5, &[1i64, 2, 3, 4, 5])?;
+    let second = Slice::new(0, None, 2);
+    if !view.slice_ok(Axis(0), &second) {
+        return Err("slice".into());
+    }
+    view.slice_axis_inplace(Axis(0), second);
+    assert_eq!(rt; cells(rt.alloc(), &view)?.as_slice(), [1, 3, 5].as_slice());
+    let backwards: Vec<&i64> = view.iter().rev().collect(rt.alloc())?;
+    assert_eq!(rt; backwards.as_slice(), [&5, &3, &1].as_slice());
+    Ok(())
+}
+
+#[test]
+fn references_are_collected_in_order(rt: HostRuntime) -> Result<(), Fail> {
+    let mut view = ArrayView::from_shape(3, &[1i64, 2, 3])?;
+    view.invert_axis(Axis(0));
+    let references: Vec<&i64> = view.iter().collect(rt.alloc())?;
+    assert_eq!(rt; references.as_slice(), [&3, &2, &1].as_slice());
+    let tried: Vec<&i64> = view
+        .iter()
+        .map(|x| -> Result<&i64, AllocError> { Ok(x) })
+        .try_collect(rt.alloc())?;
+    assert_eq!(rt; tried.as_slice(), [&3, &2, &1].as_slice());
+    Ok(())
+}
+
+#[test]
+fn nth_leaves_cells_out(rt: HostRuntime) -> Result<(), Fail> {
+    let view = ArrayView::from_shape((2, 2), &[1i64, 2, 3, 4])?;
+    let turned = view.t();
+    let mut iter = turned.iter();
+    assert_eq!(rt; iter.nth(1), Some(&3));
+    assert_eq!(rt; iter.nth(0), Some(&2));
+    assert_eq!(rt; iter.nth(1), None);
+    assert_eq!(rt; iter.next(), None);
+    let line = ArrayView::from_shape(3, &[1i64, 2, 3])?;
+    let mut iter = line.iter();
+    assert_eq!(rt; iter.nth(usize::MAX), None);
+    assert_eq!(rt; iter.next(), None);
+    Ok(())
+}
+
+#[test]
+fn nth_back_leaves_cells_out_from_the_end(rt: HostRuntime) -> Result<(), Fail> {
+    let view = ArrayView::from_shape(3, &[1i64, 2, 3])?;
+    let mut iter = view.iter();
+    assert_eq!(rt; iter.nth_back(1), Some(&2));
+    assert_eq!(rt; iter.next(), Some(&1));
+    assert_eq!(rt; iter.nth_back(0), None);
+    let mut iter = view.iter();
+    assert_eq!(rt; iter.nth_back(5), None);
+    assert_eq!(rt; iter.next(), None);
+    Ok(())
+}
+
+#[test]
+fn folds_go_in_row_order_or_back(rt: HostRuntime) -> Result<(), Fail> {
+    let view = ArrayView::from_shape((2, 2), &[1i64, 2, 3, 4])?;
+    let digits = |number: i64, digit: &i64| number.wrapping_mul(10).wrapping_add(*digit);
+    assert_eq!(rt; view.t().iter().fold(0, digits), 1324);
+    let line = ArrayView::from_shape(3, &[1i64, 2, 3])?;
+    assert_eq!(rt; line.iter().fold(0, digits), 123);
+    assert_eq!(rt; line.iter().rfold(0, digits), 321);
+    Ok(())
+}
+
+#[test]
+fn questions_stop_at_the_cell_that_answers(rt: HostRuntime) -> Result<(), Fail> {
+    let view = ArrayView::from_shape((2, 2), &[1i64, 2, 3, 4])?;
+    assert!(rt; view.iter().all(|x| *x > 0));
+    assert!(rt; !view.iter().any(|x| *x > 4));
+    let mut iter = view.iter();
+    assert!(rt; !iter.all(|x| *x < 2));
+    assert_eq!(rt; iter.next(), Some(&3));
+    let mut iter = view.iter();
+    assert!(rt; iter.any(|x| *x == 3));
+    assert_eq!(rt; iter.next(), Some(&4));
+    Ok(())
+}
+
+#[test]
+fn the_first_cell_that_passes(rt: HostRuntime) -> Result<(), Fail> {
+    let view = ArrayView::from_shape((2, 2), &[1i64, 2, 3, 4])?;
+    let turned = view.t();
+    let mut iter = turned.iter();
+    assert_eq!(rt; iter.find(|x| **x > 1), Some(&3));
+    assert_eq!(rt; iter.next(), Some(&2));
+    assert_eq!(rt; turned.iter().find(|x| **x > 4), None);
+    let half = |x: &i64| if *x % 2 == 0 { Some(*x / 2) } else { None };
+    assert_eq!(rt; view.iter().find_map(half), Some(1));
+    assert_eq!(rt; turned.iter().position(|x| *x == 2), Some(2));
+    assert_eq!(rt; turned.iter().position(|x| *x == 5), None);
+    Ok(())
+}
+
+#[test]
+fn the_number_of_cells_and_the_last_one(rt: HostRuntime) -> Result<(), Fail> {
+    let view = ArrayView::from_shape((2, 2), &[1i64, 2, 3, 4])?;
+    let mut iter = view.iter();
+    let _ = iter.next();
+    assert_eq!(rt; iter.count(), 3);
+    assert_eq!(rt; view.iter().last(), Some(&4));
+    let none: [i64; 0] = [];
+    let empty = ArrayView::from_shape((0, 2), &none)?;
+    assert_eq!(rt; empty.iter().count(), 0);
+    assert_eq!(rt; empty.iter().last(), None);
     Ok(())
 }

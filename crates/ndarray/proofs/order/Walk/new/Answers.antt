@@ -13,7 +13,7 @@ invariant_of-result g c =
     let z : g.D.Lengths.numbers c.zeros-index.result ≡ replicate (length ns) 0 = c.zeros-index.ensures ∙ ap (λ x. replicate x 0) c.ndim.ensures.value in
     let P : List ℕ → Type 0 = λ x. WalkStands c.args.order ns x c.size-left.result in
     let Q : ℕ → Type 0 = λ x. WalkStands c.args.order ns (replicate (length ns) 0) x in
-    subst P (sym z) (subst Q (sym c.size-left.ensures) (walk-stands_new c.args.order ns))
+    subst P (sym z) (subst Q (sym c.size-left.ensures) (walk-stands_new c.args.order ns c.requires))
 
 pub returns-clause-list : goal.returns-clause-list
 returns-clause-list g c =

@@ -1,10 +1,10 @@
 use Rattle.std.proofs.Common.{rules, arith, ◌-◌, ◌≡◌, ap, sym, ◌∙◌, length, length-append}
-use Rattle.ndarray.proofs.Walks.{walk_rest-back_one, one-below}
+use Rattle.ndarray.proofs.Walks.{walk_rest-back_one, one-fits}
 use Rattle.ndarray.proofs.order.WalkIx1DoubleEndedIterator.next_back.Goals as goal
 
 pub overflow_add-result : goal.overflow_add-result
 overflow_add-result c =
-    let b = one-below c.self.inside.order c.self.inside.dim.0 c.self.inside.index.0 c.self.inside.left (search rules) (omega (arith, c.if-self-eq0.false)) c.self.invariant in
+    let b = one-fits c.self.inside.order c.self.inside.dim.0 c.self.inside.index.0 c.self.inside.left (search rules) (omega (arith, c.if-self-eq0.false)) c.self.invariant in
     omega arith
 
 pub returns-clause-steps : goal.returns-clause-steps

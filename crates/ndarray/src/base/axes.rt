@@ -1,0 +1,157 @@
+//! Views along one axis, and with other axes, by index equations. None of these copies a cell or
+//! takes memory.
+
+ghost use Rattle.std.specs.Prelude.{◌≡◌, ◌+◌, ◌<◌, ◌≤◌, length, slice_index, ◌↔◌, IsTrue, IsOk, IfOk, IfErr};
+ghost use Rattle.ndarray.specs.Grid.{IsGrid};
+ghost use Rattle.ndarray.specs.Slices.{IsSliceOf, sliced};
+ghost use Rattle.ndarray.specs.Views.{axes_swapped, axis_item, axis_inserted, axis_part};
+ghost use Rattle.ndarray.specs.declared.base.error.ErrorKind.TheVariants.{IncompatibleShape};
+
+use crate::base::array::{ArrayBase, ArrayView};
+use crate::base::axis::Axis;
+use crate::base::dimension::{Dimension, Lengths, RemoveAxis};
+use crate::base::error::{ErrorKind, ShapeError};
+use crate::base::slice::Slice;
+use crate::base::storage::Data;
+
+impl<S: Data, D: Lengths> ArrayBase<S, D> {
+    /// Whether the axis is below the number of axes.
+    pub fn axis_ok(&self, axis: Axis) -> bool
+        ensures { IsTrue result ↔ (axis.0 < length self.now.lengths) }
+    {
+        axis.0 < self.ndim()
+    }
+
+    /// Exchanges two axes, both of which the caller owes to be below the number of axes.
+    pub fn swap_axes(&mut self, ax: usize, bx: usize)
+        requires first { ax < length self.old.lengths }
+        requires second { bx < length self.old.lengths }
+        ensures value { self.new ≡ axes_swapped self.old ax bx }
+        ensures whole { IsGrid self.new }
+    {
+        self.layout.swap_axes(ax, bx);
+    }
+
+    /// Whether `slice_axis` may be asked for this: the axis is below the number of axes, the slice
+    /// is within its length, and its step is not 0.
+    pub fn slice_ok(&self, axis: Axis, slice: &Slice) -> bool
+        ensures { IsTrue result ↔ ((axis.0 < length self.now.lengths) × IsSliceOf (slice_index self.now.lengths axis.0) slice.now) }
+    {
+        self.axis_ok(axis) && slice.is_within(self.layout.dim.axis(axis.0))
+    }
+
+    /// The array of the indices that a slice takes on an axis.
+    ///
+    /// The caller owes an axis below the number of axes, a slice within its length, and a step that
+    /// is not 0; the test is `slice_ok`.
+    pub fn slice_axis(&self, axis: Axis, slice: Slice) -> ArrayView<'_, S::Elem, D>
+        requires axis { axis.0 < length self.now.lengths }
+        requires within { IsSliceOf (slice_index self.now.lengths axis.0) slice }
+        ensures value { result ≡ sliced self.now axis.0 slice }
+        ensures whole { IsGrid result }
+    {
+        let mut view = self.view();
+        view.slice_axis_inplace(axis, slice);
+        view
+    }
+
+    /// The same in place of the array.
+    pub fn slice_axis_inplace(&mut self, axis: Axis, slice: Slice)
+        requires axis { axis.0 < length self.old.lengths }
+        requires within { IsSliceOf (slice_index self.old.lengths axis.0) slice }
+        ensures value { self.new ≡ sliced self.old axis.0 slice }
+        ensures whole { IsGrid self.new }
+    {
+        let (from, len) = slice.extent(self.layout.dim.axis(axis.0));
+        self.layout
+            .cut(axis.0, from, len, slice.step.cast_unsigned());
+    }
+
+    /// The same cells under another type of dimension; `IncompatibleShape` exactly where that type
+    /// cannot have this number of axes.
+    pub fn into_dimensionality<E: Dimension>(self) -> Result<ArrayBase<S, E>, ShapeError>
+        ensures accepts { IsOk result ↔ E.has_axes (length self.lengths) }
+        ensures value { IfOk result (λ a. a ≡ self) }
+        ensures kind { IfErr result (λ e. e.kind ≡ IncompatibleShape) }
+    {
+        if !E::may_have(self.layout.dim.ndim()) {
+            return Err(ShapeError::from_kind(ErrorKind::IncompatibleShape));
+        }
+        let ArrayBase { storage, layout } = self;
+        let array = ArrayBase {
+            storage,
+            layout: layout.into_dimensionality(),
+        };
+        Ok(array)
+    }
+}
+
+impl<S: Data, D: RemoveAxis> ArrayBase<S, D> {
+    /// Item `index` along an axis: the cell at an index list is that with `index` put in at the
+    /// axis.
+    ///
+    /// The caller owes an axis below the number of axes (the test is `axis_ok`) and an index below
+    /// its length.
+    pub fn index_axis(&self, axis: Axis, index: usize) -> ArrayView<'_, S::Elem, D::Smaller>
+        requires axis { axis.0 < length self.now.lengths }
+        requires within { index < slice_index self.now.lengths axis.0 }
+        ensures value { result ≡ axis_item self.now axis.0 index }
+        ensures whole { IsGrid result }
+    {
+        ArrayBase {
+            storage: self.storage.seen(),
+            layout: self.layout.item(axis, index),
+        }
+    }
+}
+
+impl<S: Data, D: Dimension> ArrayBase<S, D> {
+    /// The array with an axis of length 1 put in.
+    ///
+    /// The caller owes an axis that is at most the number of axes, which is below 32.
+    pub fn insert_axis(self, axis: Axis) -> ArrayBase<S, D::Larger>
+        requires axis { axis.0 ≤ length self.lengths }
+        requires room { length self.lengths < 32 }
+        ensures value { result ≡ axis_inserted self axis.0 }
+        ensures whole { IsGrid result }
+    {
+        let ArrayBase { storage, layout } = self;
+        ArrayBase {
+            storage,
+            layout: layout.insert_axis(axis),
+        }
+    }
+}
+
+impl<'a, A, D: Lengths> ArrayView<'a, A, D> {
+    /// The first `index` places of an axis, and the rest.
+    ///
+    /// The caller owes an axis below the number of axes (the test is `axis_ok`) and an index that is
+    /// at most its length.
+    pub fn split_at(self, axis: Axis, index: usize) -> (Self, Self)
+        requires axis { axis.0 < length self.lengths }
+        requires within { index ≤ slice_index self.lengths axis.0 }
+        ensures first { result.0 ≡ axis_part self.entry axis.0 0 index }
+        ensures second { result.1 ≡ axis_part self.entry axis.0 index (slice_index self.entry.lengths axis.0) }
+        ensures first_whole { IsGrid result.0 }
+        ensures second_whole { IsGrid result.1 }
+    {
+        let len = self.layout.dim.axis(axis.0);
+        (
+            self.part(axis.0, 0, index),
+            self.part(axis.0, index, len - index),
+        )
+    }
+
+    /// The `len` places of an axis from `from` on.
+    pub(crate) fn part(&self, axis: usize, from: usize, len: usize) -> Self
+        requires axis { axis < length self.now.lengths }
+        requires within { from + len ≤ slice_index self.now.lengths axis }
+        ensures value { result ≡ axis_part self.now axis from (from + len) }
+        ensures whole { IsGrid result }
+    {
+        let mut part = self.again();
+        part.layout.cut(axis, from, len, 1);
+        part
+    }
+}

@@ -1,0 +1,119 @@
+//! Slices of an axis.
+
+ghost use Rattle.std.specs.Prelude.{◌≡◌, ℕ, ◌+◌, ◌*◌, ◌%◌, ◌^◌, ◌<◌, ◌↔◌, IsTrue, pos, Some, None};
+ghost use Rattle.std.specs.Int.{cast_unsigned, w64};
+ghost use Rattle.ndarray.specs.Slices.{IsSliceOf, counted, slice_end, slice_index_at, slice_length, slice_start};
+
+use std::ops::{Range, RangeFrom, RangeFull, RangeTo};
+
+/// Every `step`-th index of an axis, from `start` up to `end`, or for a negative step back from the
+/// index before `end`.
+///
+/// On an axis of length n a negative `start` or `end` counts from n, no `end` is n, and an `end`
+/// below `start` is `start`.
+#[derive(Clone, Copy, PartialEq, Eq, Hash, Debug)]
+pub struct Slice {
+    /// Where the slice starts.
+    pub start: isize,
+    /// Where the slice ends; that index is no longer taken.
+    pub end: Option<isize>,
+    /// How far apart the indices are; a negative step takes them from the last to the first.
+    pub step: isize,
+}
+
+impl Slice {
+    /// The slice of a start, an end and a step.
+    pub fn new(start: isize, end: Option<isize>, step: isize) -> Slice
+        ensures { result ≡ record { start = start; end = end; step = step } }
+    {
+        Slice { start, end, step }
+    }
+
+    /// Whether the slice is within an axis of this length, and its step is not 0.
+    pub(crate) fn is_within(&self, len: usize) -> bool
+        requires { len < 2 ^ 63 }
+        ensures { IsTrue result ↔ IsSliceOf len self.now }
+    {
+        let (start, end) = self.ends(len);
+        0 <= start && end <= len as isize && self.step != 0
+    }
+
+    /// The start and the end on an axis of this length.
+    fn ends(&self, len: usize) -> (isize, isize)
+        requires { len < 2 ^ 63 }
+        ensures start { result.0 ≡ slice_start len self.now }
+        ensures end { result.1 ≡ slice_end len self.now }
+    {
+        let start = counted(len, self.start);
+        let end = match self.end {
+            Some(end) => counted(len, end),
+            None => len as isize,
+        };
+        (start, start.max(end))
+    }
+
+    /// The first index that the slice takes of an axis of this length, and how many it takes.
+    pub(crate) fn extent(&self, len: usize) -> (usize, usize)
+        requires fits { len < 2 ^ 63 }
+        requires within { IsSliceOf len self.now }
+        ensures len { result.1 ≡ slice_length len self.now }
+        ensures indices { (i : ℕ) → i < result.1 → (result.0 + i * cast_unsigned w64 self.now.step) % 2 ^ 64 ≡ slice_index_at len self.now i }
+    {
+        let (start, end) = self.ends(len);
+        let taken = ((end - start) as usize).div_ceil(self.step.unsigned_abs());
+        let from = if self.step > 0 {
+            start
+        } else {
+            end.wrapping_sub(1)
+        };
+        (from.cast_unsigned(), taken)
+    }
+}
+
+/// The indices of a range, each of them.
+impl From<Range<isize>> for Slice {
+    ghost from_gives = { λ range s. s ≡ record { start = range.start; end = Some range.end; step = pos 1 } };
+
+    fn from(range: Range<isize>) -> Slice {
+        Slice::new(range.start, Some(range.end), 1)
+    }
+}
+
+/// The indices from a start on.
+impl From<RangeFrom<isize>> for Slice {
+    ghost from_gives = { λ range s. s ≡ record { start = range.start; end = None; step = pos 1 } };
+
+    fn from(range: RangeFrom<isize>) -> Slice {
+        Slice::new(range.start, None, 1)
+    }
+}
+
+/// The indices up to an end.
+impl From<RangeTo<isize>> for Slice {
+    ghost from_gives = { λ range s. s ≡ record { start = pos 0; end = Some range.end; step = pos 1 } };
+
+    fn from(range: RangeTo<isize>) -> Slice {
+        Slice::new(0, Some(range.end), 1)
+    }
+}
+
+/// All indices.
+impl From<RangeFull> for Slice {
+    ghost from_gives = { λ _ s. s ≡ record { start = pos 0; end = None; step = pos 1 } };
+
+    fn from(_range: RangeFull) -> Slice {
+        Slice::new(0, None, 1)
+    }
+}
+
+/// On an axis of length `len`, a negative number counts from it.
+fn counted(len: usize, number: isize) -> isize
+    requires { len < 2 ^ 63 }
+    ensures { result ≡ counted len number }
+{
+    if number < 0 {
+        len as isize + number
+    } else {
+        number
+    }
+}

@@ -1,0 +1,99 @@
+//! The iterator over cells beside their index lists.
+
+ghost use Rattle.std.specs.Prelude.{◌≡◌, ◌<◌, ◌^◌, length, zip, ⊤, IfSome, All, Some};
+ghost use Rattle.std.specs.Iterator.{YieldsFirstBy, UpTo, item_count};
+ghost use Rattle.std.specs.Iterator.SizeHint.{IsExactHint, IsWithinCount};
+ghost use Rattle.ndarray.specs.Grid.{cell};
+ghost use Rattle.ndarray.specs.Index.{row_order};
+
+use crate::base::array::{ArrayBase, ArrayView};
+use crate::base::dimension::{Dimension, Lengths};
+use crate::base::storage::Data;
+use crate::order::{Order, Walk};
+use std::alloc::AllocError;
+use std::iter::ExactSizeIterator;
+use std::marker::Model;
+
+/// The cells of an array that are still to come in row order, each beside its index list.
+///
+/// An iterator takes no memory, and neither does any of its steps.
+#[derive(Drop)]
+pub struct IndexedIter<'a, A, D: Lengths> {
+    view: ArrayView<'a, A, D>,
+    walk: Walk<D>,
+}
+
+impl<'a, A, D: Lengths> Model for IndexedIter<'a, A, D> {
+    ghost use Rattle.std.specs.Prelude.{ℕ, List, zip, filter_map};
+    ghost use Rattle.ndarray.specs.Grid.{HasCells, cell};
+
+    ghost Value = { List (List ℕ × A) };
+
+    ghost view = { λ s. zip s.walk (filter_map (cell s.view) s.walk) };
+
+    ghost invariant = { λ s. HasCells s.view s.walk };
+}
+
+impl<S: Data, D: Dimension> ArrayBase<S, D> {
+    /// The cells in row order, whatever the strides, each beside the pattern of its index list.
+    ///
+    /// ```
+    /// let view = ArrayView::from_shape((2, 2), &[1, 2, 3, 4])?;
+    /// // (0, 0) 1, (0, 1) 3, (1, 0) 2, (1, 1) 4
+    /// for ((i, j), x) in view.t().indexed_iter() { .. }
+    /// ```
+    pub fn indexed_iter(&self) -> IndexedIter<'_, S::Elem, D>
+        ensures row_order { result ≡ zip (row_order self.now.lengths) self.now.cells }
+        ensures own_cells { All (λ item. cell self.now item.0 ≡ Some item.1) result }
+        ensures fits { length result < 2 ^ 63 }
+    {
+        IndexedIter {
+            view: self.view(),
+            walk: Walk::new(self.raw_dim(), Order::RowMajor),
+        }
+    }
+}
+
+impl<'a, A, D: Dimension> Iterator for IndexedIter<'a, A, D> {
+    type Item = (D::Pattern, &'a A);
+
+    ghost next_gives = { YieldsFirstBy (λ item. (D.pattern_numbers item.0, item.1.now)) (λ rest. rest) };
+
+    ghost remaining = { item_count (λ rest. rest) };
+
+    fn next(&mut self) -> Option<(D::Pattern, &'a A)> {
+        let Some(index) = self.walk.next() else {
+            return None;
+        };
+        let item = self.view.item(&index);
+        Some((index.into_pattern(), item))
+    }
+
+    fn size_hint(&self) -> (usize, Option<usize>)
+        ensures lower { IsWithinCount result.0 (item_count (λ rest. rest) self.now) }
+        ensures upper { IfSome result.1 (UpTo (item_count (λ rest. rest) self.now)) }
+        ensures exact { IsExactHint result (length self.now) }
+    {
+        let len = self.len();
+        (len, Some(len))
+    }
+}
+
+impl<'a, A, D: Dimension> ExactSizeIterator for IndexedIter<'a, A, D> {
+    fn len(&self) -> usize {
+        self.walk.len()
+    }
+}
+
+impl<'a, A, D: Lengths> Clone for IndexedIter<'a, A, D> {
+    ghost is_clone = { λ s r. r ≡ s };
+
+    ghost is_infallible = { λ _. ⊤ };
+
+    fn clone(&self) -> Result<IndexedIter<'a, A, D>, AllocError> {
+        Ok(IndexedIter {
+            view: self.view.again(),
+            walk: self.walk.clone()?,
+        })
+    }
+}

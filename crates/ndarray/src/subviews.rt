@@ -1,0 +1,10 @@
+//! Subviews of an array: items and chunks along an axis, lanes, exact chunks and windows, and the
+//! iterators over them.
+
+pub mod axis;
+pub mod axis_chunks;
+pub mod exact_chunks;
+pub mod lanes;
+pub(crate) mod positions;
+pub(crate) mod tiles;
+pub mod windows;

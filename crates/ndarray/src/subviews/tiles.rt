@@ -1,0 +1,175 @@
+//! Inside `subviews`: equal pieces of an array, one at each position of a box, and the iterator over
+//! them. All subviews but axis chunks are such pieces.
+
+ghost use Rattle.std.specs.Prelude.{◌≡◌, ◌+◌, ◌^◌, ◌≤◌, ◌<◌, length, take, drop, Some, ⊤, IfSome};
+ghost use Rattle.std.specs.Iterator.{UpTo, YieldsFirst, YieldsLast, item_count};
+ghost use Rattle.std.specs.Iterator.SizeHint.{IsExactHint, IsWithinCount};
+ghost use Rattle.ndarray.specs.Index.{InBox};
+ghost use Rattle.ndarray.specs.Grid.{IsGrid, cell};
+ghost use Rattle.ndarray.specs.Limits.{IsWithinLimit};
+
+use crate::base::array::{ArrayBase, ArrayView};
+use crate::base::dimension::{Ix1, Lengths};
+use crate::base::layout::Layout;
+use crate::base::storage::ViewRepr;
+use crate::order::{Order, Walk};
+use std::alloc::AllocError;
+use std::iter::ExactSizeIterator;
+use std::marker::Model;
+
+/// Equal pieces of an array, one at each position of a box: an array of arrays.
+#[derive(Drop)]
+pub(crate) struct Tiles<'a, A, P: Lengths, D: Lengths> {
+    pub(crate) storage: ViewRepr<'a, A>,
+    // where the piece at a position begins
+    pub(crate) positions: Layout<P>,
+    // the lengths and the strides of each piece
+    pub(crate) dim: D,
+    pub(crate) strides: D,
+}
+
+impl<'a, A, P: Lengths, D: Lengths> Model for Tiles<'a, A, P, D> {
+    ghost use Rattle.ndarray.specs.Grid.{Grid};
+
+    ghost Value = { Grid (Grid A) };
+
+    ghost use Rattle.ndarray.specs.base.Storage.{seen_at};
+    ghost use Rattle.ndarray.specs.base.Tiles.{ReachTiles, tiles_at};
+
+    ghost view = { λ t. tiles_at (seen_at t.storage) (P.numbers t.positions.dim) t.positions.start (P.numbers t.positions.strides) (D.numbers t.dim) (D.numbers t.strides) };
+
+    ghost invariant = { λ t. ReachTiles (seen_at t.storage) (P.numbers t.positions.dim) t.positions.start (P.numbers t.positions.strides) (D.numbers t.dim) (D.numbers t.strides) };
+}
+
+impl<'a, A, P: Lengths, D: Lengths> Tiles<'a, A, P, D> {
+    /// The numbers of positions.
+    pub(crate) fn raw_dim(&self) -> P
+        ensures lengths { P.numbers result ≡ self.now.lengths }
+        ensures limit { IsWithinLimit self.now.lengths }
+        ensures whole { IsGrid self.now }
+    {
+        self.positions.dim.copied()
+    }
+
+    /// The piece at a position of the box.
+    pub(crate) fn item(&self, position: &P) -> ArrayView<'a, A, D>
+        requires { InBox self.now.lengths (P.numbers position.now) }
+        ensures { cell self.now (P.numbers position.now) ≡ Some result }
+    {
+        ArrayBase {
+            storage: self.storage,
+            layout: Layout {
+                start: self.positions.place(position),
+                dim: self.dim.copied(),
+                strides: self.strides.copied(),
+            },
+        }
+    }
+
+    /// The same once more.
+    pub(crate) fn again(&self) -> Self
+        ensures { result ≡ self.now }
+    {
+        Tiles {
+            storage: self.storage,
+            positions: self.positions.copied(),
+            dim: self.dim.copied(),
+            strides: self.strides.copied(),
+        }
+    }
+
+    /// The pieces in row order of their positions.
+    pub(crate) fn into_iter(self) -> TilesIter<'a, A, P, D>
+        ensures items { result ≡ self.entry.cells }
+        ensures fits { length result < 2 ^ 63 }
+    {
+        let walk = Walk::new(self.raw_dim(), Order::RowMajor);
+        TilesIter { tiles: self, walk }
+    }
+}
+
+/// The pieces that are still to come, in row order of their positions.
+#[derive(Drop)]
+pub(crate) struct TilesIter<'a, A, P: Lengths, D: Lengths> {
+    tiles: Tiles<'a, A, P, D>,
+    walk: Walk<P>,
+}
+
+impl<'a, A, P: Lengths, D: Lengths> Model for TilesIter<'a, A, P, D> {
+    ghost use Rattle.std.specs.Prelude.{List, filter_map};
+    ghost use Rattle.ndarray.specs.Grid.{Grid, HasCells, cell};
+
+    ghost Value = { List (Grid A) };
+
+    ghost view = { λ s. filter_map (cell s.tiles) s.walk };
+
+    ghost invariant = { λ s. HasCells s.tiles s.walk };
+}
+
+impl<'a, A, P: Lengths, D: Lengths> Iterator for TilesIter<'a, A, P, D> {
+    type Item = ArrayView<'a, A, D>;
+
+    ghost next_gives = { YieldsFirst (λ rest. rest) };
+
+    ghost remaining = { item_count (λ rest. rest) };
+
+    fn next(&mut self) -> Option<ArrayView<'a, A, D>> {
+        let Some(position) = self.walk.next() else {
+            return None;
+        };
+        Some(self.tiles.item(&position))
+    }
+
+    fn size_hint(&self) -> (usize, Option<usize>)
+        ensures lower { IsWithinCount result.0 (item_count (λ rest. rest) self.now) }
+        ensures upper { IfSome result.1 (UpTo (item_count (λ rest. rest) self.now)) }
+        ensures exact { IsExactHint result (length self.now) }
+    {
+        let len = self.len();
+        (len, Some(len))
+    }
+}
+
+impl<'a, A, P: Lengths, D: Lengths> ExactSizeIterator for TilesIter<'a, A, P, D> {
+    fn len(&self) -> usize {
+        self.walk.len()
+    }
+}
+
+impl<'a, A, D: Lengths> DoubleEndedIterator for TilesIter<'a, A, Ix1, D> {
+    ghost next_back_gives = { YieldsLast (λ rest. rest) };
+
+    fn next_back(&mut self) -> Option<ArrayView<'a, A, D>> {
+        let Some(position) = self.walk.next_back() else {
+            return None;
+        };
+        Some(self.tiles.item(&position))
+    }
+}
+
+impl<'a, A, P: Lengths, D: Lengths> Clone for TilesIter<'a, A, P, D> {
+    ghost is_clone = { λ s r. r ≡ s };
+
+    ghost is_infallible = { λ _. ⊤ };
+
+    fn clone(&self) -> Result<TilesIter<'a, A, P, D>, AllocError> {
+        Ok(TilesIter {
+            tiles: self.tiles.again(),
+            walk: self.walk.clone()?,
+        })
+    }
+}
+
+impl<'a, A, D: Lengths> TilesIter<'a, A, Ix1, D> {
+    /// Takes the first `count` pieces still to come.
+    pub(crate) fn take_first(&mut self, count: usize) -> Self
+        requires { count ≤ length self.old }
+        ensures first { result ≡ take count self.old }
+        ensures rest { self.new ≡ drop count self.old }
+    {
+        TilesIter {
+            tiles: self.tiles.again(),
+            walk: self.walk.take_first(count),
+        }
+    }
+}

@@ -1,0 +1,216 @@
+//! The windows of an array, along all axes or along one.
+
+ghost use Rattle.std.specs.Prelude.{◌≡◌, ◌≤◌, ◌<◌, ◌↔◌, length, replicate, ⊤, IfSome, IsTrue};
+ghost use Rattle.std.specs.Iterator.{UpTo, YieldsFirst, item_count};
+ghost use Rattle.std.specs.Iterator.SizeHint.{IsExactHint, IsWithinCount};
+ghost use Rattle.ndarray.specs.Subviews.{ArePositive, axis_windows_of, windows_of};
+
+use crate::base::array::{ArrayBase, ArrayView};
+use crate::base::axis::Axis;
+use crate::base::dimension::{Dimension, Lengths};
+use crate::base::into_dimension::IntoDimension;
+use crate::base::storage::Data;
+use crate::subviews::positions::{are_positive, ones};
+use crate::subviews::tiles::{Tiles, TilesIter};
+use std::alloc::AllocError;
+use std::marker::Model;
+
+/// The windows of an array, in row order of their positions.
+#[derive(Drop)]
+pub struct Windows<'a, A, D: Lengths> {
+    tiles: Tiles<'a, A, D, D>,
+}
+
+impl<'a, A, D: Lengths> Model for Windows<'a, A, D> {
+    ghost use Rattle.ndarray.specs.Grid.{Grid};
+
+    ghost Value = { Grid (Grid A) };
+
+    ghost view = { λ s. s.tiles };
+}
+
+/// The windows of an array along one axis, from the first to the last; on the other axes they have
+/// the whole length.
+#[derive(Drop)]
+pub struct AxisWindows<'a, A, D: Lengths> {
+    // on each other axis there is one position
+    tiles: Tiles<'a, A, D, D>,
+}
+
+impl<'a, A, D: Lengths> Model for AxisWindows<'a, A, D> {
+    ghost use Rattle.ndarray.specs.Grid.{Grid, line};
+
+    ghost Value = { Grid (Grid A) };
+
+    ghost view = { λ s. line s.tiles.cells };
+}
+
+impl<S: Data, D: Dimension> ArrayBase<S, D> {
+    /// Whether there are as many window lengths and as many steps as axes, all at least 1.
+    pub fn windows_ok(&self, window: &D, steps: &D) -> bool
+        ensures { IsTrue result ↔ (ArePositive self.now.lengths (D.numbers window.now) × ArePositive self.now.lengths (D.numbers steps.now)) }
+    {
+        are_positive(&self.layout.dim, window) && are_positive(&self.layout.dim, steps)
+    }
+
+    /// The windows of these lengths, one at each position where a whole window begins.
+    ///
+    /// The caller owes as many window lengths as there are axes, each at least 1; the test is
+    /// `windows_ok`, with steps of 1.
+    pub fn windows<E: IntoDimension<Dim = D>>(&self, window: E) -> Windows<'_, S::Elem, D>
+        requires { ArePositive self.now.lengths (E.written_numbers window) }
+        ensures { result ≡ windows_of self.now (E.written_numbers window) (replicate (length self.now.lengths) 1) }
+    {
+        Windows {
+            tiles: self.pieces(window.into_dimension(), &ones(&self.layout.dim)),
+        }
+    }
+
+    /// The windows of these lengths, with positions so many steps apart on each axis: window i of an
+    /// axis starts at i times the step.
+    ///
+    /// The caller owes as many window lengths and as many steps as there are axes, all at least 1;
+    /// the test is `windows_ok`.
+    pub fn windows_with_stride<E: IntoDimension<Dim = D>>(
+        &self,
+        window: E,
+        steps: E,
+    ) -> Windows<'_, S::Elem, D>
+        requires window { ArePositive self.now.lengths (E.written_numbers window) }
+        requires steps { ArePositive self.now.lengths (E.written_numbers steps) }
+        ensures { result ≡ windows_of self.now (E.written_numbers window) (E.written_numbers steps) }
+    {
+        Windows {
+            tiles: self.pieces(window.into_dimension(), &steps.into_dimension()),
+        }
+    }
+}
+
+impl<S: Data, D: Lengths> ArrayBase<S, D> {
+    /// The windows of a length along one axis; on the other axes they have the whole length.
+    ///
+    /// The caller owes an axis below the number of axes and a window length of at least 1; the test
+    /// is `chunk_ok(axis, window)`.
+    pub fn axis_windows(&self, axis: Axis, window: usize) -> AxisWindows<'_, S::Elem, D>
+        requires axis { axis.0 < length self.now.lengths }
+        requires window { 1 ≤ window }
+        ensures { result ≡ axis_windows_of self.now axis.0 window 1 }
+    {
+        self.axis_windows_with_stride(axis, window, 1)
+    }
+
+    /// The same with positions a step apart: window i starts at i times the step.
+    ///
+    /// The caller owes an axis below the number of axes, and a window length and a step of at least
+    /// 1; the tests are `chunk_ok(axis, window)` and `chunk_ok(axis, step)`.
+    pub fn axis_windows_with_stride(
+        &self,
+        axis: Axis,
+        window: usize,
+        step: usize,
+    ) -> AxisWindows<'_, S::Elem, D>
+        requires axis { axis.0 < length self.now.lengths }
+        requires window { 1 ≤ window }
+        requires step { 1 ≤ step }
+        ensures { result ≡ axis_windows_of self.now axis.0 window step }
+    {
+        let mut lengths = self.layout.dim.copied();
+        lengths.set_axis(axis.0, window);
+        let mut steps = ones(&self.layout.dim);
+        steps.set_axis(axis.0, step);
+        AxisWindows {
+            tiles: self.pieces(lengths, &steps),
+        }
+    }
+}
+
+impl<'a, A, D: Lengths> Clone for Windows<'a, A, D> {
+    ghost is_clone = { λ s r. r ≡ s };
+
+    ghost is_infallible = { λ _. ⊤ };
+
+    fn clone(&self) -> Result<Windows<'a, A, D>, AllocError> {
+        Ok(Windows {
+            tiles: self.tiles.again(),
+        })
+    }
+}
+
+impl<'a, A, D: Lengths> IntoIterator for Windows<'a, A, D> {
+    ghost use Rattle.std.specs.Prelude.{◌<◌, ◌^◌, length};
+
+    type Item = ArrayView<'a, A, D>;
+
+    type IntoIter = WindowsIter<'a, A, D>;
+
+    ghost into_iter_gives = { λ s it. (it ≡ s.cells) × (length it < 2 ^ 63) };
+
+    fn into_iter(self) -> WindowsIter<'a, A, D> {
+        WindowsIter {
+            items: self.tiles.into_iter(),
+        }
+    }
+}
+
+impl<'a, A, D: Lengths> IntoIterator for AxisWindows<'a, A, D> {
+    ghost use Rattle.std.specs.Prelude.{◌<◌, ◌^◌, length};
+
+    type Item = ArrayView<'a, A, D>;
+
+    type IntoIter = WindowsIter<'a, A, D>;
+
+    ghost into_iter_gives = { λ s it. (it ≡ s.cells) × (length it < 2 ^ 63) };
+
+    fn into_iter(self) -> WindowsIter<'a, A, D> {
+        WindowsIter {
+            items: self.tiles.into_iter(),
+        }
+    }
+}
+
+/// The windows that are still to come, in row order of their positions.
+#[derive(Drop)]
+pub struct WindowsIter<'a, A, D: Lengths> {
+    items: TilesIter<'a, A, D, D>,
+}
+
+impl<'a, A, D: Lengths> Model for WindowsIter<'a, A, D> {
+    ghost use Rattle.std.specs.Prelude.{List};
+    ghost use Rattle.ndarray.specs.Grid.{Grid};
+
+    ghost Value = { List (Grid A) };
+
+    ghost view = { λ s. s.items };
+}
+
+impl<'a, A, D: Lengths> Iterator for WindowsIter<'a, A, D> {
+    type Item = ArrayView<'a, A, D>;
+
+    ghost next_gives = { YieldsFirst (λ rest. rest) };
+
+    ghost remaining = { item_count (λ rest. rest) };
+
+    fn next(&mut self) -> Option<ArrayView<'a, A, D>> {
+        self.items.next()
+    }
+
+    fn size_hint(&self) -> (usize, Option<usize>)
+        ensures lower { IsWithinCount result.0 (item_count (λ rest. rest) self.now) }
+        ensures upper { IfSome result.1 (UpTo (item_count (λ rest. rest) self.now)) }
+        ensures exact { IsExactHint result (length self.now) }
+    {
+        self.items.size_hint()
+    }
+}
+
+impl<'a, A, D: Lengths> Clone for WindowsIter<'a, A, D> {
+    ghost is_clone = { λ s r. r ≡ s };
+
+    ghost is_infallible = { λ _. ⊤ };
+
+    fn clone(&self) -> Result<WindowsIter<'a, A, D>, AllocError> {
+        Ok(WindowsIter {
+            items: self.items.clone()?,
+        })
+    }
+}
