@@ -2,6 +2,7 @@ pub mod AddedApart
 pub mod Beside
 pub mod Boxes
 pub mod Cells
+pub mod Cloned
 pub mod Cuts
 pub mod Chunked
 pub mod Filled
@@ -27,3 +28,4 @@ pub mod Verdicts
 pub mod Walks
 pub mod WholeSums
 pub mod WholeTests
+pub mod Writes

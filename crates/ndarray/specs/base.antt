@@ -1,6 +1,8 @@
 -- What only `base` speaks of: places and strides.
 pub mod Chunks
+pub mod Laws
 pub mod Places
+pub mod Pushed
 pub mod Storage
 pub mod Strides
 pub mod Tiles
