@@ -41,12 +41,6 @@ module _ {X Y : Type 0} (f : X → Option Y) where
 
 -- each element beside its image
 module _ {X Y : Type 0} (f : X → Option Y) where
-  pub length-zip-filter_map : (xs : List X) → All (λ x. (y : Y) × (f x ≡ Some y)) xs → length (zip xs (filter_map f xs)) ≡ length xs
-  length-zip-filter_map [] h = refl
-  length-zip-filter_map (x ∷ xs) h =
-      let here = h 0 x (omega arith) in
-      rw here.1 (ap (λ n. suc n) (length-zip-filter_map xs (λ k d lt. h (suc k) d (omega arith))))
-
   pub zip-filter_map : (xs : List X) → All (λ x. (y : Y) × (f x ≡ Some y)) xs → All (λ p. f p.0 ≡ Some p.1) (zip xs (filter_map f xs))
   zip-filter_map [] h = All-nil (λ p. f p.0 ≡ Some p.1)
   zip-filter_map (x ∷ xs) h =
