@@ -22,6 +22,7 @@ pub mod Steps
 pub mod Stretching
 pub mod Strides
 pub mod Swaps
+pub mod Totals
 pub mod Unique
 pub mod Verdicts
 pub mod Walks
