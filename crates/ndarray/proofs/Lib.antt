@@ -9,6 +9,9 @@ pub mod Images
 pub mod Items
 pub mod Lists
 pub mod OneAxis
+pub mod Magnitudes
+pub mod Nested
+pub mod NestedCuts
 pub mod Orders
 pub mod Pairs
 pub mod Permutations
