@@ -11,7 +11,9 @@ pub mod Lists
 pub mod OneAxis
 pub mod Magnitudes
 pub mod Nested
+pub mod NestedBoxes
 pub mod NestedCuts
+pub mod NestedMoves
 pub mod Orders
 pub mod Pairs
 pub mod Permutations
