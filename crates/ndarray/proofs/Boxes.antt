@@ -1,5 +1,6 @@
 -- The index lists of a box.
 use Rattle.std.proofs.Common.{◌≡◌, ℕ, ◌*◌, ◌<◌, suc, zero, List, [], ◌∷◌, ◌++◌, length, reverse, drop, set, get_or, replicate, inl, inr, refl, ap, arith, subst}
+use Rattle.std.specs.Prelude.{remove}
 use Rattle.std.proofs.lemmas.Bool.{cases_lt}
 use Rattle.std.proofs.lemmas.List.{set-get_or}
 use Rattle.ndarray.specs.Index.{InBox, size}
@@ -58,3 +59,9 @@ InBox-drop (suc k) [] [] h = tt
 InBox-drop (suc k) [] (i ∷ is) h = absurd h
 InBox-drop (suc k) (n ∷ ns) [] h = absurd h
 InBox-drop (suc k) (n ∷ ns) (i ∷ is) h = InBox-drop k ns is h.1
+
+pub InBox-removed : (ns is : List ℕ) (k : ℕ) → k < length ns → InBox ns is → InBox (remove ns k) (remove is k)
+InBox-removed [] is k lt h = absurd (omega arith)
+InBox-removed (n ∷ ns) [] k lt h = absurd h
+InBox-removed (n ∷ ns) (i ∷ is) zero lt h = h.1
+InBox-removed (n ∷ ns) (i ∷ is) (suc k) lt h = (h.0, InBox-removed ns is k (omega arith) h.1)

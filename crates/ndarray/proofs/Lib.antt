@@ -13,7 +13,9 @@ pub mod Magnitudes
 pub mod Nested
 pub mod NestedBoxes
 pub mod NestedCuts
+pub mod NestedLifts
 pub mod NestedMoves
+pub mod NestedPlaces
 pub mod Orders
 pub mod Pairs
 pub mod Permutations

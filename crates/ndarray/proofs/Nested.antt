@@ -1,11 +1,9 @@
 -- Strides that are nested, and what keeps them so.
-use Rattle.std.proofs.Common.{◌≡◌, ◌≢◌, ℕ, ◌+◌, ◌-◌, ◌*◌, ◌%◌, ◌<◌, ◌≤◌, ◌^◌, suc, List, length, get_or, set, inl, inr, refl, sym, ◌∙◌, ap, arith, subst}
+use Rattle.std.proofs.Common.{◌≡◌, ◌≢◌, ℕ, ◌+◌, ◌<◌, ◌≤◌, ◌^◌, List, length, get_or, sym, ◌∙◌, ap, arith}
 use Rattle.std.specs.Prelude.{remove}
-use Rattle.std.proofs.lemmas.Bool.{cases_lt}
-use Rattle.std.proofs.lemmas.List.{length-set, get_or-set_same, get_or-set_other}
 use Rattle.ndarray.specs.base.Nested.{magnitude, reach, reach_within, total, AreNested}
-use Rattle.ndarray.proofs.Totals.{total-one, total-two, total-set, total-remove, total-le}
-use Rattle.ndarray.proofs.Magnitudes.{reach-short, reach-long, within-near, within-far, within-le, within-short}
+use Rattle.ndarray.proofs.Totals.{total-two, total-remove}
+use Rattle.ndarray.proofs.Magnitudes.{within-near}
 
 -- what the axes of stride at most m reach
 abbrev pub reached_within : ℕ → List ℕ → List ℕ → ℕ

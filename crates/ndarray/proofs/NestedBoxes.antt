@@ -1,7 +1,6 @@
 -- The strides of a box whose cells lie side by side are nested.
-use Rattle.std.proofs.Common.{◌≡◌, ℕ, ◌+◌, ◌-◌, ◌*◌, ◌<◌, ◌≤◌, ◌^◌, suc, zero, List, [], ◌∷◌, length, reverse, take, drop, get_or, inl, inr, refl, sym, ◌∙◌, ap, arith, subst}
+use Rattle.std.proofs.Common.{◌≡◌, ℕ, ◌+◌, ◌-◌, ◌*◌, ◌<◌, ◌≤◌, ◌^◌, suc, zero, List, [], ◌∷◌, length, reverse, drop, get_or, refl, sym, ◌∙◌, ap, arith, subst}
 use Rattle.std.proofs.Math.Nat.{mul-le-mul_right}
-use Rattle.std.proofs.lemmas.Bool.{cases_lt}
 use Rattle.std.proofs.lemmas.List.{length-reverse, get_or-reverse, reverse-reverse}
 use Rattle.ndarray.specs.Index.{size}
 use Rattle.ndarray.specs.Limits.{nonzero_size}
@@ -9,9 +8,9 @@ use Rattle.ndarray.specs.base.Nested.{magnitude, reach, reach_within, total, Are
 use Rattle.ndarray.specs.base.Strides.{AreStridesOf}
 use Rattle.ndarray.specs.declared.base.shape.Order.{Order}
 use Rattle.ndarray.specs.declared.base.shape.Order.TheVariants.{RowMajor, ColumnMajor}
-use Rattle.ndarray.proofs.Sizes.{size-le, size-reverse, nonzero-reverse}
+use Rattle.ndarray.proofs.Sizes.{size-le, size-reverse, size-drop_reverse}
 use Rattle.ndarray.proofs.Totals.{total-one, total-le}
-use Rattle.ndarray.proofs.Magnitudes.{magnitude-small, reach-long, reach-short, within-far, within-le, within-short}
+use Rattle.ndarray.proofs.Magnitudes.{magnitude-small, reach-long, within-far, within-le}
 use Rattle.ndarray.proofs.Nested.{reached_within, nested-each, nested-from_each}
 use Rattle.ndarray.proofs.NestedMoves.{nested-reversed}
 
@@ -58,3 +57,29 @@ nested-row (n ∷ ns) (b ∷ bs) l h some limit =
     let r : reach n b ≡ (n - 1) * size ns = ap (λ x. (n - 1) * x) m in
     let q : (n - 1) * size ns + size ns ≡ n * size ns = let e : n ≡ n - 1 + 1 = omega (arith, p) in sym (ap (λ x. x * size ns) e ∙ omega arith) in
     (nested-first n b ns bs (omega arith) (omega (arith, t, m)) (omega (arith, t, r, q, limit)) ih.0, omega (arith, t, r, q))
+
+pub nested-strides : (o : Order) (ns bs : List ℕ) → AreStridesOf o ns bs → 0 < size ns → nonzero_size ns < 2 ^ 63 → AreNested ns bs
+nested-strides RowMajor ns bs h some limit =
+    let le = size-le ns in
+    (nested-row ns bs h.as_many
+    (λ k lt.
+    let q : length ns - 1 - (length ns - 1 - k) ≡ k = omega arith in
+    let q2 : length ns - (length ns - 1 - k) ≡ suc k = omega arith in
+    ap (λ x. get_or bs x 0) (sym q) ∙ (h.each (length ns - 1 - k) (omega arith) ∙ ap (λ x. size (drop x ns)) q2))
+    some (omega arith)).0
+nested-strides ColumnMajor ns bs h some limit =
+    let le = size-le ns in
+    let l = h.as_many in
+    let ln = length-reverse ns in
+    let lb = length-reverse bs in
+    let es = size-reverse ns in
+    let row = nested-row (reverse ns) (reverse bs) (omega arith)
+    (λ k lt.
+    let q : length bs - 1 - k ≡ length ns - suc k = omega arith in
+    let q2 : length ns - (length ns - suc k) ≡ suc k = omega arith in
+    get_or-reverse bs k 0 (omega arith)
+    ∙ (ap (λ x. get_or bs x 0) q
+    ∙ (h.each (length ns - suc k) (omega arith)
+    ∙ (sym (size-drop_reverse ns (length ns - suc k) (omega arith)) ∙ ap (λ x. size (drop x (reverse ns))) q2))))
+    (omega arith) (omega arith) in
+    subst (λ xs. AreNested xs bs) (reverse-reverse ns) (subst (λ xs. AreNested (reverse (reverse ns)) xs) (reverse-reverse bs) (nested-reversed (reverse ns) (reverse bs) (omega arith) row.0))

@@ -1,10 +1,10 @@
 -- Strides stay nested where axes are moved, taken out, or put in with length 1.
-use Rattle.std.proofs.Common.{◌≡◌, ◌≢◌, ℕ, ◌+◌, ◌-◌, ◌<◌, ◌≤◌, List, length, reverse, get_or, set, swap, inl, inr, refl, sym, ◌∙◌, ap, arith}
+use Rattle.std.proofs.Common.{◌≡◌, ℕ, ◌+◌, ◌-◌, ◌<◌, ◌≤◌, List, length, reverse, get_or, set, swap, inl, inr, sym, ◌∙◌, ap, arith}
 use Rattle.std.specs.Prelude.{insert, remove}
 use Rattle.std.proofs.lemmas.Bool.{cases_lt, cases_eq}
 use Rattle.std.proofs.lemmas.List.{length-set, length-reverse, get_or-reverse, get_or-set_same, get_or-set_other}
 use Rattle.std.proofs.lemmas.List.Edits.{swap_is, length-swap, length-remove, length-insert, get_or-remove_below, get_or-remove_above, get_or-insert_at, get_or-insert_below, get_or-insert_above}
-use Rattle.ndarray.specs.base.Nested.{reach, reach_within, total, AreNested}
+use Rattle.ndarray.specs.base.Nested.{reach, reach_within, AreNested}
 use Rattle.ndarray.proofs.Magnitudes.{reach-short, within-short}
 use Rattle.ndarray.proofs.Nested.{nested-fewer}
 use Rattle.ndarray.proofs.Totals.{total-remove, total-insert, total-reverse, total-swap}
@@ -12,7 +12,7 @@ use Rattle.ndarray.proofs.Totals.{total-remove, total-insert, total-reverse, tot
 -- ---- which axis stands where
 
 -- after one is taken out, what stands at k stood at k or one further
-remove-at : (k j : ℕ) → (i : ℕ) × ((xs : List ℕ) → k < length xs → j < length (remove xs k) → (i < length xs) × (get_or (remove xs k) j 0 ≡ get_or xs i 0))
+pub remove-at : (k j : ℕ) → (i : ℕ) × ((xs : List ℕ) → k < length xs → j < length (remove xs k) → (i < length xs) × (get_or (remove xs k) j 0 ≡ get_or xs i 0))
 remove-at k j =
     elim (cases_lt j k) [
       | inl below ↦ (j, λ xs lt lj. (omega arith, get_or-remove_below xs k 0 j below lt))
