@@ -4,14 +4,14 @@ use Rattle.std.proofs.Math.Nat.{mul-le-mul_right}
 use Rattle.std.proofs.lemmas.List.{length-reverse, get_or-reverse, reverse-reverse}
 use Rattle.ndarray.specs.Index.{size}
 use Rattle.ndarray.specs.Limits.{nonzero_size}
-use Rattle.ndarray.specs.base.Nested.{magnitude, reach, reach_within, total, AreNested}
+use Rattle.ndarray.specs.base.Nested.{magnitude, reach, reach_within, reached_within, total, AreNested}
 use Rattle.ndarray.specs.base.Strides.{AreStridesOf}
 use Rattle.ndarray.specs.declared.base.shape.Order.{Order}
 use Rattle.ndarray.specs.declared.base.shape.Order.TheVariants.{RowMajor, ColumnMajor}
 use Rattle.ndarray.proofs.Sizes.{size-le, size-reverse, size-drop_reverse}
 use Rattle.ndarray.proofs.Totals.{total-one, total-le}
 use Rattle.ndarray.proofs.Magnitudes.{magnitude-small, reach-long, within-far, within-le}
-use Rattle.ndarray.proofs.Nested.{reached_within, nested-each, nested-from_each}
+use Rattle.ndarray.proofs.Nested.{nested-each, nested-from_each}
 use Rattle.ndarray.proofs.NestedMoves.{nested-reversed}
 
 -- an axis before all others whose stride is larger than their reach
@@ -23,6 +23,7 @@ module _ (n b : ℕ) (ns bs : List ℕ) (l : length bs ≡ length ns) (larger : 
       let r = reach-long (get_or ns k 0) (get_or bs k 0) long in
       within-far (magnitude (get_or bs k 0)) n b (omega (arith, one, r, larger))
 
+  -- each axis, as the lists have it
   first-each : (k : ℕ) → k < length (n ∷ ns) → 1 < get_or (n ∷ ns) k 0 → reached_within (magnitude (get_or (b ∷ bs) k 0)) (n ∷ ns) (b ∷ bs) < reach (get_or (n ∷ ns) k 0) (get_or (b ∷ bs) k 0) + magnitude (get_or (b ∷ bs) k 0)
   unfolding total
   first-each zero lt long =
@@ -38,11 +39,13 @@ module _ (n b : ℕ) (ns bs : List ℕ) (l : length bs ≡ length ns) (larger : 
   unfolding total
   nested-first = nested-from_each (n ∷ ns) (b ∷ bs) (omega arith) near first-each
 
+-- factors of a product that is not 0
 some-of_product : (n m : ℕ) → 0 < n * m → (0 < n) × (0 < m)
 some-of_product zero m h = absurd (omega arith)
 some-of_product (suc n) zero h = absurd (omega arith)
 some-of_product (suc n) (suc m) h = (omega arith, omega arith)
 
+-- row order: the stride of an axis is the size of the box of the later ones, which reach to the last place of it
 nested-row : (ns bs : List ℕ) → length bs ≡ length ns → ((k : ℕ) → k < length ns → get_or bs k 0 ≡ size (drop (suc k) ns)) → 0 < size ns → size ns < 2 ^ 63 → AreNested ns bs × (total reach ns bs + 1 ≡ size ns)
 unfolding total
 nested-row [] bs l h some limit = (record { near = omega arith; each = λ k lt. absurd (omega arith) }, refl)
@@ -58,6 +61,7 @@ nested-row (n ∷ ns) (b ∷ bs) l h some limit =
     let q : (n - 1) * size ns + size ns ≡ n * size ns = let e : n ≡ n - 1 + 1 = omega (arith, p) in sym (ap (λ x. x * size ns) e ∙ omega arith) in
     (nested-first n b ns bs (omega arith) (omega (arith, t, m)) (omega (arith, t, r, q, limit)) ih.0, omega (arith, t, r, q))
 
+-- the strides of a box whose cells lie side by side in an order
 pub nested-strides : (o : Order) (ns bs : List ℕ) → AreStridesOf o ns bs → 0 < size ns → nonzero_size ns < 2 ^ 63 → AreNested ns bs
 nested-strides RowMajor ns bs h some limit =
     let le = size-le ns in

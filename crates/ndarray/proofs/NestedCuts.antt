@@ -3,10 +3,10 @@ use Rattle.std.proofs.Common.{◌≡◌, ◌≢◌, ℕ, ◌+◌, ◌-◌, ◌*�
 use Rattle.std.proofs.Math.Nat.{mul-le-mul_left, mul-le-mul_right}
 use Rattle.std.proofs.lemmas.Bool.{cases_lt, cases_eq}
 use Rattle.std.proofs.lemmas.List.{length-set, get_or-set_same, get_or-set_other}
-use Rattle.ndarray.specs.base.Nested.{magnitude, reach, reach_within, total, AreNested}
+use Rattle.ndarray.specs.base.Nested.{magnitude, reach, reach_within, reached_within, total, AreNested}
 use Rattle.ndarray.proofs.Totals.{total-one, total-set, total-le}
 use Rattle.ndarray.proofs.Magnitudes.{magnitude-times, reach-short, reach-long, within-near, within-far, within-le, within-short}
-use Rattle.ndarray.proofs.Nested.{reached_within, nested-each, nested-from_each, nested-two}
+use Rattle.ndarray.proofs.Nested.{nested-each, nested-from_each, nested-two}
 
 -- axis k gets a length n, not larger, and a stride b, not smaller, but reaches no farther
 module _ (ns bs : List ℕ) (l : length bs ≡ length ns) (k : ℕ) (lt : k < length ns) (n b : ℕ) (fewer : n ≤ get_or ns k 0) (apart : 1 < n → (magnitude (get_or bs k 0) ≤ magnitude b) × (reach n b ≤ reach (get_or ns k 0) (get_or bs k 0))) (h : AreNested ns bs) where
@@ -40,6 +40,7 @@ module _ (ns bs : List ℕ) (l : length bs ≡ length ns) (k : ℕ) (lt : k < le
         ]
       ]
 
+  -- the axis itself, with its new stride
   set-here : 1 < n → reached_within (magnitude b) (set ns k n) (set bs k b) < reach n b + magnitude b
   set-here long =
       let a = apart long in
@@ -50,7 +51,7 @@ module _ (ns bs : List ℕ) (l : length bs ≡ length ns) (k : ℕ) (lt : k < le
       let v = within-le (magnitude b) n b in
       omega (arith, a, s, t, e, w, v)
 
-  -- what the axis counts among others
+  -- it counts no more among others than before
   less : (m : ℕ) → reach_within m n b ≤ reach_within m (get_or ns k 0) (get_or bs k 0)
   less m =
       elim (cases_lt m (magnitude b)) [
@@ -65,6 +66,7 @@ module _ (ns bs : List ℕ) (l : length bs ≡ length ns) (k : ℕ) (lt : k < le
         ]
       ]
 
+  -- another axis
   set-other : (j : ℕ) → j < length ns → 1 < get_or ns j 0 → reached_within (magnitude (get_or bs j 0)) (set ns k n) (set bs k b) < reach (get_or ns j 0) (get_or bs j 0) + magnitude (get_or bs j 0)
   set-other j lj long =
       let s = total-set (reach_within (magnitude (get_or bs j 0))) ns bs k n b l lt in
@@ -72,6 +74,7 @@ module _ (ns bs : List ℕ) (l : length bs ≡ length ns) (k : ℕ) (lt : k < le
       let v = less (magnitude (get_or bs j 0)) in
       omega (arith, s, e, v)
 
+  -- each axis, as the lists have it
   set-each : (j : ℕ) → j < length (set ns k n) → 1 < get_or (set ns k n) j 0 → reached_within (magnitude (get_or (set bs k b) j 0)) (set ns k n) (set bs k b) < reach (get_or (set ns k n) j 0) (get_or (set bs k b) j 0) + magnitude (get_or (set bs k b) j 0)
   set-each j lj long =
       elim (cases_eq j k) [
@@ -88,6 +91,7 @@ module _ (ns bs : List ℕ) (l : length bs ≡ length ns) (k : ℕ) (lt : k < le
   pub nested-set : AreNested (set ns k n) (set bs k b)
   nested-set = nested-from_each (set ns k n) (set bs k b) (let x = length-set ns k n in let y = length-set bs k b in omega (arith, l, x, y)) set-near set-each
 
+-- a stride m times a step s, on an axis of length n of which len places are kept
 scaled : (len n m s : ℕ) → 1 < len → 0 < s → (len - 1) * s ≤ n - 1 → (m ≤ m * s) × (m * s ≤ (n - 1) * m) × ((len - 1) * (m * s) ≤ (n - 1) * m)
 scaled len n m s long some h =
     let a : m * 1 ≤ m * s = mul-le-mul_left m (omega arith) in

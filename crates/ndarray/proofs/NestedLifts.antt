@@ -32,6 +32,7 @@ largest (b ∷ c ∷ bs) some =
 abbrev pub lift : List ℕ → List ℕ → ℕ
 lift = total (λ i b. i * magnitude b)
 
+-- an index list of the box lies no farther than all axes reach
 pub lift-le : (ns bs is : List ℕ) → length bs ≡ length ns → InBox ns is → lift is bs ≤ total reach ns bs
 unfolding total
 lift-le [] bs [] l h = omega arith
@@ -44,6 +45,7 @@ lift-le (n ∷ ns) (b ∷ bs) (i ∷ is) l h =
     let ih = lift-le ns bs is (omega arith) h.1 in
     omega (arith, m, ih)
 
+-- a sum with a multiple of m tells the multiple and what is below m
 same_parts : (m i j r s : ℕ) → r < m → s < m → r + i * m ≡ s + j * m → (i ≡ j) × (r ≡ s)
 same_parts m i j r s lr ls e =
     let q : i * m + r ≡ j * m + s = omega (arith, e) in
@@ -68,12 +70,13 @@ others-below ns bs k l lt big h long =
     omega (arith, w)) in
     omega (arith, e, t)
 
+-- index lists of no axes
 none-same : (is js : List ℕ) → length is ≡ 0 → length js ≡ 0 → is ≡ js
 none-same [] [] li lj = refl
 none-same [] (j ∷ js) li lj = absurd (omega arith)
 none-same (i ∷ is) js li lj = absurd (omega arith)
 
--- the axis of the largest stride tells its index, and the other axes theirs
+-- index lists that lie equally far are equal: of the axis of the largest stride the index is known, and then of the others
 pub lift-apart : (count : ℕ) (ns bs is js : List ℕ) → length ns ≡ count → length bs ≡ length ns → AreNested ns bs → InBox ns is → InBox ns js → lift is bs ≡ lift js bs → is ≡ js
 lift-apart zero ns bs is js ec l h bi bj e = none-same is js (let a = InBox-length ns is bi in omega arith) (let a = InBox-length ns js bj in omega arith)
 lift-apart (suc count) ns bs is js ec l h bi bj e =

@@ -33,6 +33,7 @@ swap-at i j k =
 
 -- ---- nested strides
 
+-- two axes exchanged
 pub nested-swapped : (ns bs : List ℕ) (i j : ℕ) → length bs ≡ length ns → i < length ns → j < length ns → AreNested ns bs → AreNested (swap ns i j) (swap bs i j)
 nested-swapped ns bs i j l hi hj h =
     let ln = length-swap ns i j in
@@ -47,6 +48,7 @@ nested-swapped ns bs i j l hi hj h =
     (s.0, a.0, a.1, b.1))
     h
 
+-- the axes from the last to the first
 pub nested-reversed : (ns bs : List ℕ) → length bs ≡ length ns → AreNested ns bs → AreNested (reverse ns) (reverse bs)
 nested-reversed ns bs l h =
     let ln = length-reverse ns in
@@ -57,6 +59,7 @@ nested-reversed ns bs l h =
     (λ k lt _. (length ns - 1 - k, omega arith, get_or-reverse ns k 0 (omega arith), get_or-reverse bs k 0 (omega arith) ∙ ap (λ n. get_or bs (n - 1 - k) 0) l))
     h
 
+-- an axis taken out
 pub nested-removed : (ns bs : List ℕ) (k : ℕ) → length bs ≡ length ns → k < length ns → AreNested ns bs → AreNested (remove ns k) (remove bs k)
 nested-removed ns bs k l lt h =
     let ln = length-remove ns k lt in
@@ -71,7 +74,7 @@ nested-removed ns bs k l lt h =
     (r.0, a.0, a.1, b.1))
     h
 
--- an axis of length 1, whatever its stride
+-- an axis of length 1 put in, whatever its stride
 pub nested-inserted : (ns bs : List ℕ) (k b : ℕ) → length bs ≡ length ns → k ≤ length ns → AreNested ns bs → AreNested (insert ns k 1) (insert bs k b)
 nested-inserted ns bs k b l le h =
     let ln = length-insert ns k 1 le in
@@ -85,10 +88,12 @@ nested-inserted ns bs k b l le h =
       | inr from ↦ elim (cases_eq j k) [
         | inl e ↦ absurd (let one : get_or (insert ns k 1) j 0 ≡ 1 = ap (λ p. get_or (insert ns k 1) p 0) e ∙ get_or-insert_at ns k 1 0 le in omega (arith, one, long))
         | inr ne ↦ (
-            let e : j ≡ j - 1 + 1 = omega arith in
-            (j - 1, omega arith,
-            ap (λ p. get_or (insert ns k 1) p 0) e ∙ get_or-insert_above ns k 1 0 (j - 1) (omega arith) le,
-            ap (λ p. get_or (insert bs k b) p 0) e ∙ get_or-insert_above bs k b 0 (j - 1) (omega arith) (omega arith)))
+            let e : j ≡ j - 1 + 1 = omega arith in (
+              j - 1,
+              omega arith,
+              ap (λ p. get_or (insert ns k 1) p 0) e ∙ get_or-insert_above ns k 1 0 (j - 1) (omega arith) le,
+              ap (λ p. get_or (insert bs k b) p 0) e ∙ get_or-insert_above bs k b 0 (j - 1) (omega arith) (omega arith),
+            ))
       ]
     ])
     h

@@ -1,8 +1,9 @@
 -- By nested strides different index lists reach different places.
-use Rattle.std.proofs.Common.{◌≡◌, ℕ, ◌+◌, ◌-◌, ◌*◌, ◌%◌, ◌<◌, ◌^◌, List, [], ◌∷◌, length, inl, inr, refl, ap, arith}
+use Rattle.std.proofs.Common.{◌≡◌, ℕ, ◌+◌, ◌-◌, ◌*◌, ◌%◌, ◌<◌, ◌^◌, List, [], ◌∷◌, length, inl, inr, refl, ap, arith, Option}
 use Rattle.ndarray.specs.Index.{InBox}
-use Rattle.ndarray.specs.base.Places.{dot, place}
+use Rattle.ndarray.specs.base.Places.{dot, place, Reaches}
 use Rattle.ndarray.specs.base.Nested.{magnitude, total, AreNested}
+use Rattle.ndarray.proofs.Boxes.{InBox-some}
 use Rattle.ndarray.proofs.Magnitudes.{magnitude-goes}
 use Rattle.ndarray.proofs.NestedLifts.{lift, lift-le, lift-apart}
 
@@ -14,6 +15,7 @@ record Upright (n b : ℕ) : Type 0 where
   same : (i : ℕ) → i < n → (q : ℕ) × (i * b + low ≡ turn i * magnitude b + 2 ^ 64 * q)
   back : (i j : ℕ) → i < n → j < n → turn i ≡ turn j → i ≡ j
 
+-- every axis can be turned so, by its direction
 upright : (n b : ℕ) → Upright n b
 upright n b =
     let g = magnitude-goes b in
@@ -51,6 +53,7 @@ record UprightBox (ns bs : List ℕ) : Type 0 where
   same : (is : List ℕ) → InBox ns is → (q : ℕ) × (dot bs is + low ≡ lift (turn is) bs + 2 ^ 64 * q)
   back : (is js : List ℕ) → InBox ns is → InBox ns js → turn is ≡ turn js → is ≡ js
 
+-- the first index turned, and the others
 turn_first : (ℕ → ℕ) → (List ℕ → List ℕ) → List ℕ → List ℕ
 turn_first f g [] = []
 turn_first f g (i ∷ is) = f i ∷ g is
@@ -77,12 +80,14 @@ module _ (n b : ℕ) (ns bs : List ℕ) (a : Upright n b) (r : UprightBox ns bs)
       let y = r.back is js hi.1 hj.1 q in
       cc
 
+-- no axes: each index list lies at the first place
 none-same_lift : (bs is : List ℕ) → length bs ≡ 0 → InBox [] is → dot bs is + 0 ≡ lift is bs + 2 ^ 64 * 0
 unfolding dot total
 none-same_lift [] [] l h = refl
 none-same_lift [] (i ∷ is) l h = absurd h
 none-same_lift (b ∷ bs) is l h = absurd (omega arith)
 
+-- every box can be turned so
 upright_box : (ns bs : List ℕ) → length bs ≡ length ns → UprightBox ns bs
 upright_box [] bs l = record {
   turn = λ is. is;
@@ -103,10 +108,11 @@ upright_box (n ∷ ns) (b ∷ bs) l =
       back = first-back n b ns bs a r;
     }
 
+-- places that are one modulo 2 ^ 64 lie equally far, where none lies 2 ^ 63 far
 same_round : (start d e low x y p q : ℕ) → d + low ≡ x + 2 ^ 64 * p → e + low ≡ y + 2 ^ 64 * q → x < 2 ^ 63 → y < 2 ^ 63 → (start + d) % 2 ^ 64 ≡ (start + e) % 2 ^ 64 → x ≡ y
 same_round start d e low x y p q ed ee lx ly same = omega arith
 
--- by nested strides different index lists reach different places
+-- index lists of the box that reach one place are equal
 pub nested-distinct : (ns : List ℕ) (start : ℕ) (bs is js : List ℕ) → length bs ≡ length ns → AreNested ns bs → InBox ns is → InBox ns js → place start bs is ≡ place start bs js → is ≡ js
 unfolding place
 nested-distinct ns start bs is js l h bi bj e =
@@ -120,3 +126,7 @@ nested-distinct ns start bs is js l h bi bj e =
     let lj = lift-le ns bs (u.turn js) l wj in
     let x = same_round start (dot bs is) (dot bs js) u.low (lift (u.turn is) bs) (lift (u.turn js) bs) si.0 sj.0 si.1 sj.1 (omega (arith, near, li)) (omega (arith, near, lj)) e in
     u.back is js bi bj (lift-apart (length ns) ns bs (u.turn is) (u.turn js) refl l h wi wj x)
+
+-- where an array's invariant has it that strides are nested, no two index lists of its box reach one element
+pub Reaches-apart : {A one : Type 0} (at : ℕ → Option A) (ns : List ℕ) (start : ℕ) (bs : List ℕ) → Reaches one at ns start bs → one → (is js : List ℕ) → InBox ns is → InBox ns js → place start bs is ≡ place start bs js → is ≡ js
+Reaches-apart at ns start bs h t is js bi bj = nested-distinct ns start bs is js h.as_many (h.nested t (InBox-some ns is bi)) bi bj

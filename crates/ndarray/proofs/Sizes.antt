@@ -102,6 +102,7 @@ pub size-reverse : (ns : List ℕ) → size (reverse ns) ≡ size ns
 size-reverse [] = refl
 size-reverse (n ∷ ns) = ap size (reverse-cons n ns) ∙ (size-append (reverse ns) (n ∷ []) ∙ (ap (λ x. x * (n * 1)) (size-reverse ns) ∙ omega arith))
 
+-- the last of the reversed lengths are the first ones
 pub size-drop_reverse : (ns : List ℕ) (i : ℕ) → i ≤ length ns → size (drop (length ns - i) (reverse ns)) ≡ size (take i ns)
 size-drop_reverse ns i le =
     let front : List ℕ = reverse (take i ns) in

@@ -33,6 +33,7 @@ module _ (f : ℕ → ℕ → ℕ) where
   total-set (m ∷ ns) (c ∷ bs) zero n b l h = omega arith
   total-set (m ∷ ns) (c ∷ bs) (suc k) n b l h = let ih = total-set ns bs k n b (omega arith) (omega arith) in omega arith
 
+  -- an axis taken out
   pub total-remove : (ns bs : List ℕ) (k : ℕ) → length bs ≡ length ns → k < length ns → total f (remove ns k) (remove bs k) + f (get_or ns k 0) (get_or bs k 0) ≡ total f ns bs
   unfolding total
   total-remove [] bs k l h = absurd (omega arith)
@@ -40,6 +41,7 @@ module _ (f : ℕ → ℕ → ℕ) where
   total-remove (n ∷ ns) (b ∷ bs) zero l h = omega arith
   total-remove (n ∷ ns) (b ∷ bs) (suc k) l h = let ih = total-remove ns bs k (omega arith) (omega arith) in omega arith
 
+  -- an axis put in
   pub total-insert : (ns bs : List ℕ) (k n b : ℕ) → length bs ≡ length ns → k ≤ length ns → total f (insert ns k n) (insert bs k b) ≡ total f ns bs + f n b
   unfolding total
   total-insert ns bs zero n b l h = omega arith
@@ -47,6 +49,7 @@ module _ (f : ℕ → ℕ → ℕ) where
   total-insert (m ∷ ns) [] (suc k) n b l h = absurd (omega arith)
   total-insert (m ∷ ns) (c ∷ bs) (suc k) n b l h = let ih = total-insert ns bs k n b (omega arith) (omega arith) in omega arith
 
+  -- an axis put after all
   total-push : (ns bs : List ℕ) (n b : ℕ) → length bs ≡ length ns → total f (ns ++ n ∷ []) (bs ++ b ∷ []) ≡ total f ns bs + f n b
   unfolding total
   total-push [] [] n b l = omega arith
@@ -54,6 +57,7 @@ module _ (f : ℕ → ℕ → ℕ) where
   total-push (m ∷ ns) [] n b l = absurd (omega arith)
   total-push (m ∷ ns) (c ∷ bs) n b l = let ih = total-push ns bs n b (omega arith) in omega arith
 
+  -- the axes from the last to the first
   pub total-reverse : (ns bs : List ℕ) → length bs ≡ length ns → total f (reverse ns) (reverse bs) ≡ total f ns bs
   unfolding total
   total-reverse [] [] l = refl
@@ -64,6 +68,7 @@ module _ (f : ℕ → ℕ → ℕ) where
       let p = total-push (reverse ns) (reverse bs) n b (let x = length-reverse ns in let y = length-reverse bs in omega arith) in
       rw (reverse-cons n ns, reverse-cons b bs) (omega arith)
 
+  -- two axes exchanged
   pub total-swap : (ns bs : List ℕ) (i j : ℕ) → length bs ≡ length ns → i < length ns → j < length ns → total f (swap ns i j) (swap bs i j) ≡ total f ns bs
   total-swap ns bs i j l hi hj =
       let n : ℕ = get_or ns j 0 in
