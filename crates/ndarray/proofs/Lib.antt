@@ -10,6 +10,13 @@ pub mod Images
 pub mod Items
 pub mod Lists
 pub mod OneAxis
+pub mod Magnitudes
+pub mod Nested
+pub mod NestedBoxes
+pub mod NestedCuts
+pub mod NestedLifts
+pub mod NestedMoves
+pub mod NestedPlaces
 pub mod Orders
 pub mod Pairs
 pub mod Permutations
@@ -23,6 +30,7 @@ pub mod Steps
 pub mod Stretching
 pub mod Strides
 pub mod Swaps
+pub mod Totals
 pub mod Unique
 pub mod Verdicts
 pub mod Walks

@@ -11,6 +11,7 @@ use Rattle.ndarray.proofs.Pairs.{Contains-cases}
 use Rattle.ndarray.proofs.Beside.{same_index-refl, same_index-true, same_index-false}
 use Rattle.ndarray.proofs.Orders.{row_order-is, length-row_order}
 use Rattle.ndarray.proofs.Cells.{same_grid}
+use Rattle.ndarray.proofs.NestedPlaces.{Reaches-apart}
 use Rattle.ndarray.proofs.Places.{length-cells_at, cell-at}
 
 module _ {A : Type 0} where
@@ -70,7 +71,7 @@ module _ {A one : Type 0} (at after : ℕ → Option A) (ns : List ℕ) (start :
           | inl e ↦ subst (λ o. IsTrue (is_some o)) (sym (ap after e ∙ here)) refl
           | inr ne ↦ subst (λ o. IsTrue (is_some o)) (sym (others (place start bs js) ne)) (h.inside js b)
         ];
-    apart = h.apart;
+    nested = h.nested;
   }
 
   pub grid-written : (g : Grid A) → grid_at at ns start bs ≡ g → grid_at after ns start bs ≡ with_cell g is w
@@ -81,7 +82,7 @@ module _ {A one : Type 0} (at after : ℕ → Option A) (ns : List ℕ) (start :
       (λ js b.
       cell-at after ns start bs Reaches-written js b
       ∙ elim (cases_eq (place start bs js) (place start bs is)) [
-        | inl e ↦ (let same : js ≡ is = h.apart it js is b box e in
+        | inl e ↦ (let same : js ≡ is = Reaches-apart at ns start bs h it js is b box e in
             ap after e ∙ (here ∙ sym (ap (cell (with_cell before is w)) same ∙ with_cell-here before is w whole box)))
         | inr ne ↦ others (place start bs js) ne
             ∙ (sym (cell-at at ns start bs h js b) ∙ sym (with_cell-elsewhere before is js w (λ e. ne (ap (place start bs) e))))

@@ -33,7 +33,7 @@ taken g c =
     let step : c.cast_unsigned.result ≡ cast_unsigned w64 s.step = c.cast_unsigned.ensures ∙ ap (cast_unsigned w64) (to_z-of_z w64 s.step word) in
     let cut : IsCut (get_or ns c.args.axis.0 0) c.extent-from.result.0 c.extent-from.result.1 (cast_unsigned w64 s.step) (slice_index_at c.axis.result s) =
     subst (λ n. IsCut n c.extent-from.result.0 c.extent-from.result.1 (cast_unsigned w64 s.step) (slice_index_at c.axis.result s)) c.axis.ensures
-    (IsCut-slice c.axis.result s within c.extent-from.result.0 c.extent-from.result.1 c.extent-from.ensures.len c.extent-from.ensures.indices) in
+    (IsCut-slice c.axis.result s within c.extent-from.result.0 c.extent-from.result.1 word c.extent-from.ensures.len c.extent-from.ensures.indices) in
     rw (c.cut.ensures.dim, c.cut.ensures.start, c.cut.ensures.strides, step) (rearranges-cut (g.S.Data.apart c.self.inside.storage) _ ns a.start (g.D.Lengths.numbers a.strides) c.self.invariant c.args.axis.0 lt c.extent-from.result.0 c.extent-from.result.1 (cast_unsigned w64 s.step) (slice_index_at c.axis.result s) cut)
 
 pub invariant_of-self : goal.invariant_of-self
