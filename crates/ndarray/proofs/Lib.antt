@@ -1,4 +1,5 @@
 pub mod AddedApart
+pub mod Again
 pub mod Beside
 pub mod Boxes
 pub mod Cells
@@ -8,16 +9,21 @@ pub mod Filled
 pub mod Images
 pub mod Items
 pub mod Lists
+pub mod Memory
 pub mod OneAxis
 pub mod Orders
 pub mod Pairs
 pub mod Permutations
 pub mod Pieces
 pub mod Places
+pub mod Readings
 pub mod RunningSum
+pub mod Runs
 pub mod Selections
+pub mod Sharing
 pub mod Sizes
 pub mod Slices
+pub mod Slots
 pub mod Steps
 pub mod Stretching
 pub mod Strides

@@ -1,6 +1,9 @@
 -- What only `base` speaks of: places and strides.
 pub mod Chunks
+pub mod Follows
 pub mod Places
+pub mod Slots
 pub mod Storage
+pub mod Strewn
 pub mod Strides
 pub mod Tiles
