@@ -1,5 +1,4 @@
 pub mod AddedApart
-pub mod Again
 pub mod Beside
 pub mod Boxes
 pub mod Cells
@@ -8,9 +7,11 @@ pub mod Chunked
 pub mod Filled
 pub mod Images
 pub mod Items
+pub mod LentAgain
 pub mod Lists
 pub mod Memory
 pub mod OneAxis
+pub mod Opened
 pub mod Orders
 pub mod Pairs
 pub mod Permutations
@@ -18,7 +19,6 @@ pub mod Pieces
 pub mod Places
 pub mod Readings
 pub mod RunningSum
-pub mod Runs
 pub mod Selections
 pub mod Sharing
 pub mod Sizes

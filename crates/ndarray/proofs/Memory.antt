@@ -1,4 +1,4 @@
--- What the walks share. Assumes `Logic`.
+-- Regions in memory: what the walks share. Assumes `Logic`.
 use mathlib.Core.Path.{◌≡◌, refl, sym, ap, subst, ◌∙◌}
 use Prim.Native.Nat.{ℕ, zero, suc, ◌+◌, ◌*◌}
 use native.Mathlib.Omega.{arith}

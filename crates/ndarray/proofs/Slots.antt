@@ -1,5 +1,6 @@
 -- The places of a slice that are held, and those of its parts.
-use Rattle.std.proofs.Common.{◌≡◌, ℕ, zero, suc, ◌<◌, Bool, true, false, List, [], ◌∷◌, Option, Some, None, map, get_or, refl, ap, length, take, drop, arith}
+use Rattle.std.proofs.Common.{◌≡◌, IsTrue, ℕ, zero, suc, ◌<◌, Bool, true, false, List, [], ◌∷◌, Option, Some, None, map, get_or, refl, ap, length, take, drop, arith}
+use Rattle.std.specs.Option.{is_some}
 use lib.ListN.{set}
 use Rattle.ndarray.specs.base.Slots.{somes, kept, others}
 
@@ -65,3 +66,12 @@ fill_set (None ∷ cs) zero x w e = cc
 fill_set (Some c ∷ cs) zero x w e = ap (λ ds. Some w ∷ ds) (fill_same cs)
 fill_set (None ∷ cs) (suc i) x w e = ap (λ ds. None ∷ ds) (fill_set cs i x w e)
 fill_set (Some c ∷ cs) (suc i) x w e = ap (λ ds. Some c ∷ ds) (fill_set cs i x w e)
+
+pub still_held : {X : Type 0} (cs : List (Option X)) (ws : List X) (p : ℕ) → IsTrue (is_some (get_or cs p None)) → IsTrue (is_some (get_or (fill cs ws) p None))
+still_held [] ws p h = h
+still_held (None ∷ cs) ws zero h = h
+still_held (None ∷ cs) ws (suc p) h = still_held cs ws p h
+still_held (Some c ∷ cs) [] zero h = h
+still_held (Some c ∷ cs) [] (suc p) h = still_held cs [] p h
+still_held (Some c ∷ cs) (w ∷ ws) zero h = refl
+still_held (Some c ∷ cs) (w ∷ ws) (suc p) h = still_held cs ws p h

@@ -1,6 +1,7 @@
 -- What only `base` speaks of: places and strides.
 pub mod Chunks
 pub mod Follows
+pub mod Opened
 pub mod Places
 pub mod Slots
 pub mod Storage

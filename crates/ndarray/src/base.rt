@@ -9,6 +9,7 @@ pub mod error;
 pub mod into_dimension;
 pub(crate) mod layout;
 pub mod making;
+pub(crate) mod opened;
 pub mod region;
 pub mod shape;
 pub mod slice;

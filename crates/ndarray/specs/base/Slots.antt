@@ -8,9 +8,13 @@ module _ {X : Type 0} where
   somes (None ∷ cs) = somes cs
   somes (Some x ∷ cs) = x ∷ somes cs
 
+  -- the value at a place, where it is held
+  abbrev pub held_at : List (Option X) → ℕ → Option X
+  held_at cs i = get_or cs i None
+
   -- the place holds a value
   abbrev pub IsFilled : List (Option X) → ℕ → Type 0
-  IsFilled cs i = (x : X) × (get_or cs i None ≡ Some x)
+  IsFilled cs i = (x : X) × (held_at cs i ≡ Some x)
 
   -- the len places from from on hold values
   abbrev pub IsRun : List (Option X) → ℕ → ℕ → Type 0

@@ -3,12 +3,13 @@
 //! A region is split by places, and its parts live side by side. Raw pointers stay inside `of`,
 //! `into_mut`, `get_mut`, `shared` and `Reading::slice`.
 
-ghost use Rattle.std.specs.Prelude.{◌≡◌, ℕ, Bool, List, Option, Some, None, map, get_or, take, drop};
+ghost use Rattle.std.specs.Prelude.{◌≡◌, Bool, List, Option, Some, map, take, drop};
 ghost use Rattle.std.specs.Borrow.{sem};
 ghost use base.Fml.{GName, ffalse};
-ghost use Rattle.ndarray.specs.base.Slots.{kept, others, IsFilled, IsRun};
+ghost use Rattle.ndarray.specs.base.Slots.{held_at, kept, others, IsFilled, IsRun};
 ghost use Rattle.ndarray.specs.base.Strewn.{region_owns, region_lent, reading_lent};
 
+use crate::base::storage::{Data, ViewRepr};
 use std::marker::{Model, PhantomData};
 use std::slice;
 
@@ -20,8 +21,8 @@ pub struct Life<'a> {
 /// The right to read and write, for as long as `M` lives, the elements at some places of a slice.
 /// Places are indices of that slice, and stay so in each part.
 pub struct RegionRepr<M, A> {
-    ptr: *mut A,
-    mark: PhantomData<M>,
+    pub(super) ptr: *mut A,
+    pub(super) mark: PhantomData<M>,
     // The loan of the elements.
     ghost name: { GName },
     // The loan of what was opened, where the region came of an opening.
@@ -46,7 +47,7 @@ impl<'a, A> RegionRepr<Life<'a>, A> {
     ghost use Rattle.ndarray.specs.base.Follows.{follows_slice, follows_value};
 
     /// Every place of the slice.
-    pub fn of(s: &'a mut [A]) -> RegionRepr<Life<'a>, A>
+    pub(crate) fn of(s: &'a mut [A]) -> RegionRepr<Life<'a>, A>
         ensures* writes_back { sem 𝓛 (follows_slice A.row s.entry result.name) }
         ensures value { result.slots ≡ map Some s.old }
     {
@@ -57,10 +58,10 @@ impl<'a, A> RegionRepr<Life<'a>, A> {
     }
 
     /// The element at one place, for as long as the slice was lent.
-    pub fn into_mut(self, place: usize) -> &'a mut A
+    pub(crate) fn into_mut(self, place: usize) -> &'a mut A
         requires { IsFilled self.slots place }
         ensures* writes_back { sem 𝓛 (follows_value A.row self.entry.slots self.entry.name place result.ghost_name) }
-        ensures value { get_or self.entry.slots place None ≡ Some result.now }
+        ensures value { held_at self.entry.slots place ≡ Some result.now }
     {
         let RegionRepr { ptr, mark: _ } = self;
         unsafe { &mut *ptr.add(place) }
@@ -71,13 +72,13 @@ impl<A, M> RegionRepr<M, A> {
     ghost use Rattle.ndarray.specs.base.Follows.{follows_parts, lends_place};
 
     /// The places of the mask, and the others. A caller picks the mask from what `_by` says.
-    pub fn split<B>(self, _by: &B) -> (RegionRepr<M, A>, RegionRepr<M, A>)
+    pub(crate) fn split<B>(self, _by: &B) -> (RegionRepr<M, A>, RegionRepr<M, A>)
         ghost mask: { List Bool }
         ensures* writes_back { sem 𝓛 (follows_parts A.row mask self.slots self.name result.0.name result.1.name) }
         ensures first { result.0.slots ≡ kept mask self.slots }
         ensures second { result.1.slots ≡ others mask self.slots }
     {
-        let RegionRepr { ptr, mark: _ } = self;
+        let Self { ptr, mark: _ } = self;
         (
             RegionRepr {
                 ptr,
@@ -91,27 +92,47 @@ impl<A, M> RegionRepr<M, A> {
     }
 
     /// The element at one place.
-    pub fn get_mut(&mut self, place: usize) -> &mut A
+    pub(crate) fn get_mut(&mut self, place: usize) -> &mut A
         requires { IsFilled self.old.slots place }
         ensures* writes_back { sem 𝓛 (lends_place M.row A.row self.entry place result) }
-        ensures value { get_or self.old.slots place None ≡ Some result.now }
+        ensures value { held_at self.old.slots place ≡ Some result.now }
     {
         unsafe { &mut *self.ptr.add(place) }
     }
 
     /// The element at one place, to read.
-    pub fn get(&self, place: usize) -> &A
+    pub(crate) fn get(&self, place: usize) -> &A
         requires { IsFilled self.now.slots place }
-        ensures { get_or self.now.slots place None ≡ Some result.now }
+        ensures { held_at self.now.slots place ≡ Some result.now }
     {
         self.shared().get(place)
     }
 
     /// The same places, to read.
-    pub fn shared(&self) -> &Reading<A>
+    pub(crate) fn shared(&self) -> &Reading<A>
         ensures { result.now.slots ≡ self.now.slots }
     {
         unsafe { &*(self as *const RegionRepr<M, A> as *const Reading<A>) }
+    }
+}
+
+impl<M, A> Data for RegionRepr<M, A> {
+    ghost use Rattle.std.specs.Prelude.{IsTrue, ⊤};
+    ghost use Rattle.std.specs.Option.{is_some};
+    ghost use Rattle.ndarray.specs.base.Slots.{held_at};
+
+    type Elem = A;
+
+    ghost at = { λ r. held_at r.slots };
+
+    ghost apart = { ⊤ };
+
+    fn element(&self, place: usize) -> &A {
+        self.get(place)
+    }
+
+    fn seen(&self) -> ViewRepr<'_, A> {
+        ViewRepr::Part(self.shared())
     }
 }
 
@@ -131,16 +152,16 @@ impl<A> Model for Reading<A> {
 
 impl<A> Reading<A> {
     /// The element at one place.
-    pub fn get(&self, place: usize) -> &A
+    pub(crate) fn get(&self, place: usize) -> &A
         requires { IsFilled self.now.slots place }
-        ensures { get_or self.now.slots place None ≡ Some result.now }
+        ensures { held_at self.now.slots place ≡ Some result.now }
     {
         let run = self.slice(place, 1);
         &run[0]
     }
 
     /// The `len` elements from `from` on.
-    pub fn slice(&self, from: usize, len: usize) -> &[A]
+    pub(crate) fn slice(&self, from: usize, len: usize) -> &[A]
         requires { IsRun self.now.slots from len }
         ensures { take len (drop from self.now.slots) ≡ map Some result.now }
     {

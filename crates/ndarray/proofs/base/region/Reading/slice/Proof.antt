@@ -25,7 +25,6 @@ use types.Run.{size_word}
 use types.ByLocal.{is}
 use denote.Opens.{hide}
 use Rattle.core.proofs.slots.Leases.{uncapped}
-use Rattle.ndarray.proofs.Runs.{run_seen}
 use Rattle.std.specs.Prelude.{Some}
 use Rattle.std_alloc.proofs.VecSteps.Shapes.{after as rest_after}
 use Rattle.core.proofs.ptr.Rows.{times_below}
@@ -51,7 +50,7 @@ use denote.Triple.Walked.{Goes-dropped}
 use base.Fml.{fhide}
 use Rattle.core.specs.contracts.marker.PhantomData as marker
 use Rattle.ndarray.specs.base.Strewn.{reading_lent}
-use Rattle.ndarray.proofs.Readings.{Sn, Words, told, words_open}
+use Rattle.ndarray.proofs.Readings.{Sn, Words, told, words_open, run_seen}
 use denote.Memory.{cell_at}
 use types.Part.{look_in}
 use types.ByLocal.{alloc_all, pass_all, free_all, look_at, get, sets}

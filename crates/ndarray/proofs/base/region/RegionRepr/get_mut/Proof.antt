@@ -70,7 +70,7 @@ use Rattle.ndarray.specs.base.Slots.{somes}
 use Rattle.ndarray.specs.base.Follows.{with_slots}
 use Rattle.ndarray.specs.base.Strewn.{Strewn, region_owns}
 use Rattle.ndarray.proofs.Memory.{Rg, Words, reg, words_had, words_made}
-use Rattle.ndarray.proofs.Again.{lends}
+use Rattle.ndarray.proofs.LentAgain.{lends}
 use Rattle.ndarray.specs.contracts.base.region.RegionRepr as G-type
 use Rattle.ndarray.specs.contracts.base.region.RegionRepr.get_mut as C-fn
 use Rattle.ndarray.specs.contracts.base.region.RegionRepr.get_mut.Key.{name as #self}

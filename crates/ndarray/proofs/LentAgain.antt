@@ -58,18 +58,18 @@ module _ (a : RattleType) (E : El) {M : Type 1} {𝓤 : Ura M} (𝓛 : Logic �
   abbrev pub F : List (el_x E) → (Rg a E).Denot
   F ws = with_slots d (fill cs ws)
 
-  abbrev Rest : Fml
+  abbrev pub Rest : Fml
   Rest = fsep (flt (length cs * (mem (R E)).size) (2 ^ 63)) (part_at (Words a E) full_share (d.ptr, (tt, tt)) rb ro)
 
-  abbrev Has : List (el_x E) → SProp 𝓤
+  abbrev pub Has : List (el_x E) → SProp 𝓤
   Has ws = sep 𝓤 (A.obs d.name (S.coded.code ws)) (sep 𝓤 (A.bor a.lives (Borrowed S b o d.name)) (sem 𝓛 Rest))
 
-  cut : ent 𝓤 (sem 𝓛 (part_at (Rg a E) full_share d rb ro)) (Has (somes cs))
+  pub cut : ent 𝓤 (sem 𝓛 (part_at (Rg a E) full_share d rb ro)) (Has (somes cs))
   cut = qed 𝓛 (‵ (part_at (Rg a E) full_share d rb ro) ∷ []) ∵
       use1 𝓛 (‵ (part_at (Words a E) full_share (d.ptr, (tt, tt)) rb ro) ⊛ ‵ (region_owns a.lives (R E) d.ptr d.name cs)) (part_out 𝓛 (G-type.the_type a (R E)) full_share d rb ro) $ split ! $ move ! (1 ∷ []) $
       rewrite ! 0 (λ (p : Ptr). ‵ (region_owns a.lives (R E) p d.name cs)) here refl $ fsplit ! $ move ! (0 ∷ 2 ∷ []) $ fjoin ! $ move ! (1 ∷ []) $ fsplit ! $ done !
 
-  back : (ws : List (el_x E)) → length ws ≡ length (somes cs) → ent 𝓤 (Has ws) (sem 𝓛 (part_at (Rg a E) full_share (F ws) rb ro))
+  pub back : (ws : List (el_x E)) → length ws ≡ length (somes cs) → ent 𝓤 (Has ws) (sem 𝓛 (part_at (Rg a E) full_share (F ws) rb ro))
   back ws e = qed 𝓛 (‵ (fobs d.name (S.coded.code ws)) ∷ ‵ (fbor a.lives (Borrowed S b o d.name)) ∷ ‵ Rest ∷ []) ∵
       rewrite ! 0 (λ (zs : List (el_x E)). ‵ (fobs d.name (S.coded.code zs))) (sym (somes_fill cs ws e)) refl $
       rewrite ! 1 (λ (T : SemTy). ‵ (fbor a.lives (Borrowed T b o d.name))) (sym (Strewn_fill (R E) cs ws)) refl $ fjoin ! $
