@@ -1,35 +1,32 @@
 -- A writing view's region is lent again, and its layout is shared. Assumes `Logic`.
 use mathlib.Core.Path.{◌≡◌, refl, sym, ap}
-use Prim.Native.Nat.{ℕ, zero, suc, ◌+◌, ◌*◌, ◌<◌, ◌^◌}
+use Prim.Native.Nat.{ℕ, ◌+◌, ◌*◌, ◌<◌, ◌^◌}
 use mathlib.Core.List.{List, [], ◌∷◌}
-use lib.ListN.{length, get_or}
+use lib.ListN.{length}
 use seplogic.Ra.Ura.{Ura}
 use base.Fraction.{full_share}
 use base.Stored.{coded_list}
 use base.Logic.{SProp, ent, sep, ex, emp}
-use base.Fml.{Lft, Incl, GName, Share, Fml, ftrue, fsep, flt, flft, fobs, fauth, fobor, fbor, fseps}
-use mir.Syntax.{Args, Dict, a_type, dnil, dcons}
+use base.Fml.{Lft, Incl, GName, Share, Fml, ftrue, fsep, flft, fobs, fauth, fobor, fbor, fseps}
+use mir.Syntax.{Dict}
 use types.Logic.{Logic, sem}
-use types.Kit.{group, ‵, raw, ◌⊛◌, some, later, await, pick, show, ◌$◌, ◌∵◌, !, qed, by, move, keep, drop, use1, use2, use3, split, split3, rewrite, fsplit, fsplit3, fjoin, updating, now, done, frame}
+use types.Kit.{group, ‵, raw, ◌⊛◌, some, later, await, pick, show, ◌$◌, ◌∵◌, !, qed, by, move, keep, use1, use2, use3, split, split3, rewrite, fsplit, fjoin, updating, now, done}
 use types.SemTy.{SemTy, Body as Borrowed}
 use types.Follow.{after, takes_beside}
 use types.Through.{hands_through}
 use denote.RattleType.{RattleType}
 use denote.Memory.{mem, part_at, part_of, lone}
 use denote.RawPtr.{Ptr, block_ptr}
-use denote.Ref.{NamedLft}
 use denote.Steps.{nothing}
-use denote.Follow.{follows, follows_then}
-use denote.Array.{Array}
-use denote.Param.{bounded, param}
+use denote.Follow.{follows}
+use denote.Param.{param}
 use denote.Param.Laws.{Laws, param_laws}
-use denote.Model.Fields.{view_owns, view_made, plain_out, Plain-in}
+use denote.Model.Fields.{view_owns, view_made, Plain-in}
 use denote.Struct.Members.{Member}
 use denote.Struct.Parts.{PartsBack}
-use denote.Struct.Pick.{one_at, rest_at, field_out, field_back}
+use denote.Struct.Pick.{field_out, field_back}
 use prog.Memory.{size, align, up}
-use Rattle.std.specs.Prelude.{Option, Some, None, IsTrue, ⊤}
-use Rattle.std.specs.Option.{is_some}
+use Rattle.std.specs.Prelude.{Option, ⊤}
 use Rattle.core.proofs.mem.Param.{El, R, el_x}
 use Rattle.ndarray.specs.declared.base.dimension.Lengths.{Ghosts}
 use Rattle.ndarray.specs.contracts.base.region.RegionReprData.TheImpl as impl
@@ -41,7 +38,7 @@ use Rattle.ndarray.proofs.base.region.RegionRepr.TheLaws as R-laws
 use Rattle.ndarray.specs.base.Slots.{somes, held_at}
 use Rattle.ndarray.specs.Grid.{Grid}
 use Rattle.ndarray.specs.base.Places.{Reaches}
-use Rattle.ndarray.specs.base.Strewn.{strewn, Strewn}
+use Rattle.ndarray.specs.base.Strewn.{Strewn}
 use Rattle.ndarray.specs.base.Follows.{with_slots}
 use Rattle.ndarray.proofs.Memory.{Rg, Words}
 use types.Mut.{open_ref}
@@ -56,7 +53,6 @@ use Rattle.ndarray.proofs.LentAgain.{as_many, cut, back, Has, Rest}
 use types.Kit.{fpick, fpack, feq_i, feq_l}
 use base.Fml.{fex, feq}
 use Rattle.ndarray.specs.Grid.{grid}
-use mathlib.Core.Path.{◌∙◌}
 
 -- a type of lengths, as the walk of a generic function knows it
 pub record Dm : Type 2 where

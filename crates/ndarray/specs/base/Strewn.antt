@@ -1,4 +1,4 @@
--- Values that lie at some of the places of a slice.
+-- Inside `base`: what a region owns in memory, values that lie at some of the places of a slice.
 use Rattle.std.specs.Prelude.{ℕ, ◌+◌, ◌*◌, ◌^◌, List, [], ◌∷◌, length, Option, Some, None}
 use base.Stored.{coded_list}
 use base.Fml.{Lft, GName, Fml, ftrue, ffalse, fsep, fobs, fbor, flt}
@@ -18,6 +18,7 @@ module _ (V : RattleType) where
   strewn b o (Some c ∷ cs) [] = ffalse
   strewn b o (Some c ∷ cs) (w ∷ ws) = fsep ((mem V).own_at w b o) (strewn b (o + (mem V).size) cs ws)
 
+  -- these values as a type in memory, which a loan may be of
   abbrev pub Strewn : List (Option V.Denot) → SemTy
   Strewn cs = record { rep = List V.Denot; coded = coded_list V.coded; size = 0; own_at = λ ws b o. strewn b o cs ws }
 
@@ -29,6 +30,7 @@ module _ (V : RattleType) where
   abbrev pub lent_at : Lft → ℕ → ℕ → GName → List (Option V.Denot) → Fml
   lent_at κ b o γ cs = fsep (fobs γ ((coded_list V.coded).code (somes cs))) (fbor κ (Body (Strewn cs) b o γ))
 
+-- what a region owns beside its fields: that its places fit, and their loan of that name, for that lifetime
 abbrev pub region_owns : Lft → (V : RattleType) → Ptr → GName → List (Option V.Denot) → Fml
 region_owns κ V (block_ptr b o) γ cs = fsep (fit V cs) (lent_at V κ b o γ cs)
 region_owns κ V null_ptr γ cs = ffalse
@@ -40,11 +42,12 @@ module _ (V : RattleType) where
   strewn_lent b o (None ∷ cs) = strewn_lent b (o + (mem V).size) cs
   strewn_lent b o (Some c ∷ cs) = beside (shared_of V c b o) (strewn_lent b (o + (mem V).size) cs)
 
+-- what a `&` to a region holds beside its fields, within the region's lifetime
 abbrev pub region_lent : Lft → (V : RattleType) → Ptr → List (Option V.Denot) → Lft → Fml
 region_lent κ V (block_ptr b o) cs = beside (said (fit V cs)) (within κ (strewn_lent V b o cs))
 region_lent κ V null_ptr cs = said ffalse
 
--- what a `&` to the places of a region holds
+-- what a `&` to a `Reading` holds beside its fields
 abbrev pub reading_lent : (V : RattleType) → Ptr → List (Option V.Denot) → Lft → Fml
 reading_lent V (block_ptr b o) cs = beside (said (fit V cs)) (strewn_lent V b o cs)
 reading_lent V null_ptr cs = said ffalse

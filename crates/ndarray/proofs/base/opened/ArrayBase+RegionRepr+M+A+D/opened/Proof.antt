@@ -1,24 +1,24 @@
 -- `opened` lends the region again, and shares the layout. Assumes `Logic`.
 use mathlib.Core.Path.{◌≡◌, refl, sym, ap, subst, ◌∙◌}
-use Prim.Native.Nat.{ℕ, ◌+◌, ◌*◌, ◌<◌, ◌^◌}
+use Prim.Native.Nat.{ℕ, ◌+◌, ◌*◌, ◌^◌}
 use mathlib.Core.List.{List, [], ◌∷◌, ◌++◌}
 use seplogic.Ra.Ura.{Ura}
 use base.Fraction.{full_share}
 use mir.Syntax.{Fn, Args, named, a_type, dnil, dcons}
 use mir.MapTy.{inst_fn}
 use mir.Val.{Val, vptr}
-use base.Logic.{SProp, ent, sep, emp, never, id⊢, via, fst∗}
-use base.Fml.{Lft, GName, Share, Fml, ftrue, fsep, flft, fobs, fbor, Incl-refl}
+use base.Logic.{SProp, ent, never, id⊢}
+use base.Fml.{Lft, GName, Share, ftrue, fsep, flft, fobs, fbor, Incl-refl}
 use prog.Memory.{Memory}
 use prog.Routine.{Routine}
 use prog.Wp.{Env, Calls, Loops, WpFn, Tables}
-use types.Logic.{Logic, sem}
+use types.Logic.{Logic}
 use contract.Monad.{fact, Fun}
 use contract.BorrowLft.{◌⊑◌, ⊑_meet, ⊑_static, ⊑_trans}
 use denote.Struct.Tuple.{Tuple}
 use contract.Running.{tables, tables_of}
 use sound.WpLaws.{WpFn-mono}
-use types.Kit.{Item, ⋆, ‵, raw, ◌⊛◌, some, later, await, pick, at_ret, ◌$◌, ◌∵◌, !, qed, by, move, keep, drop, use0, use1, use2, use3, split as cut_item, split3, join, group, rewrite, fsplit, fsplit3, fjoin, flt_l, flt_i, feq_l, feq_i, suffices, frame, done}
+use types.Kit.{Item, ⋆, ‵, raw, ◌⊛◌, some, later, await, pick, at_ret, ◌$◌, ◌∵◌, !, qed, by, move, keep, drop, use0, use1, use2, split as cut_item, split3, join, group, rewrite, fsplit, fsplit3, fjoin, flt_l, flt_i, feq_l, feq_i, suffices, frame, done}
 use types.Part.{agg, sub, whole, look_in}
 use types.Run.{and_then, no_more, returns, enter, of_opd, load, fld, stop, addr, first, blocks, exec}
 use types.ByLocal.{through, alloc_all, pass_all, free_all, look_at, get, sets, sets_last, env}
@@ -30,24 +30,21 @@ use denote.Exit.{no}
 use denote.RattleType.{RattleType, owns}
 use denote.Memory.{mem, part_at, part_of, cell_at, shared_of}
 use denote.RawPtr.{Ptr, block_ptr, in_a_block}
-use denote.Ref.{NamedLft, Bor, MutBor, MutRef, ShrRef}
-use denote.Builtin.{RefMutOf}
+use denote.Ref.{Bor, MutRef, ShrRef}
 use denote.Param.{bounded}
 use denote.Param.Laws.{param_laws}
-use denote.Signature.{plain, named_lft}
+use denote.Signature.{plain}
 use denote.Steps.{nothing, heard}
 use denote.Opens.{hide}
 use denote.Struct.OwningLaws.{part_out, part_in}
 use denote.Follow.{follows}
-use denote.Array.{Array}
 use denote.Model.Fields.{view_owns, plain_out}
 use denote.Triple.Clauses.{Clauses, Ended, closing}
 use denote.Triple.Entry.{on_entry}
 use denote.Triple.Spec.{Meets, triple_of}
 use denote.Triple.Table.{entered}
-use denote.Triple.Walked.{says, Stays, stay_dropped, walk_of, ends_at, Goes-spent_ref, walk_Meets}
+use denote.Triple.Walked.{Stays, stay_dropped, walk_of, ends_at, Goes-spent_ref, walk_Meets}
 use lib.ListN.{length}
-use Rattle.std.specs.Prelude.{Option}
 use Rattle.core.proofs.mem.Param.{El, R, el_x}
 use Rattle.ndarray.specs.Grid.{Grid}
 use Rattle.ndarray.specs.base.Slots.{somes}
