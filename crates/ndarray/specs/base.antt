@@ -1,9 +1,13 @@
 -- What only `base` speaks of: places and strides.
 pub mod Chunks
+pub mod Follows
 pub mod Laws
 pub mod Nested
+pub mod Opened
 pub mod Places
 pub mod Pushed
+pub mod Slots
 pub mod Storage
+pub mod Strewn
 pub mod Strides
 pub mod Tiles

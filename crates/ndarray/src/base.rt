@@ -11,6 +11,8 @@ pub mod into_dimension;
 pub(crate) mod layout;
 pub mod making;
 pub mod owned;
+pub mod region;
+pub(crate) mod opened;
 pub mod shape;
 pub mod slice;
 pub mod storage;

@@ -5,6 +5,7 @@ ghost use Rattle.std.specs.Option.{is_some};
 ghost use Rattle.std.specs.Borrow.{sem};
 ghost use Rattle.ndarray.specs.base.Storage.{seen_at};
 
+use crate::base::region::Reading;
 use std::alloc::AllocError;
 
 /// What an array keeps its elements in: elements by places, some of which may hold none.
@@ -70,9 +71,10 @@ pub trait DataOwned: Data {
         ensures { (p : ℕ) → Self.at result p ≡ slice_get items.items p };
 }
 
-/// The elements of a reading view.
-pub struct ViewRepr<'a, A> {
-    slice: &'a [A],
+/// The elements of a reading view: those of a slice, or those that a writing view holds.
+pub enum ViewRepr<'a, A> {
+    Slice(&'a [A]),
+    Part(&'a Reading<A>),
 }
 
 impl<'a, A> Clone for ViewRepr<'a, A> {
@@ -92,7 +94,7 @@ impl<'a, A> ViewRepr<'a, A> {
     pub(crate) fn new(slice: &'a [A]) -> Self
         ensures { (p : ℕ) → seen_at result p ≡ slice_get slice.now p }
     {
-        ViewRepr { slice }
+        ViewRepr::Slice(slice)
     }
 
     /// The element at a place that has one.
@@ -100,8 +102,10 @@ impl<'a, A> ViewRepr<'a, A> {
         requires { IsTrue (is_some (seen_at self.now place)) }
         ensures { seen_at self.now place ≡ Some result.now }
     {
-        let slice = self.slice;
-        &slice[place]
+        match *self {
+            ViewRepr::Slice(slice) => &slice[place],
+            ViewRepr::Part(reading) => reading.get(place),
+        }
     }
 }
 
