@@ -9,6 +9,7 @@ pub mod Filled
 pub mod Images
 pub mod Items
 pub mod LentAgain
+pub mod Lines
 pub mod Lists
 pub mod Memory
 pub mod OneAxis
@@ -26,6 +27,7 @@ pub mod Permutations
 pub mod Pieces
 pub mod Places
 pub mod Readings
+pub mod Refilled
 pub mod RunningSum
 pub mod Selections
 pub mod Sharing
