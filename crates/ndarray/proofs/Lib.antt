@@ -4,6 +4,8 @@ pub mod Boxes
 pub mod Cells
 pub mod Cuts
 pub mod Chunked
+pub mod Deeds
+pub mod Emptying
 pub mod Filled
 pub mod Images
 pub mod Items

@@ -1,5 +1,6 @@
 -- What only `base` speaks of: places and strides.
 pub mod Chunks
+pub mod Emptying
 pub mod Places
 pub mod Storage
 pub mod Strides

@@ -9,6 +9,7 @@ pub mod error;
 pub mod into_dimension;
 pub(crate) mod layout;
 pub mod making;
+pub(crate) mod places;
 pub mod shape;
 pub mod slice;
 pub mod storage;

@@ -1,0 +1,3 @@
+//! Elements that are moved out of their storage by place.
+pub mod block;
+pub mod emptying;
