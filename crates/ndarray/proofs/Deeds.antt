@@ -40,6 +40,7 @@ abbrev pub husk_val : Val → Val
 husk_val v = vstruct (vcons v vnil)
 
 module _ (E : El) where
+  -- the rows of a deed, of the husk of a Vec, and of what `open` returns
   abbrev pub Dd : RattleType
   Dd = D.the_row (R E) (P E) E.al.g
 
@@ -73,6 +74,7 @@ module _ (E : El) {M : Type 1} {𝓤 : Ura M} {𝓛 : Logic 𝓤} {K : Type 0} {
       rewrite t 0 (λ (p : Ptr). ‵ (owns_if (has_block d.cap) (fsep (room_for (bare (ty_array (elτ E) (d.cap - d.out))) (p +ₚ d.out * sz E)) (token E.al d.alloc (bare (ty_array (elτ E) d.cap)) p)))) at refl $
       k (whole ∙ (λ i. vstruct (of_list (e₀ i ++ (e₁ i ++ (e₂ i ++ [])))) ∷ []) ∙ ap (λ (p : Ptr). lease_val p d.cap ∷ []) at) fc fit))))))))
 
+  -- and a deed is made of that rest
   pub deed_made : K → (a : Hd E) (b o k c : ℕ) (ok : (k ≤ c) × (c < 2 ^ 63)) → c < 2 ^ 64 → c * sz E < 2 ^ 63
       → Step K 𝓛 (‵ ((Dd E).own_val (made E a b o k c ok) (lease_val (block_ptr b o) c ∷ [])) ∷ Γ) G (‵ (owns_if (has_block c) (Rest E a b o k c)) ∷ Γ) G
   deed_made t a b o k c ok fc fit = step (λ s.

@@ -10,6 +10,7 @@ pub mod Filled
 pub mod Images
 pub mod Items
 pub mod Lists
+pub mod Moving
 pub mod OneAxis
 pub mod Orders
 pub mod Pairs

@@ -61,6 +61,7 @@ use Rattle.ndarray.specs.contracts.base.places.block.close.Key.{name as #self}
 use Rattle.ndarray.proofs.base.places.block.close.Statement as stated
 use Rattle.ndarray.proofs.base.places.block.close.Code as code
 
+-- a capacity that has a block is not 0
 live_pos : (c : ℕ) → T (has_block c) → 0 < c
 live_pos zero t = absurd t
 live_pos (suc c) t = omega arith
@@ -88,7 +89,7 @@ module _ (E : El) where
     abbrev Goes : Bound → Type 1
     Goes y = ent 𝓤 ((walk_of 𝓛 ended stayed held).pre y) (WpFn 𝓤 H 𝓣.C 𝓣.Λ here ((walk_of 𝓛 ended stayed held).args y) ((walk_of 𝓛 ended stayed held).post y))
 
-    -- only the tokens are left
+    -- only the tokens of the lifetimes are left
     abbrev Tokens : Bound → List (Item 𝓤)
     Tokens z = ‵ (flft z.0.0.0 z.0.1.0) ∷ ‵ (flft z.0.0.1.0 z.0.1.1.0) ∷ (‵ (flft z.0.0.1.1.0 z.0.1.1.1.0) ⊛ ‵ ftrue) ∷ []
 
