@@ -5,7 +5,7 @@ use Rattle.ndarray.specs.base.Emptying.{still}
 use Rattle.ndarray.proofs.Emptying.{still-full}
 use Rattle.ndarray.proofs.base.places.emptying.Emptying.of.Goals as goal
 
--- src/base/places/emptying.rt:33:5
+-- every mark is true
 pub returns : goal.returns
 returns g c = let r = c.open-row.result.0 in let row = c.open-row.ensures.row in
     ap (still (slots_items r)) (row.2 ∙ ap (λ n. replicate n true) (sym row.0 ∙ (slots_counts r).0))

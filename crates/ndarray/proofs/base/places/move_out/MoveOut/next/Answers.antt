@@ -3,14 +3,12 @@ use Rattle.std.proofs.Common.{ℕ, ◌∷◌, List, Option, sym, subst, ap, ◌�
 use Rattle.ndarray.specs.base.Moving.{found, Stands}
 use Rattle.ndarray.proofs.base.places.move_out.MoveOut.next.Goals as goal
 
--- src/base/places/move_out.rt:59:5
 pub invariant_of-self-2 : goal.invariant_of-self-2
 invariant_of-self-2 g c =
     let w = g.W.Way in let old = c.self.inside in let places = w.to_come c.pass.new.self in
     subst (Stands (w.passed c.pass.new.self) places) (sym c.take.ensures.slots)
     (stands-next (w.passed old.way) (w.passed c.pass.new.self) c.in-Some.place places old.left (subst (λ (l : List ℕ). Stands (w.passed old.way) l old.left) c.in-Some.ensures.rest c.self.invariant) c.in-Some.ensures.passed)
 
--- src/base/places/move_out.rt:59:5
 pub returns : goal.returns
 returns g c =
     let w = g.W.Way in let old = c.self.inside in let places = w.to_come c.pass.new.self in
