@@ -2,7 +2,7 @@
 use Rattle.std.proofs.Common.{◌≡◌, ℕ, ◌<◌, ◌⊎◌, ◌↔◌, ◌≢◌, zero, suc, List, [], ◌∷◌, Option, Some, None, map, length, get_or, filter_map, slice_get, refl, sym, ap, ◌∙◌, subst, arith, inl, inr}
 use Rattle.std.specs.Prelude.{All, Contains}
 use Rattle.std.specs.List.{cons_option}
-use Rattle.std.proofs.lemmas.List.{get_or-set_other, length-map}
+use Rattle.std.proofs.lemmas.List.{get_or-set_other, get_or_default, length-map}
 use lib.ListN.{set, length-set}
 use Rattle.ndarray.specs.base.Emptying.{IsThere}
 use Rattle.ndarray.specs.base.Moving.{found, Stands}
@@ -39,7 +39,7 @@ module _ {X : Type 0} where
   stands-new passed places xs within begins = record {
     there = λ p lt not_yet. there-full xs p lt;
     gone = λ p was. absurd (begins p was);
-    within = λ k d lt. subst (λ n. get_or places k d < n) (sym (length-map xs (λ x. Some x))) (within k d lt);
+    ahead = λ k d lt. there-full xs (get_or places k d) (subst (λ n. get_or places k d < n) (sym (length-map xs (λ x. Some x))) (within k d lt));
   }
 
   -- what is to come then
@@ -48,8 +48,8 @@ module _ {X : Type 0} where
 
   -- after the first place was passed, and its element moved out
   pub stands-next : (passed passed' : ℕ → Type 0) (p : ℕ) (places : List ℕ) (cs : List (Option X))
-      → Stands passed (p ∷ places) cs → ((q : ℕ) → passed' q ↔ (passed q ⊎ (◌≡◌ {A = Option ℕ} (Some p) (Some q)))) → Stands passed' places (set cs p None)
-  stands-next passed passed' p places cs s now = record {
+      → Stands passed (p ∷ places) cs → (Contains places p → ⊥) → ((q : ℕ) → passed' q ↔ (passed q ⊎ (◌≡◌ {A = Option ℕ} (Some p) (Some q)))) → Stands passed' places (set cs p None)
+  stands-next passed passed' p places cs s once now = record {
     there = λ q lt not_yet.
         let other : q ≢ p = λ e. not_yet ((now q).1 (inr (ap (λ k. Some k) (sym e)))) in
         let had = s.there q (subst (λ n. q < n) (length-set cs p None) lt) (λ was. not_yet ((now q).1 (inl was))) in
@@ -58,7 +58,11 @@ module _ {X : Type 0} where
       | inl before ↦ stays-empty cs p q (s.gone q before)
       | inr here ↦ (let e : p ≡ q = cc in subst (λ k. get_or (set cs p None) k None ≡ None) e (emptied cs p))
     ];
-    within = λ k d lt. subst (λ n. get_or places k d < n) (sym (length-set cs p None)) (s.within (suc k) d (omega (arith, lt)));
+    ahead = λ k d lt.
+        let q : ℕ = get_or places k d in
+        let other : q ≢ p = λ e. once (k, lt, get_or_default places k p d lt ∙ e) in
+        let had = s.ahead (suc k) d (omega (arith, lt)) in
+        (had.0, get_or-set_other cs p q None None other ∙ had.1);
   }
 
   -- places of which none is the emptied one hold what they held

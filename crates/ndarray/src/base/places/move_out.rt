@@ -16,8 +16,12 @@ pub trait Way: Drop {
     /// Passes the next place.
     fn pass(&mut self) -> Option<usize>
         ensures rest { YieldsFirst to_come self.old result self.new }
-        ensures once { IfSome result (λ p. (passed self.old p → ⊥) × (Contains (to_come self.new) p → ⊥)) }
+        ensures once { IfSome result (λ p. Contains (to_come self.new) p → ⊥) }
         ensures passed { (p : ℕ) → passed self.new p ↔ (passed self.old p ⊎ (result ≡ Some p)) };
+
+    /// How many places are still to come.
+    fn len(&self) -> usize
+        ensures { result ≡ length (to_come self.now) };
 
     /// Whether a place was passed. One that the way never reaches was not.
     fn has_passed(&self, place: usize) -> bool
@@ -53,6 +57,13 @@ impl<A, W: Way> MoveOut<A, W> {
             left: Emptying::of(vec),
             way,
         }
+    }
+
+    /// How many elements are still to come.
+    pub fn len(&self) -> usize
+        ensures { result ≡ length self.now }
+    {
+        self.way.len()
     }
 
     /// Moves the next element out.
