@@ -1,5 +1,7 @@
 -- The index lists of a box.
 use Rattle.std.proofs.Common.{◌≡◌, ℕ, ◌*◌, ◌<◌, suc, zero, List, [], ◌∷◌, ◌++◌, length, reverse, drop, set, get_or, replicate, inl, inr, refl, ap, arith, subst}
+use Rattle.std.specs.Prelude.{remove}
+use Rattle.std.proofs.Math.Nat.{one-le-mul}
 use Rattle.std.proofs.lemmas.Bool.{cases_lt}
 use Rattle.std.proofs.lemmas.List.{set-get_or}
 use Rattle.ndarray.specs.Index.{InBox, size}
@@ -45,6 +47,12 @@ InBox-zeros [] h = tt
 InBox-zeros (zero ∷ ns) h = absurd (omega arith)
 InBox-zeros (suc n ∷ ns) h = (omega arith, InBox-zeros ns (elim (cases_lt 0 (size ns)) [ inl p ↦ p | inr z ↦ absurd (let e : size ns ≡ 0 = omega arith in let e2 : suc n * size ns ≡ suc n * 0 = ap (λ x. suc n * x) e in omega arith) ]))
 
+-- a box that has an index list is not empty
+pub InBox-some : (ns is : List ℕ) → InBox ns is → 0 < size ns
+InBox-some [] is h = omega arith
+InBox-some (n ∷ ns) [] h = absurd h
+InBox-some (n ∷ ns) (i ∷ is) h = let lt = h.0 in one-le-mul {a = n} {b = size ns} (omega arith) (InBox-some ns is h.1)
+
 -- index lists with each index below its length are those of the box
 pub InBox-from_each : (ns is : List ℕ) → length is ≡ length ns → ((k : ℕ) → k < length ns → get_or is k 0 < get_or ns k 0) → InBox ns is
 InBox-from_each [] [] l h = tt
@@ -58,3 +66,10 @@ InBox-drop (suc k) [] [] h = tt
 InBox-drop (suc k) [] (i ∷ is) h = absurd h
 InBox-drop (suc k) (n ∷ ns) [] h = absurd h
 InBox-drop (suc k) (n ∷ ns) (i ∷ is) h = InBox-drop k ns is h.1
+
+-- an index list without one index is in the box without that axis
+pub InBox-removed : (ns is : List ℕ) (k : ℕ) → k < length ns → InBox ns is → InBox (remove ns k) (remove is k)
+InBox-removed [] is k lt h = absurd (omega arith)
+InBox-removed (n ∷ ns) [] k lt h = absurd h
+InBox-removed (n ∷ ns) (i ∷ is) zero lt h = h.1
+InBox-removed (n ∷ ns) (i ∷ is) (suc k) lt h = (h.0, InBox-removed ns is k (omega arith) h.1)

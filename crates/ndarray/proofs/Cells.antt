@@ -1,15 +1,15 @@
 -- The cells of an array, and along a list of index lists.
-use Rattle.std.proofs.Common.{◌≡◌, ℕ, List, [], ◌∷◌, ◌++◌, length, map, take, drop, get_or, Option, Some, None, refl, sym, ◌∙◌, ap, arith, subst}
+use Rattle.std.proofs.Common.{◌≡◌, ℕ, List, [], ◌∷◌, ◌++◌, length, map, take, drop, replicate, get_or, Option, Some, None, refl, sym, ◌∙◌, ap, arith, subst}
 use Rattle.std.specs.Prelude.{filter_map, slice_get, All}
-use Rattle.std.proofs.lemmas.List.Elements.{filter_map-append, All-head, All-tail, All-take, All-drop}
+use Rattle.std.proofs.lemmas.List.Elements.{All-same, All-replicate, filter_map-append, All-head, All-tail, All-take, All-drop}
 use Rattle.std.specs.Option.{option_map}
-use Rattle.std.proofs.lemmas.Option.{slice_get-get_or, slice_get-map}
+use Rattle.std.proofs.lemmas.Option.{slice_get-get_or, slice_get-map, get_or_from_slice_get}
 use Rattle.std.proofs.lemmas.List.{get_or_append_left, length-append, length-map}
-use Rattle.ndarray.specs.Index.{InBox, row_order, IsBefore}
+use Rattle.ndarray.specs.Index.{InBox, row_order, size, IsBefore}
 use Rattle.ndarray.specs.Grid.{Grid, grid, beside, cell, IsGrid, HasCells, tabulate, tabulated, IsKnownByCells, arranged}
-use Rattle.ndarray.specs.order.Steps.{rank}
-use Rattle.ndarray.proofs.Lists.{same_from_slice_get, length-filter_map_all, slice_get-filter_map_all, slice_get-Some, filter_map-same, map-from_filter_map, get_or-append-last, map-same, filter_map-take_all, filter_map-drop_all}
-use Rattle.ndarray.proofs.Orders.{length-row_order, row_order-is, row_order-at, row_order-back, rank-lt, box_in-is, box_in-within, IsBefore-not_itself}
+use Rattle.ndarray.specs.order.Steps.{rank, rank_in}
+use Rattle.ndarray.proofs.Lists.{same_from_slice_get, length-filter_map_all, slice_get-filter_map_all, slice_get-Some, filter_map-same, map-from_filter_map, get_or-append-last, map-same, filter_map-take_all, filter_map-drop_all, replicate-is}
+use Rattle.ndarray.proofs.Orders.{length-row_order, row_order-is, row_order-at, row_order-back, rank-lt, rank_in-lt, box_in-at, box_in-is, box_in-within, length-box_in, IsBefore-not_itself}
 use Rattle.ndarray.specs.Orders.{box_in, cells_in, HasInOrder}
 use Rattle.ndarray.specs.declared.base.shape.Order.{Order}
 use Rattle.ndarray.proofs.Unique.{box_in-unique}
@@ -96,6 +96,26 @@ HasInOrder-from o g xs e is order = ap (map (cell g)) (box_in-unique o g.lengths
 
 pub cells_in-HasInOrder : {A : Type 0} (o : Order) (g : Grid A) → IsGrid g → HasInOrder o g (cells_in o g)
 cells_in-HasInOrder o g whole = HasInOrder-from o g (cells_in o g) (map-from_filter_map (cell g) (box_in o g.lengths) (all-cells g whole (box_in o g.lengths) (box_in-within o g.lengths)))
+
+-- what holds of each cell along an order holds of each cell
+pub All-cells : {A : Type 0} (P : A → Type 0) (o : Order) (g : Grid A) → IsGrid g → All P (cells_in o g) → All P g.cells
+All-cells P o g whole h k d lt =
+    let b = row_order-back g.lengths k [] (omega arith) in
+    let is = get_or (row_order g.lengths) k [] in
+    let j = rank_in o g.lengths is in
+    let below = rank_in-lt o g.lengths is b.0 in
+    let all = all-cells g whole (box_in o g.lengths) (box_in-within o g.lengths) in
+    let l = length-box_in o g.lengths in
+    let lc = length-along g whole (box_in o g.lengths) (box_in-within o g.lengths) in
+    let here = slice_get-filter_map_all (cell g) (box_in o g.lengths) j [] all (omega arith)
+    ∙ (ap (cell g) (box_in-at o g.lengths is [] b.0) ∙ (cell-within g whole is b.0 ∙ (ap (slice_get g.cells) b.1 ∙ slice_get-get_or g.cells k d lt))) in
+    subst P (get_or_from_slice_get (cells_in o g) j (get_or g.cells k d) d here) (h j d (omega arith))
+
+-- cells that are all the same along an order are all the same
+pub cells-alike : {A : Type 0} (x : A) (n : ℕ) (o : Order) (g : Grid A) → IsGrid g → cells_in o g ≡ replicate n x → g.cells ≡ replicate (size g.lengths) x
+cells-alike x n o g whole e =
+    let P = λ (y : _). y ≡ x in
+    replicate-is x g.cells (All-cells P o g whole (All-same P _ _ e (All-replicate P n x refl))) ∙ ap (λ m. replicate m x) whole
 
 -- ---- arrays that have a function of each index list
 

@@ -4,17 +4,20 @@ use Rattle.std.proofs.lemmas.List.{length-set, get_or-set_same, set-set, set-get
 use Rattle.std.proofs.lemmas.Nat.{div-add-mod'}
 use Rattle.std.proofs.Math.Nat.{add-mul-mod_self_left}
 use Rattle.ndarray.specs.Index.{InBox}
+use Rattle.ndarray.specs.base.Nested.{magnitude, reach}
 use Rattle.ndarray.specs.base.Places.{dot, place, Reaches, Rearranges}
 use Rattle.ndarray.proofs.Boxes.{InBox-length, InBox-get, InBox-set_both}
+use Rattle.ndarray.proofs.NestedCuts.{nested-cut}
 use Rattle.ndarray.proofs.Places.{dot-set, mod_twice}
 use Rattle.ndarray.proofs.Sizes.{nonzero-set_le}
 
--- of an axis of length n, the `len` places that `at` names, each once: from `from` on by `step`, modulo 2 ^ 64
+-- of an axis of length n, the `len` places that `at` names: from `from` on by `step`, which is not 0, modulo 2 ^ 64
 pub record IsCut (n from len step : ℕ) (at : ℕ → ℕ) : Type 0 where
   pub fewer : len ≤ n
   pub within : (i : ℕ) → i < len → at i < n
   pub steps : (i : ℕ) → i < len → (from + i * step) % 2 ^ 64 ≡ at i
-  pub apart : (i j : ℕ) → i < len → j < len → at i ≡ at j → i ≡ j
+  pub near : reach len step ≤ n - 1
+  pub moves : 1 < len → 0 < magnitude step
 
 -- those of a part side by side
 pub IsCut-part : (n from len : ℕ) → from + len ≤ n → n < 2 ^ 63 → IsCut n from len 1 (λ i. from + i)
@@ -22,7 +25,8 @@ IsCut-part n from len le fits = record {
   fewer = omega arith;
   within = λ i lt. omega arith;
   steps = λ i lt. omega arith;
-  apart = λ i j li lj e. omega arith;
+  near = omega arith;
+  moves = λ long. omega arith;
 }
 
 -- all of them, from the last to the first
@@ -31,7 +35,8 @@ IsCut-turned n fits = record {
   fewer = omega arith;
   within = λ i lt. omega arith;
   steps = λ i lt. omega arith;
-  apart = λ i j li lj e. omega arith;
+  near = omega arith;
+  moves = λ long. omega arith;
 }
 
 -- where the i-th place of the axis lies
@@ -77,21 +82,6 @@ module _ {A one : Type 0} (two : Type 0) (held : ℕ → Option A) (ns : List �
       let e2 : dot bs (set js k (at i)) + i * b ≡ dot bs js + at i * b = ap (λ x. dot x (set js k (at i)) + i * b) (sym (set-get_or bs k 0)) ∙ d2 in
       step-same start from b step i (at i) (dot (set bs k v) js) (dot bs js) (cut.steps i (cut-index js box)) e1 (dot bs (set js k (at i))) e2
 
-  cut-distinct : (is js : List ℕ) → InBox (set ns k len) is → InBox (set ns k len) js → set is k (at (get_or is k 0)) ≡ set js k (at (get_or js k 0)) → is ≡ js
-  cut-distinct is js bi bj e =
-      let i : ℕ = get_or is k 0 in
-      let j : ℕ = get_or js k 0 in
-      let li = InBox-length (set ns k len) is bi in
-      let lj = InBox-length (set ns k len) js bj in
-      let ln = length-set ns k len in
-      let there : at i ≡ at j = sym (get_or-set_same is k (at i) 0 (omega arith)) ∙ (ap (λ l. get_or l k 0) e ∙ get_or-set_same js k (at j) 0 (omega arith)) in
-      let same : i ≡ j = cut.apart i j (cut-index is bi) (cut-index js bj) there in
-      sym (set-get_or is k 0)
-      ∙ (sym (set-set is k (at i) i)
-      ∙ (ap (λ l. set l k i) e
-      ∙ (ap (λ n. set (set js k (at j)) k n) same
-      ∙ (set-set js k (at j) j ∙ set-get_or js k 0))))
-
   -- the array that keeps these places of the axis
   pub rearranges-cut : Rearranges two ns start bs (set ns k len) ((start + (from * get_or bs k 0) % 2 ^ 64) % 2 ^ 64) (set bs k ((get_or bs k 0 * step) % 2 ^ 64)) (λ js. set js k (at (get_or js k 0)))
   rearranges-cut = record {
@@ -99,5 +89,5 @@ module _ {A one : Type 0} (two : Type 0) (held : ℕ → Option A) (ns : List �
     limit = let m = nonzero-set_le ns k len lt cut.fewer in let l = h.limit in omega arith;
     image = cut-image;
     same = cut-same;
-    distinct = λ _. cut-distinct;
+    nested = λ _. nested-cut ns bs k len step h.as_many lt cut.fewer cut.near cut.moves;
   }

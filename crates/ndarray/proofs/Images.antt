@@ -1,5 +1,5 @@
 -- Views of views.
-use Rattle.std.proofs.Common.{◌≡◌, ℕ, ◌+◌, ◌*◌, ◌%◌, ◌^◌, List, [], ◌∷◌, ◌++◌, length, reverse, Option, refl, sym, ◌∙◌, ap, arith, subst}
+use Rattle.std.proofs.Common.{◌≡◌, ℕ, ◌+◌, ◌*◌, ◌%◌, ◌^◌, List, [], ◌∷◌, ◌++◌, length, replicate, reverse, Option, refl, sym, ◌∙◌, ap, arith, subst}
 use Rattle.std.specs.Prelude.{IsTrue}
 use Rattle.std.specs.Option.{is_some}
 use Rattle.std.proofs.lemmas.List.{length-reverse, reverse-reverse}
@@ -7,7 +7,8 @@ use Rattle.ndarray.specs.Index.{InBox}
 use Rattle.ndarray.specs.Grid.{Grid, cell, tabulate}
 use Rattle.ndarray.specs.base.Places.{dot, place, Reaches, grid_at, Rearranges}
 use Rattle.ndarray.proofs.Lists.{reverse-cons}
-use Rattle.ndarray.proofs.Boxes.{InBox-length, InBox-reverse}
+use Rattle.ndarray.proofs.Boxes.{InBox-length, InBox-reverse, InBox-some, InBox-zeros}
+use Rattle.ndarray.proofs.NestedMoves.{nested-reversed}
 use Rattle.ndarray.proofs.Sizes.{nonzero-reverse}
 use Rattle.ndarray.proofs.Cells.{tabulate-is}
 use Rattle.ndarray.proofs.Places.{length-cells_at, cell-at, grid_at-same, Reaches-same}
@@ -18,7 +19,7 @@ module _ {ns : List ℕ} {start : ℕ} {bs ns' : List ℕ} {start' : ℕ} {bs' :
     as_many = r.as_many;
     limit = r.limit;
     inside = λ js b. subst (λ p. IsTrue (is_some (at p))) (sym (r.same js b)) (h.inside (f js) (r.image js b));
-    apart = λ t is js bi bj e. r.distinct t is js bi bj (h.apart (to t) (f is) (f js) (r.image is bi) (r.image js bj) (sym (r.same is bi) ∙ (e ∙ r.same js bj)));
+    nested = λ t some. r.nested t (h.nested (to t) (InBox-some ns (f (replicate (length ns') 0)) (r.image (replicate (length ns') 0) (InBox-zeros ns' some))));
   }
 
   reached : {A one : Type 0} (at : ℕ → Option A) → Reaches one at ns start bs → Reaches ⊥ at ns' start' bs'
@@ -26,7 +27,7 @@ module _ {ns : List ℕ} {start : ℕ} {bs ns' : List ℕ} {start' : ℕ} {bs' :
     as_many = r.as_many;
     limit = r.limit;
     inside = λ is bi. subst (λ p. IsTrue (is_some (at p))) (sym (r.same is bi)) (h.inside (f is) (r.image is bi));
-    apart = λ no. absurd no;
+    nested = λ no. absurd no;
   }
 
   pub cell-rearranged : {A one : Type 0} (at : ℕ → Option A) → Reaches one at ns start bs → (js : List ℕ) → InBox ns' js → cell (grid_at at ns' start' bs') js ≡ cell (grid_at at ns start bs) (f js)
@@ -74,5 +75,5 @@ rearranges-reversed two at ns start bs h = record {
       let lj = length-reverse js in
       let d = dot-reverse bs (reverse js) (omega arith) in
       ap (λ x. (start + x) % 2 ^ 64) (ap (dot (reverse bs)) (sym (reverse-reverse js)) ∙ d);
-  distinct = λ _ is js bi bj e. sym (reverse-reverse is) ∙ (ap reverse e ∙ reverse-reverse js);
+  nested = λ _. nested-reversed ns bs h.as_many;
 }

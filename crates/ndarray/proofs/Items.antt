@@ -1,5 +1,5 @@
 -- An axis taken out, and an index put in at it; an axis of length 1 put in.
-use Rattle.std.proofs.Common.{◌≡◌, ℕ, ◌+◌, ◌*◌, ◌%◌, ◌<◌, ◌≤◌, ◌^◌, suc, zero, List, [], ◌∷◌, length, get_or, sym, ◌∙◌, ap, arith, Option}
+use Rattle.std.proofs.Common.{◌≡◌, ℕ, ◌+◌, ◌*◌, ◌%◌, ◌<◌, ◌≤◌, ◌^◌, suc, zero, List, [], ◌∷◌, length, get_or, ◌∙◌, ap, arith, Option}
 use Rattle.std.specs.Prelude.{insert, remove}
 use Rattle.std.proofs.Math.Nat.{mul-le-mul_left}
 use Rattle.std.proofs.lemmas.List.Edits.{length-remove, length-insert}
@@ -7,7 +7,7 @@ use Rattle.ndarray.specs.Index.{InBox}
 use Rattle.ndarray.specs.Limits.{nonzero_size}
 use Rattle.ndarray.specs.base.Places.{dot, place, Reaches, Rearranges}
 use Rattle.ndarray.proofs.Boxes.{InBox-length}
-use Rattle.ndarray.proofs.Lists.{insert-remove}
+use Rattle.ndarray.proofs.NestedMoves.{nested-inserted, nested-removed}
 use Rattle.ndarray.proofs.Places.{mod_twice}
 use Rattle.ndarray.proofs.Sizes.{nonzero-insert_one}
 
@@ -39,9 +39,9 @@ nonzero-remove (n ∷ ns) zero = nonzero-tail n ns
 nonzero-remove (n ∷ ns) (suc k) = nonzero-cons n (remove ns k) ns (nonzero-remove ns k)
 
 -- item i along an axis lies where the array lies at the index lists with i put in
-pub rearranges-item : {A one : Type 0} (at : ℕ → Option A) (ns : List ℕ) (start : ℕ) (bs : List ℕ) (k i start' : ℕ) → Reaches one at ns start bs → k < length ns → i < get_or ns k 0 → start' ≡ (start + (i * get_or bs k 0) % 2 ^ 64) % 2 ^ 64 → Rearranges ⊥ ns start bs (remove ns k) start' (remove bs k) (λ js. insert js k i)
+pub rearranges-item : {A one : Type 0} (two : Type 0) (at : ℕ → Option A) (ns : List ℕ) (start : ℕ) (bs : List ℕ) (k i start' : ℕ) → Reaches one at ns start bs → k < length ns → i < get_or ns k 0 → start' ≡ (start + (i * get_or bs k 0) % 2 ^ 64) % 2 ^ 64 → Rearranges two ns start bs (remove ns k) start' (remove bs k) (λ js. insert js k i)
 unfolding place
-rearranges-item at ns start bs k i start' h lt below es =
+rearranges-item two at ns start bs k i start' h lt below es =
     let ab = h.as_many in
     record {
       as_many = omega (arith, length-remove {X = ℕ});
@@ -53,7 +53,7 @@ rearranges-item at ns start bs k i start' h lt below es =
           let sum : start + i * get_or bs k 0 + dot (remove bs k) js ≡ start + dot bs (insert js k i) = omega arith in
           ap (λ x. (x + dot (remove bs k) js) % 2 ^ 64) es
           ∙ (mod_twice (2 ^ 64) start (i * get_or bs k 0) (dot (remove bs k) js) ∙ ap (λ x. x % 2 ^ 64) sum);
-      distinct = λ no. absurd no;
+      nested = λ _. nested-removed ns bs k h.as_many lt;
     }
 
 -- ---- an axis of length 1 put in
@@ -80,8 +80,6 @@ rearranges-inserted two at ns start bs k b h le =
     let lb : length (insert bs k b) ≡ length bs + 1 = length-insert bs k b (omega arith) in
     let ln = length-insert ns k 1 le in
     let one_there : (js : List ℕ) → InBox (insert ns k 1) js → get_or js k 0 ≡ 0 = λ js box. omega (arith, (InBox-remove ns js k 1 le box).1) in
-    let back : (js : List ℕ) → InBox (insert ns k 1) js → insert (remove js k) k 0 ≡ js =
-    λ js box. let l = InBox-length (insert ns k 1) js box in ap (λ x. insert (remove js k) k x) (sym (one_there js box)) ∙ insert-remove js k 0 (omega arith) in
     record {
       as_many = omega arith;
       limit = let e = nonzero-insert_one ns k in let l = h.limit in omega arith;
@@ -93,5 +91,5 @@ rearranges-inserted two at ns start bs k b h le =
           let n : get_or js k 0 * b ≡ 0 * b = ap (λ x. x * b) z in
           let e : dot (insert bs k b) js ≡ dot bs (remove js k) = omega arith in
           ap (λ x. (start + x) % 2 ^ 64) e;
-      distinct = λ _ is js bi bj e. sym (back is bi) ∙ (ap (λ ks. insert ks k 0) e ∙ back js bj);
+      nested = λ _. nested-inserted ns bs k b h.as_many le;
     }

@@ -1,8 +1,8 @@
 -- Lists: what stands at each place.
-use Rattle.std.proofs.Common.{◌≡◌, ℕ, ◌+◌, ◌<◌, ◌≤◌, min, suc, zero, List, [], ◌∷◌, ◌++◌, length, drop, map, reverse, take, get_or, Option, Some, None, refl, sym, ◌∙◌, ap, arith, subst, set, swap, insert, remove, get_or-set_other, inl, inr}
+use Rattle.std.proofs.Common.{◌≡◌, ℕ, ◌+◌, ◌<◌, ◌≤◌, min, suc, zero, List, [], ◌∷◌, ◌++◌, length, drop, map, replicate, reverse, take, get_or, Option, Some, None, refl, sym, ◌∙◌, ap, arith, subst, set, swap, insert, remove, get_or-set_other, inl, inr}
 use Rattle.std.specs.Prelude.{filter_map, zip, slice_get, MatchOption, All, IsTrue}
 use Rattle.std.specs.Option.{is_some}
-use Rattle.std.specs.List.{cons_option}
+use Rattle.std.specs.List.{cons_option, AllByRecursion}
 use Rattle.std.proofs.Math.Seq.{drop-cons}
 use Rattle.std.proofs.lemmas.Option.{slice_get_past, slice_get-get_or}
 use Rattle.std.proofs.lemmas.List.{length-drop, drop_all, reverse-append, get_or_at, same_lists}
@@ -41,12 +41,6 @@ module _ {X Y : Type 0} (f : X → Option Y) where
 
 -- each element beside its image
 module _ {X Y : Type 0} (f : X → Option Y) where
-  pub length-zip-filter_map : (xs : List X) → All (λ x. (y : Y) × (f x ≡ Some y)) xs → length (zip xs (filter_map f xs)) ≡ length xs
-  length-zip-filter_map [] h = refl
-  length-zip-filter_map (x ∷ xs) h =
-      let here = h 0 x (omega arith) in
-      rw here.1 (ap (λ n. suc n) (length-zip-filter_map xs (λ k d lt. h (suc k) d (omega arith))))
-
   pub zip-filter_map : (xs : List X) → All (λ x. (y : Y) × (f x ≡ Some y)) xs → All (λ p. f p.0 ≡ Some p.1) (zip xs (filter_map f xs))
   zip-filter_map [] h = All-nil (λ p. f p.0 ≡ Some p.1)
   zip-filter_map (x ∷ xs) h =
@@ -175,3 +169,20 @@ pub insert-remove : {X : Type 0} (xs : List X) (k : ℕ) (d : X) → k < length 
 insert-remove [] k d h = absurd (omega arith)
 insert-remove (x ∷ xs) zero d h = refl
 insert-remove (x ∷ xs) (suc k) d h = ap (λ ys. x ∷ ys) (insert-remove xs k d (omega arith))
+
+-- what holds of each element, said by places and said by recursion
+pub All-from_recursion : {X : Type 0} (P : X → Type 0) (xs : List X) → AllByRecursion P xs → All P xs
+All-from_recursion P [] h = All-nil P
+All-from_recursion P (x ∷ xs) h = All-cons P x xs h.0 (All-from_recursion P xs h.1)
+
+pub All-to_recursion : {X : Type 0} (P : X → Type 0) (xs : List X) → All P xs → AllByRecursion P xs
+All-to_recursion P [] h = tt
+All-to_recursion P (x ∷ xs) h = (All-head P x xs h, All-to_recursion P xs (All-tail P x xs h))
+
+-- a list with one element throughout
+pub replicate-is : {X : Type 0} (x : X) (xs : List X) → All (λ y. y ≡ x) xs → xs ≡ replicate (length xs) x
+replicate-is x [] h = refl
+replicate-is x (y ∷ ys) h =
+    let here = All-head (λ z. z ≡ x) y ys h in
+    let rest = replicate-is x ys (All-tail (λ z. z ≡ x) y ys h) in
+    cc

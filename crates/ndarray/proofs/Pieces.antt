@@ -41,7 +41,7 @@ module _ {ns : List ℕ} {start : ℕ} {bs ps steps ms cs : List ℕ} {f : List 
 images-items : {A one : Type 0} (at : ℕ → Option A) (ns : List ℕ) (start : ℕ) (bs : List ℕ) (k : ℕ) → Reaches one at ns start bs → k < length ns → (p : List ℕ) → InBox (get_or ns k 0 ∷ []) p → Rearranges ⊥ ns start bs (remove ns k) (place start (get_or bs k 0 ∷ []) p) (remove bs k) (λ js. insert js k (get_or p 0 0))
 unfolding place dot
 images-items at ns start bs k h lt [] b = absurd b
-images-items at ns start bs k h lt (i ∷ []) b = rearranges-item at ns start bs k i ((start + (i * get_or bs k 0 + 0)) % 2 ^ 64) h lt b.0 (ap (λ x. (start + x) % 2 ^ 64) (omega arith) ∙ sym (add-mod-mod start (i * get_or bs k 0) (2 ^ 64)))
+images-items at ns start bs k h lt (i ∷ []) b = rearranges-item ⊥ at ns start bs k i ((start + (i * get_or bs k 0 + 0)) % 2 ^ 64) h lt b.0 (ap (λ x. (start + x) % 2 ^ 64) (omega arith) ∙ sym (add-mod-mod start (i * get_or bs k 0) (2 ^ 64)))
 images-items at ns start bs k h lt (i ∷ j ∷ p) b = absurd b.1
 
 pub items-images : {A one : Type 0} (at : ℕ → Option A) (ns : List ℕ) (start : ℕ) (bs : List ℕ) (k : ℕ) → Reaches one at ns start bs → k < length ns → AreImages ns start bs (get_or ns k 0 ∷ []) (get_or bs k 0 ∷ []) (remove ns k) (remove bs k) (λ p js. insert js k (get_or p 0 0))
@@ -83,7 +83,7 @@ none-lane start stride p b = record {
   limit = omega arith;
   image = λ is c. tt;
   same = none-same start stride p b;
-  distinct = λ no. absurd no;
+  nested = λ no. absurd no;
 }
 
 -- the lane at an index list of the other axes lies where the array lies with an index put in
@@ -98,7 +98,7 @@ rearranges-lane at ns start bs k h lt p b =
       limit = let a = nonzero-one_of ns k lt in let m = h.limit in omega arith;
       image = lane-image ns k p lt b;
       same = lane-same start ns bs k p lt (omega arith) (omega arith);
-      distinct = λ no. absurd no;
+      nested = λ no. absurd no;
     }
 
 pub lanes-images : {A one : Type 0} (at : ℕ → Option A) (ns : List ℕ) (start : ℕ) (bs : List ℕ) (k : ℕ) → Reaches one at ns start bs → k < length ns → AreImages ns start bs (remove ns k) (remove bs k) (get_or ns k 0 ∷ []) (get_or bs k 0 ∷ []) (λ p is. insert p k (get_or is 0 0))

@@ -65,7 +65,7 @@ Reaches-same at at' ns start bs to e h = record {
   as_many = h.as_many;
   limit = h.limit;
   inside = λ is b. subst (λ o. IsTrue (is_some o)) (e (place start bs is)) (h.inside is b);
-  apart = λ t. h.apart (to t);
+  nested = λ t. h.nested (to t);
 }
 
 module _ {A one : Type 0} (at : ℕ → Option A) (ns : List ℕ) (start : ℕ) (bs : List ℕ) (h : Reaches one at ns start bs) where

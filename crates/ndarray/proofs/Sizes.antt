@@ -1,10 +1,10 @@
 -- The size of a box, and the limit on shapes, one axis at a time.
-use Rattle.std.proofs.Common.{◌≡◌, ℕ, ◌+◌, ◌*◌, ◌<◌, ◌≤◌, ◌⊎◌, inl, inr, ◌^◌, suc, zero, List, [], ◌∷◌, ◌++◌, length, reverse, refl, take, drop, get_or, sym, ◌∙◌, ◌/◌, ◌%◌, ap, arith, set, insert, swap}
-use Rattle.std.proofs.Math.Seq.{take-suc}
+use Rattle.std.proofs.Common.{◌≡◌, ℕ, ◌+◌, ◌-◌, ◌*◌, ◌<◌, ◌≤◌, ◌⊎◌, inl, inr, ◌^◌, suc, zero, List, [], ◌∷◌, ◌++◌, length, reverse, refl, take, drop, get_or, sym, ◌∙◌, ◌/◌, ◌%◌, ap, arith, set, insert, swap}
+use Rattle.std.proofs.Math.Seq.{take-suc, drop-append_seam}
 use Rattle.std.proofs.Math.Nat.{mul-le-mul_left, mul-lt-mul_of_pos_right, mul-div_cancel, mul_comm, div-lt_iff_lt-mul}
 use Rattle.std.proofs.lemmas.Bool.{cases_lt}
 use Rattle.std.proofs.lemmas.Nat.{div-add-mod'}
-use Rattle.std.proofs.lemmas.List.{take_all, take-append-drop, length-set}
+use Rattle.std.proofs.lemmas.List.{take_all, take-append-drop, length-set, length-drop, length-reverse, reverse-append}
 use Rattle.std.proofs.lemmas.List.Edits.{swap_is}
 use Rattle.ndarray.specs.Index.{size}
 use Rattle.ndarray.specs.Limits.{nonzero_size}
@@ -101,6 +101,17 @@ size-drop_fits ns k h = let a = size-le (drop k ns) in let b = nonzero-drop ns k
 pub size-reverse : (ns : List ℕ) → size (reverse ns) ≡ size ns
 size-reverse [] = refl
 size-reverse (n ∷ ns) = ap size (reverse-cons n ns) ∙ (size-append (reverse ns) (n ∷ []) ∙ (ap (λ x. x * (n * 1)) (size-reverse ns) ∙ omega arith))
+
+-- the last of the reversed lengths are the first ones
+pub size-drop_reverse : (ns : List ℕ) (i : ℕ) → i ≤ length ns → size (drop (length ns - i) (reverse ns)) ≡ size (take i ns)
+size-drop_reverse ns i le =
+    let front : List ℕ = reverse (take i ns) in
+    let back : List ℕ = reverse (drop i ns) in
+    let e : reverse ns ≡ back ++ front = ap reverse (sym (take-append-drop i ns)) ∙ reverse-append (take i ns) (drop i ns) in
+    let l : length back ≡ length ns - i = length-reverse (drop i ns) ∙ length-drop i ns in
+    ap (λ xs. size (drop (length ns - i) xs)) e
+    ∙ (ap (λ n. size (drop n (back ++ front))) (sym l)
+    ∙ (ap size (drop-append_seam back front) ∙ size-reverse (take i ns)))
 
 pub nonzero-reverse : (ns : List ℕ) → nonzero_size (reverse ns) ≡ nonzero_size ns
 nonzero-reverse [] = refl

@@ -2,13 +2,15 @@
 use Rattle.std.proofs.Common.{◌≡◌, ◌≢◌, ℕ, ◌+◌, ◌-◌, ◌*◌, ◌/◌, ◌%◌, ◌<◌, ◌≤◌, ◌^◌, suc, zero, inl, inr, refl, sym, ◌∙◌, ap, subst, arith, min, w64}
 use Rattle.std.specs.Prelude.{ℤ, pos, negsuc, ◌-ℤ◌, ◌≤ℤ◌, ◌<ℤ◌, unsigned_abs, FitsSigned}
 use Rattle.std.specs.Int.{int_max, cast_unsigned}
-use Rattle.std.proofs.Math.Nat.{le-div_iff_mul-le, le-mul_of_pos_right, mul-div_cancel, add-mul-mod_self_right}
+use Rattle.std.proofs.Math.Nat.{le-div_iff_mul-le, le-mul_of_pos_right, add-mul-mod_self_right}
 use Rattle.std.proofs.lemmas.Nat.{div-add-mod', div-mul-add}
 use Rattle.std.proofs.lemmas.Bool.{cases_lt}
 use Rattle.std.proofs.lemmas.Int.{ints, clamps}
 use Rattle.ndarray.specs.Slices.{IsSliceOf, slice_start, slice_end, counted_end, slice_length, stepped, slice_index_at}
 use Rattle.ndarray.specs.declared.base.slice.Slice.{Slice}
+use Rattle.ndarray.specs.base.Nested.{magnitude, reach}
 use Rattle.ndarray.proofs.Cuts.{IsCut}
+use Rattle.ndarray.proofs.Magnitudes.{magnitude-signed}
 
 pub ceil-is : (x y : ℕ) → 0 < y → x / y + min 1 (x % y) ≡ (x + y - 1) / y
 ceil-is x y h =
@@ -30,9 +32,6 @@ ceil-below x y i h lt =
     let m : (i + 1) * y ≤ x + y - 1 = (le-div_iff_mul-le h).0 (omega arith) in
     omega arith
 
-same_factor : (i j k : ℕ) → 0 < k → i * k ≡ j * k → i ≡ j
-same_factor i j k h e = sym (mul-div_cancel i h) ∙ (ap (λ x. x / k) e ∙ mul-div_cancel j h)
-
 ceil-le : (x y : ℕ) → 0 < y → (x + y - 1) / y ≤ x
 ceil-le x y h =
     elim (cases_lt x ((x + y - 1) / y)) [
@@ -48,16 +47,12 @@ size-pos (pos (suc k)) other = omega arith
 size-pos (negsuc k) other = omega arith
 
 -- how far the i-th lies from the first
-reach : (a b i : ℕ) (step : ℤ) → step ≢ pos 0 → i < (b - a + unsigned_abs step - 1) / unsigned_abs step → i * unsigned_abs step < b - a
-reach a b i step other lt = ceil-below (b - a) (unsigned_abs step) i (size-pos step other) lt
+far_below : (a b i : ℕ) (step : ℤ) → step ≢ pos 0 → i < (b - a + unsigned_abs step - 1) / unsigned_abs step → i * unsigned_abs step < b - a
+far_below a b i step other lt = ceil-below (b - a) (unsigned_abs step) i (size-pos step other) lt
 
 stepped-below : (a b n i : ℕ) (step : ℤ) → a ≤ b → b ≤ n → i * unsigned_abs step < b - a → stepped a b step i < n
 stepped-below a b n i (pos k) le high r = omega arith
 stepped-below a b n i (negsuc k) le high r = omega arith
-
-stepped-apart : (a b i j : ℕ) (step : ℤ) → 0 < unsigned_abs step → i * unsigned_abs step < b - a → j * unsigned_abs step < b - a → stepped a b step i ≡ stepped a b step j → i ≡ j
-stepped-apart a b i j (pos k) h ri rj e = same_factor i j k h (omega arith)
-stepped-apart a b i j (negsuc k) h ri rj e = same_factor i j (suc k) h (omega arith)
 
 -- from where the indices are counted modulo 2 ^ 64
 abbrev pub counted_from : ℕ → ℕ → ℤ → ℕ
@@ -112,7 +107,7 @@ slice_length-is n a b s e =
 
 module _ (n : ℕ) (s : Slice) (h : IsSliceOf n s) where
   reached : (i : ℕ) → i < slice_length n s → i * unsigned_abs s.step < unsigned_abs (slice_end n s) - unsigned_abs (slice_start n s)
-  reached i lt = reach (unsigned_abs (slice_start n s)) (unsigned_abs (slice_end n s)) i s.step h.step (subst (λ l. i < l) (slice_length-is n _ _ s (slice-ends n s h)) lt)
+  reached i lt = far_below (unsigned_abs (slice_start n s)) (unsigned_abs (slice_end n s)) i s.step h.step (subst (λ l. i < l) (slice_length-is n _ _ s (slice-ends n s h)) lt)
 
   -- the indices that it takes, modulo 2 ^ 64
   pub slice_index-mod : (from i : ℕ) → n < 2 ^ 63 → FitsSigned w64 s.step → from ≡ counted_from (unsigned_abs (slice_start n s)) (unsigned_abs (slice_end n s)) s.step → i < slice_length n s → (from + i * cast_unsigned w64 s.step) % 2 ^ 64 ≡ slice_index_at n s i
@@ -120,9 +115,18 @@ module _ (n : ℕ) (s : Slice) (h : IsSliceOf n s) where
       let high = (slice-ends n s h).high in
       stepped-mod (unsigned_abs (slice_start n s)) (unsigned_abs (slice_end n s)) i from s.step (omega arith) (reached i lt) word e
 
+  -- the last of them lies no farther from the first than the axis reaches
+  slice-near : (len : ℕ) → len ≡ slice_length n s → FitsSigned w64 s.step → reach len (cast_unsigned w64 s.step) ≤ n - 1
+  slice-near zero el word = omega arith
+  slice-near (suc len) el word =
+      let high = (slice-ends n s h).high in
+      let r = reached len (omega arith) in
+      let m : (suc len - 1) * magnitude (cast_unsigned w64 s.step) ≡ len * unsigned_abs s.step = ap (λ x. x * magnitude (cast_unsigned w64 s.step)) (let e : suc len - 1 ≡ len = omega arith in e) ∙ ap (λ x. len * x) (magnitude-signed s.step word) in
+      omega arith
+
   -- they are a cut of the axis
-  pub IsCut-slice : (from len : ℕ) → len ≡ slice_length n s → ((i : ℕ) → i < len → (from + i * cast_unsigned w64 s.step) % 2 ^ 64 ≡ slice_index_at n s i) → IsCut n from len (cast_unsigned w64 s.step) (slice_index_at n s)
-  IsCut-slice from len el steps =
+  pub IsCut-slice : (from len : ℕ) → FitsSigned w64 s.step → len ≡ slice_length n s → ((i : ℕ) → i < len → (from + i * cast_unsigned w64 s.step) % 2 ^ 64 ≡ slice_index_at n s i) → IsCut n from len (cast_unsigned w64 s.step) (slice_index_at n s)
+  IsCut-slice from len word el steps =
       let a : ℕ = unsigned_abs (slice_start n s) in
       let b : ℕ = unsigned_abs (slice_end n s) in
       let e = slice-ends n s h in
@@ -134,5 +138,6 @@ module _ (n : ℕ) (s : Slice) (h : IsSliceOf n s) where
         fewer = omega arith;
         within = λ i lt. stepped-below a b n i s.step e.order e.high (reached i (omega arith));
         steps = steps;
-        apart = λ i j li lj q. stepped-apart a b i j s.step w (reached i (omega arith)) (reached j (omega arith)) q;
+        near = slice-near len el word;
+        moves = λ long. let m = magnitude-signed s.step word in omega arith;
       }

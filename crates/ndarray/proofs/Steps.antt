@@ -143,6 +143,6 @@ windows-images at ns start bs ws ss ds h aw pos apart =
                 let lj = InBox-length ws js c in
                 let la = apart.as_many in
                 window-same start bs ss ds p js (omega arith) (omega arith) (omega arith) (omega arith) (λ k lt. apart-by_steps (window_counts ns ws ss) bs ss ds p apart b k (omega arith));
-            distinct = λ no. absurd no;
+            nested = λ no. absurd no;
           };
     }

@@ -92,5 +92,5 @@ rearranges-stretched held ns start bs ms cs h t limit =
       limit = limit;
       image = λ js box. subst (λ k. InBox ns (pinned ns (drop k js))) (sym (same_pad js box)) (seen js box).0;
       same = λ js box. ap (λ x. (start + x) % 2 ^ 64) ((seen js box).1 ∙ ap (λ k. dot bs (pinned ns (drop k js))) (sym (same_pad js box)));
-      distinct = λ no. absurd no;
+      nested = λ no. absurd no;
     }

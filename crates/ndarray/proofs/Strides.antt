@@ -16,8 +16,9 @@ use Rattle.ndarray.specs.declared.base.shape.Order.TheVariants.{RowMajor, Column
 use Rattle.std.proofs.lemmas.Option.{slice_get-get_or, slice_get-map}
 use Rattle.ndarray.proofs.Lists.{same_from_slice_get, slice_get-Some, slice_get-take, filled-slice, filter_map-from_map}
 use Rattle.ndarray.proofs.Sizes.{size-take_fits, size-drop_fits, size-le}
-use Rattle.ndarray.proofs.Orders.{length-box_in, rank_in-lt, box_in-at, box_in-back}
+use Rattle.ndarray.proofs.Orders.{length-box_in, rank_in-lt, box_in-back}
 use Rattle.ndarray.proofs.Walks.{axis_in-lt, block_in-more}
+use Rattle.ndarray.proofs.NestedBoxes.{nested-strides}
 use Rattle.ndarray.proofs.Places.{cell-at, grid_at-same}
 
 pub block_in-fits : (o : Order) (ns : List ℕ) (p : ℕ) → nonzero_size ns < 2 ^ 63 → block_in o ns p < 2 ^ 64
@@ -92,9 +93,7 @@ module _ (o : Order) (ns bs : List ℕ) (h : AreStridesOf o ns bs) (limit : nonz
     as_many = h.as_many;
     limit = limit;
     inside = λ is b. let e = place-strides is b in let lt = rank_in-lt o ns is b in room (place 0 bs is) (omega arith);
-    apart = λ _ is js bi bj e.
-        let r : rank_in o ns is ≡ rank_in o ns js = sym (place-strides is bi) ∙ (e ∙ place-strides js bj) in
-        sym (box_in-at o ns is [] bi) ∙ (ap (λ k. get_or (box_in o ns) k []) r ∙ box_in-at o ns js [] bj);
+    nested = λ _ some. nested-strides o ns bs h some limit;
   }
 
   -- the cells in the order are the slice's first elements

@@ -6,6 +6,7 @@ use Rattle.ndarray.specs.Index.{InBox}
 use Rattle.ndarray.specs.base.Places.{dot, place, Reaches, Rearranges}
 use Rattle.ndarray.proofs.Boxes.{InBox-length, InBox-get, InBox-set_both}
 use Rattle.ndarray.proofs.Lists.{get_or-set_own, swap-swap}
+use Rattle.ndarray.proofs.NestedMoves.{nested-swapped}
 use Rattle.ndarray.proofs.Places.{dot-set}
 use Rattle.ndarray.proofs.Sizes.{nonzero-swap}
 
@@ -46,5 +47,5 @@ rearranges-swapped two at ns start bs i j h hi hj =
           let lj = length-swap js i j in
           let d = dot-swap bs (swap js i j) i j (omega arith) (omega arith) (omega arith) in
           ap (λ x. (start + x) % 2 ^ 64) (ap (dot (swap bs i j)) (sym (back js b)) ∙ d);
-      distinct = λ _ is js bi bj e. sym (back is bi) ∙ (ap (λ ks. swap ks i j) e ∙ back js bj);
+      nested = λ _. nested-swapped ns bs i j h.as_many hi hj;
     }

@@ -10,5 +10,6 @@ pub mod Subviews
 pub mod Sums
 pub mod Views
 pub mod Whole
+pub mod Writes
 pub mod base
 pub mod order

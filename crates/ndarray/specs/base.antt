@@ -1,8 +1,15 @@
 -- What only `base` speaks of: places and strides.
 pub mod Chunks
 pub mod Emptying
+pub mod Follows
+pub mod Laws
 pub mod Moving
+pub mod Nested
+pub mod Opened
 pub mod Places
+pub mod Pushed
+pub mod Slots
 pub mod Storage
+pub mod Strewn
 pub mod Strides
 pub mod Tiles

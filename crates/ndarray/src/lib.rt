@@ -9,10 +9,11 @@
 pub mod base;
 pub mod iter;
 pub mod order;
+pub mod owning;
 pub mod reduce;
 pub mod subviews;
 
-pub use crate::base::array::{ArrayBase, ArrayView, ArrayView1};
+pub use crate::base::array::{Array, ArrayBase, ArrayView, ArrayView1, CowArray};
 pub use crate::base::axis::Axis;
 pub use crate::base::dim_max::DimMax;
 pub use crate::base::dimension::{
@@ -22,5 +23,5 @@ pub use crate::base::error::{ErrorKind, ShapeError};
 pub use crate::base::into_dimension::IntoDimension;
 pub use crate::base::shape::{Shape, ShapeBuilder};
 pub use crate::base::slice::Slice;
-pub use crate::base::storage::{Data, ViewRepr};
+pub use crate::base::storage::{CowRepr, Data, DataMut, DataOwned, OwnedRepr, ViewRepr};
 pub use crate::reduce::values::{SumElem, Valued};

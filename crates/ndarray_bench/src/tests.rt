@@ -6,6 +6,7 @@ mod iter;
 mod lanes;
 mod layouts;
 mod order;
+mod owned;
 mod reduce;
 mod refusing;
 mod shown;

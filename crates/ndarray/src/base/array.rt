@@ -1,16 +1,18 @@
 //! Arrays and views, and what they mean: their lengths and their cells.
 
 ghost use Rattle.std.specs.Prelude.{◌≡◌, List, ℕ, ◌<◌, ◌^◌, length, slice_index, ◌↔◌, IsSome, Some};
-ghost use Rattle.std.specs.Option.{option_copied};
+ghost use Rattle.std.specs.Option.{option_copied, option_copied_mut};
+ghost use Rattle.std.specs.Borrow.{sem};
 ghost use Rattle.ndarray.specs.Index.{InBox, size};
 ghost use Rattle.ndarray.specs.Grid.{cell, IsGrid, IsKnownByCells};
 ghost use Rattle.ndarray.specs.Limits.{IsWithinLimit};
+ghost use Rattle.ndarray.specs.Writes.{lends_cell};
 
 use crate::base::axis::Axis;
 use crate::base::dimension::{Dimension, Ix1, Lengths};
 use crate::base::into_dimension::IntoDimension;
 use crate::base::layout::Layout;
-use crate::base::storage::{Data, ViewRepr};
+use crate::base::storage::{CowRepr, Data, DataMut, OwnedRepr, ViewRepr};
 use std::marker::Model;
 
 /// An array of any number of axes, over a storage `S` and with lengths of the type `D`.
@@ -22,11 +24,17 @@ pub struct ArrayBase<S: Data, D: Lengths> {
     pub(crate) layout: Layout<D>,
 }
 
+/// An array that owns its cells.
+pub type Array<A, D> = ArrayBase<OwnedRepr<A>, D>;
+
 /// A reading view.
 pub type ArrayView<'a, A, D> = ArrayBase<ViewRepr<'a, A>, D>;
 
 /// A reading view of one axis.
 pub type ArrayView1<'a, A> = ArrayView<'a, A, Ix1>;
+
+/// A reading view or an array that owns its cells.
+pub type CowArray<'a, A, D> = ArrayBase<CowRepr<'a, A>, D>;
 
 impl<S: Data, D: Lengths> Model for ArrayBase<S, D> {
     ghost use Rattle.ndarray.specs.Grid.{Grid};
@@ -37,7 +45,7 @@ impl<S: Data, D: Lengths> Model for ArrayBase<S, D> {
 
     ghost view = { λ a. grid_at (S.at a.storage) (D.numbers a.layout.dim) a.layout.start (D.numbers a.layout.strides) };
 
-    ghost invariant = { λ a. Reaches S.apart (S.at a.storage) (D.numbers a.layout.dim) a.layout.start (D.numbers a.layout.strides) };
+    ghost invariant = { λ a. Reaches (S.apart a.storage) (S.at a.storage) (D.numbers a.layout.dim) a.layout.start (D.numbers a.layout.strides) };
 }
 
 impl<S: Data, D: Lengths> ArrayBase<S, D> {
@@ -120,6 +128,40 @@ impl<S: Data, D: Dimension> ArrayBase<S, D> {
         ensures within { IsSome result ↔ InBox self.now.lengths (I.written_numbers index) }
     {
         self.cell(&index.into_dimension())
+    }
+}
+
+impl<S: DataMut, D: Lengths> ArrayBase<S, D> {
+    /// The cell at an index list, to write to, or `None` outside the box.
+    pub(crate) fn cell_mut(&mut self, index: &D) -> Option<&mut S::Elem>
+        ensures* writes_back { sem 𝓛 (lends_cell S.row D.row S.Elem.row S.Data D.Lengths self.entry (D.numbers index.now) result) }
+        ensures value { option_copied_mut result ≡ cell self.old (D.numbers index.now) }
+        ensures within { IsSome result ↔ InBox self.old.lengths (D.numbers index.now) }
+    {
+        match self.layout.find(index) {
+            Some(place) => Some(self.storage.element_mut(place)),
+            None => None,
+        }
+    }
+}
+
+impl<S: DataMut, D: Dimension> ArrayBase<S, D> {
+    /// The cell at an index list, to write to, or `None` exactly outside the box.
+    ///
+    /// What is written is the cell there; all others stay.
+    ///
+    /// ```
+    /// let mut array = Array::zeros(alloc, (2, 3))?;
+    /// if let Some(cell) = array.get_mut((1, 0)) {
+    ///     *cell = 7;
+    /// }
+    /// ```
+    pub fn get_mut<I: IntoDimension<Dim = D>>(&mut self, index: I) -> Option<&mut S::Elem>
+        ensures* writes_back { sem 𝓛 (lends_cell S.row D.row S.Elem.row S.Data D.Lengths self.entry (I.written_numbers index) result) }
+        ensures value { option_copied_mut result ≡ cell self.old (I.written_numbers index) }
+        ensures within { IsSome result ↔ InBox self.old.lengths (I.written_numbers index) }
+    {
+        self.cell_mut(&index.into_dimension())
     }
 }
 

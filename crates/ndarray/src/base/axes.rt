@@ -2,6 +2,7 @@
 //! takes memory.
 
 ghost use Rattle.std.specs.Prelude.{◌≡◌, ◌+◌, ◌<◌, ◌≤◌, length, slice_index, ◌↔◌, IsTrue, IsOk, IfOk, IfErr};
+ghost use Rattle.ndarray.specs.Errors.{refusal};
 ghost use Rattle.ndarray.specs.Grid.{IsGrid};
 ghost use Rattle.ndarray.specs.Slices.{IsSliceOf, sliced};
 ghost use Rattle.ndarray.specs.Views.{axes_swapped, axis_item, axis_inserted, axis_part};
@@ -72,7 +73,7 @@ impl<S: Data, D: Lengths> ArrayBase<S, D> {
     pub fn into_dimensionality<E: Dimension>(self) -> Result<ArrayBase<S, E>, ShapeError>
         ensures accepts { IsOk result ↔ E.has_axes (length self.lengths) }
         ensures value { IfOk result (λ a. a ≡ self) }
-        ensures kind { IfErr result (λ e. e.kind ≡ IncompatibleShape) }
+        ensures kind { IfErr result (λ e. e ≡ refusal IncompatibleShape) }
     {
         if !E::may_have(self.layout.dim.ndim()) {
             return Err(ShapeError::from_kind(ErrorKind::IncompatibleShape));

@@ -1,4 +1,4 @@
-//! Making arrays and views.
+//! Making reading views.
 
 ghost use Rattle.std.specs.Prelude.{◌≡◌, ◌<◌, ◌≤◌, ◌↔◌, length, take, IsOk, IfOk, IsErrOf};
 ghost use Rattle.ndarray.specs.Errors.{refusal};

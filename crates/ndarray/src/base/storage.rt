@@ -1,9 +1,11 @@
 //! What arrays keep their elements in.
 
-ghost use Rattle.std.specs.Prelude.{◌≡◌, ℕ, slice_get, Some, Option, IsTrue, ⊤};
+ghost use Rattle.std.specs.Prelude.{◌≡◌, ◌≢◌, ◌↔◌, ℕ, slice_get, Some, Option, IsTrue, IsOk, IfOk, IfErr, ⊤};
 ghost use Rattle.std.specs.Option.{is_some};
+ghost use Rattle.std.specs.Borrow.{sem};
 ghost use Rattle.ndarray.specs.base.Storage.{seen_at};
 
+use crate::base::region::Reading;
 use std::alloc::AllocError;
 
 /// What an array keeps its elements in: elements by places, some of which may hold none.
@@ -14,9 +16,12 @@ pub trait Data: Drop {
     // The element at a place, where the storage has one.
     ghost at: { Self → ℕ → Option Self.Elem };
 
-    // Holds where no two index lists of an array may reach one element, as in owned arrays and
-    // writing views.
-    ghost apart: { Type 0 };
+    // Holds where no two index lists of an array over this storage may reach one element, as in owned
+    // arrays and writing views.
+    ghost apart: { Self → Type 0 };
+
+    // Holds where the elements are the storage's own.
+    ghost owns: { Self → Type 0 };
 
     /// The element at a place that has one.
     fn element(&self, place: usize) -> &Self::Elem
@@ -26,11 +31,50 @@ pub trait Data: Drop {
     /// The same elements at the same places, to read.
     fn seen(&self) -> ViewRepr<'_, Self::Elem>
         ensures { (p : ℕ) → seen_at result p ≡ at self.now p };
+
+    /// The elements in a vector of their own exactly where the storage owns them, without a copy; else
+    /// the storage as it is.
+    fn try_into_owned(self) -> Result<OwnedRepr<Self::Elem>, Self>
+        ensures owned { IsOk result ↔ owns self }
+        ensures same { IfOk result (λ v. (p : ℕ) → slice_get v.items.items p ≡ at self p) }
+        ensures apart { IfOk result (λ _. apart self) }
+        ensures back { IfErr result (λ s. s ≡ self) };
 }
 
-/// The elements of a reading view.
-pub struct ViewRepr<'a, A> {
-    slice: &'a [A],
+/// What may be written to.
+pub trait DataMut: Data {
+    ghost use Rattle.std.specs.Borrow.{Lends};
+
+    // The same with another element at a place.
+    ghost with_element: { Self → ℕ → Self.Elem → Self };
+
+    /// The element at a place that has one, to write to.
+    fn element_mut(&mut self, place: usize) -> &mut Self::Elem
+        requires { IsTrue (is_some (Self.at self.old place)) }
+        ensures* writes_back { sem 𝓛 (Lends Self.row Self.Elem.row self.entry result (with_element self.entry.now place)) }
+        ensures value { Self.at self.old place ≡ Some result.now };
+
+    // What is written at a place is the element there.
+    ghost written_here: { (s : Self) (k : ℕ) (w : Self.Elem) → IsTrue (is_some (Self.at s k)) → Self.at (with_element s k w) k ≡ Some w };
+
+    // All other places keep their elements.
+    ghost written_elsewhere: { (s : Self) (k j : ℕ) (w : Self.Elem) → j ≢ k → Self.at (with_element s k w) j ≡ Self.at s j };
+
+    // No two index lists reach one element.
+    ghost is_apart: { (s : Self) → Self.apart s };
+}
+
+/// What owns its elements.
+pub trait DataOwned: Data {
+    /// The storage whose element at each place is the vector's at that index.
+    fn new(items: Vec<Self::Elem>) -> Self
+        ensures { (p : ℕ) → Self.at result p ≡ slice_get items.items p };
+}
+
+/// The elements of a reading view: those of a slice, or those that a writing view holds.
+pub enum ViewRepr<'a, A> {
+    Slice(&'a [A]),
+    Part(&'a Reading<A>),
 }
 
 impl<'a, A> Clone for ViewRepr<'a, A> {
@@ -50,7 +94,7 @@ impl<'a, A> ViewRepr<'a, A> {
     pub(crate) fn new(slice: &'a [A]) -> Self
         ensures { (p : ℕ) → seen_at result p ≡ slice_get slice.now p }
     {
-        ViewRepr { slice }
+        ViewRepr::Slice(slice)
     }
 
     /// The element at a place that has one.
@@ -58,8 +102,10 @@ impl<'a, A> ViewRepr<'a, A> {
         requires { IsTrue (is_some (seen_at self.now place)) }
         ensures { seen_at self.now place ≡ Some result.now }
     {
-        let slice = self.slice;
-        &slice[place]
+        match *self {
+            ViewRepr::Slice(slice) => &slice[place],
+            ViewRepr::Part(reading) => reading.get(place),
+        }
     }
 }
 
@@ -68,7 +114,9 @@ impl<'a, A> Data for ViewRepr<'a, A> {
 
     ghost at = { seen_at };
 
-    ghost apart = { ⊥ };
+    ghost apart = { λ _. ⊥ };
+
+    ghost owns = { λ _. ⊥ };
 
     fn element(&self, place: usize) -> &A {
         self.get(place)
@@ -76,5 +124,114 @@ impl<'a, A> Data for ViewRepr<'a, A> {
 
     fn seen(&self) -> ViewRepr<'_, A> {
         *self
+    }
+
+    fn try_into_owned(self) -> Result<OwnedRepr<A>, Self> {
+        Err(self)
+    }
+}
+
+/// The elements of an owned array.
+#[derive(Drop)]
+pub struct OwnedRepr<A> {
+    pub(crate) items: Vec<A>,
+}
+
+impl<A: Drop> Data for OwnedRepr<A> {
+    type Elem = A;
+
+    ghost at = { λ s. slice_get s.items.items };
+
+    ghost apart = { λ _. ⊤ };
+
+    ghost owns = { λ _. ⊤ };
+
+    fn element(&self, place: usize) -> &A {
+        &self.items[place]
+    }
+
+    fn seen(&self) -> ViewRepr<'_, A> {
+        ViewRepr::new(self.items.as_slice())
+    }
+
+    fn try_into_owned(self) -> Result<OwnedRepr<A>, Self> {
+        Ok(self)
+    }
+}
+
+impl<A: Drop> DataMut for OwnedRepr<A> {
+    ghost use Rattle.std.specs.Vec.{with_item};
+    ghost use Rattle.ndarray.specs.base.Laws.{slice_set-here, slice_set-elsewhere};
+
+    ghost with_element = { λ s k w. record s { items = with_item s.items k w } };
+
+    fn element_mut(&mut self, place: usize) -> &mut A {
+        &mut self.items[place]
+    }
+
+    ghost written_here = { λ s k w h. slice_set-here s.items.items k w h };
+
+    ghost written_elsewhere = { λ s k j w h. slice_set-elsewhere s.items.items k j w h };
+
+    ghost is_apart = { λ _. tt };
+}
+
+impl<A: Drop> DataOwned for OwnedRepr<A> {
+    fn new(items: Vec<A>) -> Self
+        ensures { (p : ℕ) → slice_get result.items.items p ≡ slice_get items.items p }
+    {
+        OwnedRepr { items }
+    }
+}
+
+/// The elements of a view to read, or of an owned array.
+#[derive(Drop)]
+pub enum CowRepr<'a, A> {
+    /// Borrowed.
+    View(ViewRepr<'a, A>),
+    /// Owned.
+    Owned(OwnedRepr<A>),
+}
+
+impl<'a, A: Drop> Data for CowRepr<'a, A> {
+    ghost use Rattle.ndarray.specs.base.Storage.{cow_at, cow_owns};
+
+    type Elem = A;
+
+    ghost at = { cow_at };
+
+    ghost apart = { cow_owns };
+
+    ghost owns = { cow_owns };
+
+    fn element(&self, place: usize) -> &A {
+        match self {
+            CowRepr::View(view) => view.get(place),
+            CowRepr::Owned(owned) => owned.element(place),
+        }
+    }
+
+    fn seen(&self) -> ViewRepr<'_, A> {
+        match self {
+            CowRepr::View(view) => *view,
+            CowRepr::Owned(owned) => owned.seen(),
+        }
+    }
+
+    fn try_into_owned(self) -> Result<OwnedRepr<A>, Self> {
+        match self {
+            CowRepr::View(view) => Err(CowRepr::View(view)),
+            CowRepr::Owned(owned) => Ok(owned),
+        }
+    }
+}
+
+impl<'a, A: Drop> DataOwned for CowRepr<'a, A> {
+    ghost use Rattle.ndarray.specs.base.Storage.{cow_at};
+
+    fn new(items: Vec<A>) -> Self
+        ensures { (p : ℕ) → cow_at result p ≡ slice_get items.items p }
+    {
+        CowRepr::Owned(OwnedRepr { items })
     }
 }

@@ -1,10 +1,10 @@
 //! The iterator over cells beside their index lists.
 
-ghost use Rattle.std.specs.Prelude.{◌≡◌, ◌<◌, ◌^◌, length, zip, ⊤, IfSome, All, Some};
+ghost use Rattle.std.specs.Prelude.{◌≡◌, ◌<◌, ◌^◌, length, map, zip, ⊤, IfSome, All, Some};
 ghost use Rattle.std.specs.Iterator.{YieldsFirstBy, UpTo, item_count};
 ghost use Rattle.std.specs.Iterator.SizeHint.{IsExactHint, IsWithinCount};
 ghost use Rattle.ndarray.specs.Grid.{cell};
-ghost use Rattle.ndarray.specs.Index.{row_order};
+ghost use Rattle.ndarray.specs.Index.{IsRowOrder, row_order};
 
 use crate::base::array::{ArrayBase, ArrayView};
 use crate::base::dimension::{Dimension, Lengths};
@@ -43,7 +43,9 @@ impl<S: Data, D: Dimension> ArrayBase<S, D> {
     /// for ((i, j), x) in view.t().indexed_iter() { .. }
     /// ```
     pub fn indexed_iter(&self) -> IndexedIter<'_, S::Elem, D>
-        ensures row_order { result ≡ zip (row_order self.now.lengths) self.now.cells }
+        ensures row_order { IsRowOrder self.now.lengths (map (λ item. item.0) result) }
+        ensures cells { map (λ item. item.1) result ≡ self.now.cells }
+        ensures list { result ≡ zip (row_order self.now.lengths) self.now.cells }
         ensures own_cells { All (λ item. cell self.now item.0 ≡ Some item.1) result }
         ensures fits { length result < 2 ^ 63 }
     {

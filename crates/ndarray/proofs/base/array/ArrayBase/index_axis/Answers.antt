@@ -12,7 +12,7 @@ item g c =
     let lengths = ap (λ v. v.lengths) c.self.view_is in
     let lt : c.args.axis.0 < length (g.D.Lengths.numbers a.dim) = omega (arith, ap length lengths, c.requires.axis) in
     let below : c.args.index < get_or (g.D.Lengths.numbers a.dim) c.args.axis.0 0 = omega (arith, ap (λ ns. get_or ns c.args.axis.0 0) lengths, c.requires.within) in
-    rw (c.item.ensures.dim, c.item.ensures.strides) (rearranges-item (g.S.Data.at c.self.inside.storage) (g.D.Lengths.numbers a.dim) a.start (g.D.Lengths.numbers a.strides) c.args.axis.0 c.args.index c.item.result.start c.self.invariant lt below c.item.ensures.start)
+    rw (c.item.ensures.dim, c.item.ensures.strides) (rearranges-item ⊥ (g.S.Data.at c.self.inside.storage) (g.D.Lengths.numbers a.dim) a.start (g.D.Lengths.numbers a.strides) c.args.axis.0 c.args.index c.item.result.start c.self.invariant lt below c.item.ensures.start)
 
 pub invariant_of-result : goal.invariant_of-result
 invariant_of-result g c = Reaches-same _ _ _ _ _ (λ x. x) (λ p. sym (c.seen.ensures p)) (Reaches-rearranged (item g c) _ (λ no. absurd no) c.self.invariant)

@@ -6,11 +6,11 @@ use Rattle.ndarray.proofs.Images.{Reaches-rearranged, grid-seen}
 use Rattle.ndarray.proofs.Items.{rearranges-inserted}
 use Rattle.ndarray.proofs.base.array.ArrayBase.insert_axis.Goals as goal
 
-inserted : (g : _) (c : goal.After-insert_axis g) → Rearranges g.S.Data.apart (g.D.Lengths.numbers c.self.inside.layout.dim) c.self.inside.layout.start (g.D.Lengths.numbers c.self.inside.layout.strides) (g.D.Larger.Lengths.numbers c.insert_axis.result.dim) c.insert_axis.result.start (g.D.Larger.Lengths.numbers c.insert_axis.result.strides) (λ js. remove js c.args.axis.0)
+inserted : (g : _) (c : goal.After-insert_axis g) → Rearranges (g.S.Data.apart c.self.inside.storage) (g.D.Lengths.numbers c.self.inside.layout.dim) c.self.inside.layout.start (g.D.Lengths.numbers c.self.inside.layout.strides) (g.D.Larger.Lengths.numbers c.insert_axis.result.dim) c.insert_axis.result.start (g.D.Larger.Lengths.numbers c.insert_axis.result.strides) (λ js. remove js c.args.axis.0)
 inserted g c =
     let a = c.self.inside.layout in
     let le : c.args.axis.0 ≤ length (g.D.Lengths.numbers a.dim) = omega (arith, ap (λ v. length v.lengths) c.self.view_is, c.requires.axis) in
-    rw (c.insert_axis.ensures.dim, c.insert_axis.ensures.start, c.insert_axis.ensures.strides) (rearranges-inserted g.S.Data.apart _ (g.D.Lengths.numbers a.dim) a.start (g.D.Lengths.numbers a.strides) c.args.axis.0 1 c.self.invariant le)
+    rw (c.insert_axis.ensures.dim, c.insert_axis.ensures.start, c.insert_axis.ensures.strides) (rearranges-inserted (g.S.Data.apart c.self.inside.storage) _ (g.D.Lengths.numbers a.dim) a.start (g.D.Lengths.numbers a.strides) c.args.axis.0 1 c.self.invariant le)
 
 pub invariant_of-result : goal.invariant_of-result
 invariant_of-result g c = Reaches-rearranged (inserted g c) _ (λ x. x) c.self.invariant

@@ -9,7 +9,7 @@ use Rattle.ndarray.proofs.Places.{length-cells_at}
 use Rattle.ndarray.proofs.Sizes.{length-fits}
 use Rattle.ndarray.proofs.base.array.ArrayBase.invert_axis.Goals as goal
 
-turn : (g : _) (c : goal.After-cut g) → Rearranges g.S.Data.apart (g.D.Lengths.numbers c.self.inside.layout.dim) c.self.inside.layout.start (g.D.Lengths.numbers c.self.inside.layout.strides) (g.D.Lengths.numbers c.cut.new.self.dim) c.cut.new.self.start (g.D.Lengths.numbers c.cut.new.self.strides) (turned (g.D.Lengths.numbers c.self.inside.layout.dim) c.args.axis.0)
+turn : (g : _) (c : goal.After-cut g) → Rearranges (g.S.Data.apart c.self.inside.storage) (g.D.Lengths.numbers c.self.inside.layout.dim) c.self.inside.layout.start (g.D.Lengths.numbers c.self.inside.layout.strides) (g.D.Lengths.numbers c.cut.new.self.dim) c.cut.new.self.start (g.D.Lengths.numbers c.cut.new.self.strides) (turned (g.D.Lengths.numbers c.self.inside.layout.dim) c.args.axis.0)
 unfolding turned
 turn g c =
     let a = c.self.inside.layout in
@@ -18,7 +18,7 @@ turn g c =
     let n = get_or ns c.args.axis.0 0 in
     let cut : IsCut n ((c.axis-len.result + (2 ^ 64 - 1)) % 2 ^ 64) c.axis-len.result (2 ^ 64 - 1) (λ i. n - 1 - i) =
     subst (λ len. IsCut n ((len + (2 ^ 64 - 1)) % 2 ^ 64) len (2 ^ 64 - 1) (λ i. n - 1 - i)) (sym c.axis-len.ensures) (IsCut-turned n (length-fits ns c.args.axis.0 lt c.self.invariant.limit)) in
-    rw (c.cut.ensures.dim, c.cut.ensures.start, c.cut.ensures.strides) (rearranges-cut g.S.Data.apart _ ns a.start (g.D.Lengths.numbers a.strides) c.self.invariant c.args.axis.0 lt ((c.axis-len.result + (2 ^ 64 - 1)) % 2 ^ 64) c.axis-len.result (2 ^ 64 - 1) (λ i. n - 1 - i) cut)
+    rw (c.cut.ensures.dim, c.cut.ensures.start, c.cut.ensures.strides) (rearranges-cut (g.S.Data.apart c.self.inside.storage) _ ns a.start (g.D.Lengths.numbers a.strides) c.self.invariant c.args.axis.0 lt ((c.axis-len.result + (2 ^ 64 - 1)) % 2 ^ 64) c.axis-len.result (2 ^ 64 - 1) (λ i. n - 1 - i) cut)
 
 pub invariant_of-self : goal.invariant_of-self
 invariant_of-self g c = Reaches-rearranged (turn g c) _ (λ x. x) c.self.invariant

@@ -22,7 +22,7 @@ extent-from-requires-clause-fits g c =
 length-is : (g : _) (c : goal.After-cut g) → c.axis.result ≡ get_or c.args.self.now.lengths c.args.axis.0 0
 length-is g c = c.axis.ensures ∙ ap (λ v. get_or v.lengths c.args.axis.0 0) c.self.view_is
 
-taken : (g : _) (c : goal.After-cut g) → Rearranges g.S.Data.apart (g.D.Lengths.numbers c.self.inside.layout.dim) c.self.inside.layout.start (g.D.Lengths.numbers c.self.inside.layout.strides) (g.D.Lengths.numbers c.cut.new.self.dim) c.cut.new.self.start (g.D.Lengths.numbers c.cut.new.self.strides) (λ js. set js c.args.axis.0 (slice_index_at c.axis.result c.args.slice (get_or js c.args.axis.0 0)))
+taken : (g : _) (c : goal.After-cut g) → Rearranges (g.S.Data.apart c.self.inside.storage) (g.D.Lengths.numbers c.self.inside.layout.dim) c.self.inside.layout.start (g.D.Lengths.numbers c.self.inside.layout.strides) (g.D.Lengths.numbers c.cut.new.self.dim) c.cut.new.self.start (g.D.Lengths.numbers c.cut.new.self.strides) (λ js. set js c.args.axis.0 (slice_index_at c.axis.result c.args.slice (get_or js c.args.axis.0 0)))
 taken g c =
     let a = c.self.inside.layout in
     let ns = g.D.Lengths.numbers a.dim in
@@ -33,8 +33,8 @@ taken g c =
     let step : c.cast_unsigned.result ≡ cast_unsigned w64 s.step = c.cast_unsigned.ensures ∙ ap (cast_unsigned w64) (to_z-of_z w64 s.step word) in
     let cut : IsCut (get_or ns c.args.axis.0 0) c.extent-from.result.0 c.extent-from.result.1 (cast_unsigned w64 s.step) (slice_index_at c.axis.result s) =
     subst (λ n. IsCut n c.extent-from.result.0 c.extent-from.result.1 (cast_unsigned w64 s.step) (slice_index_at c.axis.result s)) c.axis.ensures
-    (IsCut-slice c.axis.result s within c.extent-from.result.0 c.extent-from.result.1 c.extent-from.ensures.len c.extent-from.ensures.indices) in
-    rw (c.cut.ensures.dim, c.cut.ensures.start, c.cut.ensures.strides, step) (rearranges-cut g.S.Data.apart _ ns a.start (g.D.Lengths.numbers a.strides) c.self.invariant c.args.axis.0 lt c.extent-from.result.0 c.extent-from.result.1 (cast_unsigned w64 s.step) (slice_index_at c.axis.result s) cut)
+    (IsCut-slice c.axis.result s within c.extent-from.result.0 c.extent-from.result.1 word c.extent-from.ensures.len c.extent-from.ensures.indices) in
+    rw (c.cut.ensures.dim, c.cut.ensures.start, c.cut.ensures.strides, step) (rearranges-cut (g.S.Data.apart c.self.inside.storage) _ ns a.start (g.D.Lengths.numbers a.strides) c.self.invariant c.args.axis.0 lt c.extent-from.result.0 c.extent-from.result.1 (cast_unsigned w64 s.step) (slice_index_at c.axis.result s) cut)
 
 pub invariant_of-self : goal.invariant_of-self
 invariant_of-self g c = Reaches-rearranged (taken g c) _ (λ x. x) c.self.invariant

@@ -1,0 +1,77 @@
+-- The places of a slice that are held, and those of its parts.
+use Rattle.std.proofs.Common.{◌≡◌, IsTrue, ℕ, zero, suc, ◌<◌, Bool, true, false, List, [], ◌∷◌, Option, Some, None, map, get_or, refl, ap, length, take, drop, arith}
+use Rattle.std.specs.Option.{is_some}
+use lib.ListN.{set}
+use Rattle.ndarray.specs.base.Slots.{somes, kept, others}
+
+pub filled_within : {X : Type 0} (cs : List (Option X)) (i : ℕ) (x : X) → get_or cs i None ≡ Some x → i < length cs
+filled_within [] i x e = cc
+filled_within (c ∷ cs) zero x e = omega arith
+filled_within (c ∷ cs) (suc i) x e = omega (arith, filled_within cs i x e)
+
+pub run-one : {X : Type 0} (cs : List (Option X)) (i : ℕ) (x : X) → get_or cs i None ≡ Some x → take 1 (drop i cs) ≡ map Some (x ∷ [])
+run-one [] i x e = cc
+run-one (c ∷ cs) zero x e = ap (λ d. d ∷ []) e
+run-one (c ∷ cs) (suc i) x e = run-one cs i x e
+
+pub length-kept : {X : Type 0} (m : List Bool) (cs : List (Option X)) → length (kept m cs) ≡ length cs
+length-kept m [] = refl
+length-kept [] (c ∷ cs) = ap suc (length-kept [] cs)
+length-kept (true ∷ m) (c ∷ cs) = ap suc (length-kept m cs)
+length-kept (false ∷ m) (c ∷ cs) = ap suc (length-kept m cs)
+
+pub length-others : {X : Type 0} (m : List Bool) (cs : List (Option X)) → length (others m cs) ≡ length cs
+length-others m [] = refl
+length-others [] (c ∷ cs) = ap suc (length-others [] cs)
+length-others (true ∷ m) (c ∷ cs) = ap suc (length-others m cs)
+length-others (false ∷ m) (c ∷ cs) = ap suc (length-others m cs)
+
+-- the value, or d where there is none
+abbrev pub given_or : {X : Type 0} → Option X → X → X
+given_or None d = d
+given_or (Some x) d = x
+
+pub somes_all : {X : Type 0} (xs : List X) → somes (map Some xs) ≡ xs
+somes_all [] = refl
+somes_all (x ∷ xs) = ap (λ ys. x ∷ ys) (somes_all xs)
+
+-- the places of cs, with other values
+abbrev pub fill : {X : Type 0} → List (Option X) → List X → List (Option X)
+fill [] ws = []
+fill (None ∷ cs) ws = None ∷ fill cs ws
+fill (Some c ∷ cs) [] = Some c ∷ fill cs []
+fill (Some c ∷ cs) (w ∷ ws) = Some w ∷ fill cs ws
+
+pub somes_fill : {X : Type 0} (cs : List (Option X)) (ws : List X) → length ws ≡ length (somes cs) → somes (fill cs ws) ≡ ws
+somes_fill [] [] e = refl
+somes_fill [] (w ∷ ws) e = absurd (omega arith)
+somes_fill (None ∷ cs) ws e = somes_fill cs ws e
+somes_fill (Some c ∷ cs) [] e = absurd (omega arith)
+somes_fill (Some c ∷ cs) (w ∷ ws) e = ap (λ zs. w ∷ zs) (somes_fill cs ws (omega arith))
+
+pub length-fill : {X : Type 0} (cs : List (Option X)) (ws : List X) → length (fill cs ws) ≡ length cs
+length-fill [] ws = refl
+length-fill (None ∷ cs) ws = ap suc (length-fill cs ws)
+length-fill (Some c ∷ cs) [] = ap suc (length-fill cs [])
+length-fill (Some c ∷ cs) (w ∷ ws) = ap suc (length-fill cs ws)
+
+pub fill_same : {X : Type 0} (cs : List (Option X)) → fill cs (somes cs) ≡ cs
+fill_same [] = refl
+fill_same (None ∷ cs) = ap (λ ds. None ∷ ds) (fill_same cs)
+fill_same (Some c ∷ cs) = ap (λ ds. Some c ∷ ds) (fill_same cs)
+
+pub fill_set : {X : Type 0} (cs : List (Option X)) (i : ℕ) (x w : X) → get_or cs i None ≡ Some x → fill cs (somes (set cs i (Some w))) ≡ set cs i (Some w)
+fill_set [] i x w e = cc
+fill_set (None ∷ cs) zero x w e = cc
+fill_set (Some c ∷ cs) zero x w e = ap (λ ds. Some w ∷ ds) (fill_same cs)
+fill_set (None ∷ cs) (suc i) x w e = ap (λ ds. None ∷ ds) (fill_set cs i x w e)
+fill_set (Some c ∷ cs) (suc i) x w e = ap (λ ds. Some c ∷ ds) (fill_set cs i x w e)
+
+pub still_held : {X : Type 0} (cs : List (Option X)) (ws : List X) (p : ℕ) → IsTrue (is_some (get_or cs p None)) → IsTrue (is_some (get_or (fill cs ws) p None))
+still_held [] ws p h = h
+still_held (None ∷ cs) ws zero h = h
+still_held (None ∷ cs) ws (suc p) h = still_held cs ws p h
+still_held (Some c ∷ cs) [] zero h = h
+still_held (Some c ∷ cs) [] (suc p) h = still_held cs [] p h
+still_held (Some c ∷ cs) (w ∷ ws) zero h = refl
+still_held (Some c ∷ cs) (w ∷ ws) (suc p) h = still_held cs ws p h

@@ -1,0 +1,68 @@
+//! Arrays that are filled one cell after another.
+
+ghost use Rattle.std.specs.Prelude.{◌≡◌, ◌<◌, ◌++◌, ◌∷◌, [], length, IfOk};
+ghost use Rattle.ndarray.specs.base.Pushed.{pushed_to};
+ghost use Rattle.ndarray.specs.Grid.{IsGrid};
+ghost use Rattle.ndarray.specs.Index.{size};
+ghost use Rattle.ndarray.specs.Limits.{IsWithinLimit};
+ghost use Rattle.ndarray.specs.Orders.{HasInOrder, cells_in};
+
+use crate::base::array::ArrayBase;
+use crate::base::dimension::Lengths;
+use crate::base::shape::Order;
+use crate::base::storage::DataOwned;
+use std::alloc::{AllocError, Global};
+use std::marker::Model;
+
+/// An array that is being filled: its lengths, the order of its cells, and the cells so far.
+///
+/// All of its memory is reserved before the first cell, so that no push can be refused.
+#[derive(Drop)]
+pub(crate) struct Filling<A, D: Lengths> {
+    items: Vec<A>,
+    dim: D,
+    order: Order,
+}
+
+impl<A, D: Lengths> Model for Filling<A, D> {
+    ghost use Rattle.std.specs.Vec.{vec_capacity};
+    ghost use Rattle.ndarray.specs.base.Pushed.{Pushed, HasRoom};
+
+    ghost Value = { Pushed A };
+
+    ghost view = { λ f. record { lengths = D.numbers f.dim; order = f.order; cells = f.items.items } };
+
+    ghost invariant = { λ f. HasRoom (D.numbers f.dim) (vec_capacity f.items) };
+}
+
+impl<A: Drop, D: Lengths> Filling<A, D> {
+    /// Room for all cells of the lengths, which the caller owes to be within the limit.
+    pub(crate) fn with_capacity(alloc: Global, dim: D, order: Order) -> Result<Self, AllocError>
+        requires { IsWithinLimit (D.numbers dim) }
+        ensures { IfOk result (λ f. f ≡ record { lengths = D.numbers dim; order = order; cells = [] }) }
+    {
+        let items = Vec::with_capacity(alloc, dim.size())?;
+        Ok(Filling { items, dim, order })
+    }
+
+    /// The cell at the next index list of the order.
+    pub(crate) fn push(&mut self, cell: A)
+        requires { length self.old.cells < size self.old.lengths }
+        ensures { self.new ≡ pushed_to self.old cell }
+    {
+        self.items.push_reserved(cell);
+    }
+
+    /// The array whose cells in the order are those that were pushed, once there is one for each index
+    /// list.
+    pub(crate) fn finish<S: DataOwned<Elem = A>>(self) -> ArrayBase<S, D>
+        requires { length self.cells ≡ size self.lengths }
+        ensures lengths { result.lengths ≡ self.lengths }
+        ensures cells { HasInOrder self.order result self.cells }
+        ensures list { cells_in self.order result ≡ self.cells }
+        ensures whole { IsGrid result }
+    {
+        let Filling { items, dim, order } = self;
+        ArrayBase::from_elements(dim, order, items)
+    }
+}

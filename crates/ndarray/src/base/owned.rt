@@ -1,0 +1,152 @@
+//! Making arrays that own their cells.
+
+ghost use Rattle.std.specs.Prelude.{◌≡◌, ◌≢◌, ◌↔◌, length, replicate, IsOk, IfOk, IsErrOf};
+ghost use Rattle.std.specs.List.{AllClonesOf};
+ghost use Rattle.ndarray.specs.Errors.{refusal};
+ghost use Rattle.ndarray.specs.Grid.{IsGrid};
+ghost use Rattle.ndarray.specs.declared.base.error.ErrorKind.TheVariants.{OutOfBounds, Overflow};
+ghost use Rattle.ndarray.specs.Index.{size};
+ghost use Rattle.ndarray.specs.Limits.{IsWithinLimit};
+ghost use Rattle.ndarray.specs.Orders.{HasInOrder, cells_in};
+
+use crate::base::array::{Array, ArrayBase, ArrayView, CowArray};
+use crate::base::dimension::{Dimension, Lengths};
+use crate::base::error::{ErrorKind, ShapeError};
+use crate::base::filling::Filling;
+use crate::base::layout::{Layout, default_strides};
+use crate::base::shape::{Order, Shape, ShapeBuilder};
+use crate::base::storage::{CowRepr, DataOwned};
+use num_traits::Zero;
+use std::alloc::{AllocError, Global};
+
+impl<A, S: DataOwned<Elem = A>, D: Lengths> ArrayBase<S, D> {
+    /// The array whose cells in the order are the vector's elements, one for each index list.
+    pub(crate) fn from_elements(dim: D, order: Order, items: Vec<A>) -> Self
+        requires limit { IsWithinLimit (D.numbers dim) }
+        requires many { length items.items ≡ size (D.numbers dim) }
+        ensures lengths { result.lengths ≡ D.numbers dim }
+        ensures cells { HasInOrder order result items.items }
+        ensures list { cells_in order result ≡ items.items }
+        ensures whole { IsGrid result }
+    {
+        let strides = default_strides(&dim, order);
+        ArrayBase {
+            storage: S::new(items),
+            layout: Layout {
+                start: 0,
+                dim,
+                strides,
+            },
+        }
+    }
+}
+
+impl<A: Drop, S: DataOwned<Elem = A>, D: Dimension> ArrayBase<S, D> {
+    /// The array that takes over a vector of as many elements as the shape's size: they are its cells in
+    /// row order, or in column order where the shape has `.f()`.
+    ///
+    /// A refusal is `Overflow` for a shape whose nonzero lengths multiply to more than `isize::MAX`, and
+    /// `OutOfBounds` for a vector of another length; it drops the vector.
+    ///
+    /// ```
+    /// let array = Array::from_shape_vec((2, 3), vec![in alloc; 1, 2, 3, 4, 5, 6]?)?;
+    /// ```
+    pub fn from_shape_vec<Sh: ShapeBuilder<Dim = D>>(
+        shape: Sh,
+        v: Vec<A>,
+    ) -> Result<Self, ShapeError>
+        ensures accepts { IsOk result ↔ (IsWithinLimit (Sh.shape_lengths shape) × (size (Sh.shape_lengths shape) ≡ length v.items)) }
+        ensures overflow { IsErrOf result (refusal Overflow) ↔ (IsWithinLimit (Sh.shape_lengths shape) → ⊥) }
+        ensures other { IsErrOf result (refusal OutOfBounds) ↔ (IsWithinLimit (Sh.shape_lengths shape) × (size (Sh.shape_lengths shape) ≢ length v.items)) }
+        ensures lengths { IfOk result (λ a. a.lengths ≡ Sh.shape_lengths shape) }
+        ensures cells { IfOk result (λ a. HasInOrder (Sh.shape_order shape) a v.items) }
+        ensures list { IfOk result (λ a. cells_in (Sh.shape_order shape) a ≡ v.items) }
+        ensures whole { IfOk result IsGrid }
+    {
+        let Shape { dim, order } = shape.into_shape_with_order();
+        if !dim.size_ok() {
+            return Err(ShapeError::from_kind(ErrorKind::Overflow));
+        }
+        if dim.size() != v.len() {
+            return Err(ShapeError::from_kind(ErrorKind::OutOfBounds));
+        }
+        Ok(ArrayBase::from_elements(dim, order, v))
+    }
+}
+
+impl<A: Clone + Drop, S: DataOwned<Elem = A>, D: Dimension> ArrayBase<S, D> {
+    /// The array that has clones of an element, and the element itself, in its cells.
+    ///
+    /// The caller owes a shape within the limit; `size_ok` of its dimension tests it. The error is want of
+    /// memory.
+    ///
+    /// ```
+    /// let sevens = Array::from_elem(alloc, (2, 1), 7)?;
+    /// ```
+    pub fn from_elem<Sh: ShapeBuilder<Dim = D>>(
+        alloc: Global,
+        shape: Sh,
+        elem: A,
+    ) -> Result<Self, AllocError>
+        requires { IsWithinLimit (Sh.shape_lengths shape) }
+        ensures lengths { IfOk result (λ a. a.lengths ≡ Sh.shape_lengths shape) }
+        ensures cells { IfOk result (λ a. AllClonesOf A.is_clone elem a.cells) }
+        ensures whole { IfOk result IsGrid }
+        ensures same { IfOk result (λ a. ((y : A) → A.is_clone elem y → y ≡ elem) → a.cells ≡ replicate (size a.lengths) elem) }
+    {
+        let Shape { dim, order } = shape.into_shape_with_order();
+        let items = Vec::from_elem(alloc, elem, dim.size())?;
+        Ok(ArrayBase::from_elements(dim, order, items))
+    }
+}
+
+impl<A: Zero + Drop, S: DataOwned<Elem = A>, D: Dimension> ArrayBase<S, D> {
+    /// The array that has zero in each cell.
+    ///
+    /// The caller owes a shape within the limit; `size_ok` of its dimension tests it. The error is want of
+    /// memory.
+    ///
+    /// ```
+    /// let zeros = Array::<i64, Ix2>::zeros(alloc, (2, 3))?;
+    /// ```
+    pub fn zeros<Sh: ShapeBuilder<Dim = D>>(alloc: Global, shape: Sh) -> Result<Self, AllocError>
+        requires { IsWithinLimit (Sh.shape_lengths shape) }
+        ensures lengths { IfOk result (λ a. a.lengths ≡ Sh.shape_lengths shape) }
+        ensures cells { IfOk result (λ a. a.cells ≡ replicate (size a.lengths) A.zero) }
+        ensures whole { IfOk result IsGrid }
+    {
+        let Shape { dim, order } = shape.into_shape_with_order();
+        let size = dim.size();
+        let mut filling = Filling::with_capacity(alloc, dim, order)?;
+        for _ in 0..size {
+            filling.push(A::zero());
+        }
+        Ok(filling.finish())
+    }
+}
+
+impl<'a, A: Drop, D: Lengths> From<ArrayView<'a, A, D>> for CowArray<'a, A, D> {
+    /// The array with the view's lengths and cells, which it borrows.
+    fn from(view: ArrayView<'a, A, D>) -> Self
+        ensures { result ≡ view.entry }
+    {
+        let ArrayBase { storage, layout } = view;
+        ArrayBase {
+            storage: CowRepr::View(storage),
+            layout,
+        }
+    }
+}
+
+impl<'a, A: Drop, D: Lengths> From<Array<A, D>> for CowArray<'a, A, D> {
+    /// The array with the array's lengths and cells, which it owns.
+    fn from(array: Array<A, D>) -> Self
+        ensures { result ≡ array }
+    {
+        let ArrayBase { storage, layout } = array;
+        ArrayBase {
+            storage: CowRepr::Owned(storage),
+            layout,
+        }
+    }
+}

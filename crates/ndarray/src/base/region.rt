@@ -1,0 +1,200 @@
+//! Elements at some of the places of a slice, behind one lifetime: what writing views keep theirs in.
+//!
+//! A region is split by places, and its parts live side by side. Raw pointers stay inside `of`,
+//! `into_mut`, `get_mut`, `shared` and `Reading::slice`.
+
+ghost use Rattle.std.specs.Prelude.{◌≡◌, Bool, List, Option, Some, map, take, drop};
+ghost use Rattle.std.specs.Borrow.{sem};
+ghost use base.Fml.{GName, ffalse};
+ghost use Rattle.ndarray.specs.base.Slots.{held_at, kept, others, IsFilled, IsRun};
+ghost use Rattle.ndarray.specs.base.Strewn.{region_owns, region_lent, reading_lent};
+
+use crate::base::storage::{Data, DataMut, OwnedRepr, ViewRepr};
+use std::marker::{Model, PhantomData};
+use std::slice;
+
+/// A lifetime as a type.
+pub struct Life<'a> {
+    mark: PhantomData<&'a mut ()>,
+}
+
+/// The right to read and write, for as long as `M` lives, the elements at some places of a slice.
+/// Places are indices of that slice, and stay so in each part.
+pub struct RegionRepr<M, A> {
+    pub(super) ptr: *mut A,
+    pub(super) mark: PhantomData<M>,
+    // The loan of the elements.
+    ghost name: { GName },
+    // The loan of what was opened, where the region came of an opening.
+    ghost tie: { GName },
+    // The element at each place; `None` at one that is not held.
+    ghost slots: { List (Option A) },
+}
+
+impl<M, A> Model for RegionRepr<M, A> {
+    ghost also_owns = { λ r. region_owns M.row.lives A.row r.ptr r.name r.slots };
+
+    ghost also_shares = { λ r _ κ. region_lent M.row.lives A.row r.ptr r.slots κ };
+}
+
+impl<M, A> Drop for RegionRepr<M, A> {
+    fn drop(self) {
+        let Self { ptr: _, mark: _ } = self;
+    }
+}
+
+impl<'a, A> RegionRepr<Life<'a>, A> {
+    ghost use Rattle.ndarray.specs.base.Follows.{follows_slice, follows_value};
+
+    /// Every place of the slice.
+    pub(crate) fn of(s: &'a mut [A]) -> RegionRepr<Life<'a>, A>
+        ensures* writes_back { sem 𝓛 (follows_slice A.row s.entry result.name) }
+        ensures value { result.slots ≡ map Some s.old }
+    {
+        RegionRepr {
+            ptr: s.as_mut_ptr(),
+            mark: PhantomData,
+        }
+    }
+
+    /// The element at one place, for as long as the slice was lent.
+    pub(crate) fn into_mut(self, place: usize) -> &'a mut A
+        requires { IsFilled self.slots place }
+        ensures* writes_back { sem 𝓛 (follows_value A.row self.entry.slots self.entry.name place result.ghost_name) }
+        ensures value { held_at self.entry.slots place ≡ Some result.now }
+    {
+        let RegionRepr { ptr, mark: _ } = self;
+        unsafe { &mut *ptr.add(place) }
+    }
+}
+
+impl<A, M> RegionRepr<M, A> {
+    ghost use Rattle.ndarray.specs.base.Follows.{follows_parts, lends_place};
+
+    /// The places of the mask, and the others. A caller picks the mask from what `_by` says.
+    pub(crate) fn split<B>(self, _by: &B) -> (RegionRepr<M, A>, RegionRepr<M, A>)
+        ghost mask: { List Bool }
+        ensures* writes_back { sem 𝓛 (follows_parts A.row mask self.slots self.name result.0.name result.1.name) }
+        ensures first { result.0.slots ≡ kept mask self.slots }
+        ensures second { result.1.slots ≡ others mask self.slots }
+    {
+        let Self { ptr, mark: _ } = self;
+        (
+            RegionRepr {
+                ptr,
+                mark: PhantomData,
+            },
+            RegionRepr {
+                ptr,
+                mark: PhantomData,
+            },
+        )
+    }
+
+    /// The element at one place.
+    pub(crate) fn get_mut(&mut self, place: usize) -> &mut A
+        requires { IsFilled self.old.slots place }
+        ensures* writes_back { sem 𝓛 (lends_place M.row A.row self.entry place result) }
+        ensures value { held_at self.old.slots place ≡ Some result.now }
+    {
+        unsafe { &mut *self.ptr.add(place) }
+    }
+
+    /// The element at one place, to read.
+    pub(crate) fn get(&self, place: usize) -> &A
+        requires { IsFilled self.now.slots place }
+        ensures { held_at self.now.slots place ≡ Some result.now }
+    {
+        self.shared().get(place)
+    }
+
+    /// The same places, to read.
+    pub(crate) fn shared(&self) -> &Reading<A>
+        ensures { result.now.slots ≡ self.now.slots }
+    {
+        unsafe { &*(self as *const RegionRepr<M, A> as *const Reading<A>) }
+    }
+}
+
+impl<M, A> Data for RegionRepr<M, A> {
+    ghost use Rattle.std.specs.Prelude.{IsTrue, ⊤};
+    ghost use Rattle.std.specs.Option.{is_some};
+    ghost use Rattle.ndarray.specs.base.Slots.{held_at};
+
+    type Elem = A;
+
+    ghost at = { λ r. held_at r.slots };
+
+    ghost apart = { λ _. ⊤ };
+
+    ghost owns = { λ _. ⊥ };
+
+    fn element(&self, place: usize) -> &A {
+        self.get(place)
+    }
+
+    fn seen(&self) -> ViewRepr<'_, A> {
+        ViewRepr::Part(self.shared())
+    }
+
+    fn try_into_owned(self) -> Result<OwnedRepr<A>, Self> {
+        Err(self)
+    }
+}
+
+impl<M, A> DataMut for RegionRepr<M, A> {
+    ghost use Rattle.std.specs.Prelude.{IsTrue, slice_set};
+    ghost use Rattle.std.specs.Option.{is_some};
+    ghost use Rattle.ndarray.specs.base.Slots.{held_at};
+    ghost use Rattle.ndarray.specs.base.Follows.{with_slots, lends_place};
+    ghost use Rattle.ndarray.specs.base.Laws.{slot_set-here, slot_set-elsewhere};
+
+    ghost with_element = { λ r k w. with_slots r (slice_set r.slots k (Some w)) };
+
+    fn element_mut(&mut self, place: usize) -> &mut A
+        requires { IsTrue (is_some (held_at self.old.slots place)) }
+        ensures* writes_back { sem 𝓛 (lends_place M.row A.row self.entry place result) }
+        ensures value { held_at self.old.slots place ≡ Some result.now }
+    {
+        self.get_mut(place)
+    }
+
+    ghost written_here = { λ r k w h. slot_set-here r.slots k w h };
+
+    ghost written_elsewhere = { λ r k j w h. slot_set-elsewhere r.slots k j w h };
+
+    ghost is_apart = { λ _. tt };
+}
+
+/// What a `&` to a region's places reaches. No value of it is ever owned.
+pub struct Reading<A> {
+    ptr: *mut A,
+    mark: PhantomData<A>,
+    // The element at each place; `None` at one that is not held.
+    ghost slots: { List (Option A) },
+}
+
+impl<A> Model for Reading<A> {
+    ghost also_owns = { λ _. ffalse };
+
+    ghost also_shares = { λ r _ κ. reading_lent A.row r.ptr r.slots κ };
+}
+
+impl<A> Reading<A> {
+    /// The element at one place.
+    pub(crate) fn get(&self, place: usize) -> &A
+        requires { IsFilled self.now.slots place }
+        ensures { held_at self.now.slots place ≡ Some result.now }
+    {
+        let run = self.slice(place, 1);
+        &run[0]
+    }
+
+    /// The `len` elements from `from` on.
+    pub(crate) fn slice(&self, from: usize, len: usize) -> &[A]
+        requires { IsRun self.now.slots from len }
+        ensures { take len (drop from self.now.slots) ≡ map Some result.now }
+    {
+        unsafe { slice::from_raw_parts(self.ptr.add(from), len) }
+    }
+}

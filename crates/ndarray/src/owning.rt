@@ -1,0 +1,49 @@
+//! Arrays of their own from arrays and views of any kind.
+
+ghost use Rattle.std.specs.Prelude.{◌≡◌, ◌⊎◌, IfOk, IsOk};
+ghost use Rattle.std.specs.List.{AllZip};
+ghost use Rattle.ndarray.specs.Grid.{IsGrid};
+
+use crate::base::array::{Array, ArrayBase};
+use crate::base::dimension::Lengths;
+use crate::base::filling::Filling;
+use crate::base::shape::Order;
+use crate::base::storage::Data;
+use crate::iter::ElementsBase;
+use std::alloc::{AllocError, Global};
+
+impl<A: Clone + Drop, S: Data<Elem = A>, D: Lengths> ArrayBase<S, D> {
+    /// An array of the same lengths whose cells are clones of this one's.
+    ///
+    /// The error is want of memory, for the array or for a clone.
+    pub fn to_owned(&self, alloc: Global) -> Result<Array<A, D>, AllocError>
+        ensures lengths { IfOk result (λ a. a.lengths ≡ self.now.lengths) }
+        ensures cells { IfOk result (λ a. AllZip A.is_clone self.now.cells a.cells) }
+        ensures whole { IfOk result IsGrid }
+        ensures same { IfOk result (λ a. ((x y : A) → A.is_clone x y → y ≡ x) → a ≡ self.now) }
+    {
+        let mut filling = Filling::with_capacity(alloc, self.raw_dim(), Order::RowMajor)?;
+        for cell in ElementsBase::new(self.view()) {
+            filling.push(cell.clone()?);
+        }
+        Ok(filling.finish())
+    }
+
+    /// An array of the same lengths and cells: this one, where it owns its cells, else one with clones of
+    /// them.
+    ///
+    /// The error is want of memory, for the array or for a clone; this array is then gone.
+    pub fn into_owned(self, alloc: Global) -> Result<Array<A, D>, AllocError>
+        ensures owned { ((s : S) → S.owns s) → IsOk result × IfOk result (λ a. a ≡ self) }
+        ensures lengths { IfOk result (λ a. a.lengths ≡ self.lengths) }
+        ensures cells { IfOk result (λ a. (a ≡ self) ⊎ AllZip A.is_clone self.cells a.cells) }
+        ensures whole { IfOk result IsGrid }
+        ensures same { IfOk result (λ a. ((x y : A) → A.is_clone x y → y ≡ x) → a ≡ self) }
+    {
+        let ArrayBase { storage, layout } = self;
+        match storage.try_into_owned() {
+            Ok(storage) => Ok(ArrayBase { storage, layout }),
+            Err(storage) => ArrayBase { storage, layout }.to_owned(alloc),
+        }
+    }
+}
