@@ -4,7 +4,7 @@ use Rattle.std.specs.Prelude.{All, Contains}
 use Rattle.std.specs.List.{cons_option}
 use Rattle.std.proofs.lemmas.List.{get_or-set_other, get_or_default, length-map}
 use lib.ListN.{set, length-set}
-use Rattle.ndarray.specs.base.Emptying.{IsThere}
+use Rattle.ndarray.specs.base.Slots.{IsFilled}
 use Rattle.ndarray.specs.base.Moving.{found, Stands}
 
 module _ {X : Type 0} where
@@ -15,7 +15,7 @@ module _ {X : Type 0} where
   slot-full (x ∷ xs) (suc p) = slot-full xs p
 
   -- so each of its places holds an element
-  there-full : (xs : List X) (p : ℕ) → p < length (map Some xs) → IsThere (map Some xs) p
+  there-full : (xs : List X) (p : ℕ) → p < length (map Some xs) → IsFilled (map Some xs) p
   there-full [] p lt = absurd (omega (arith, lt))
   there-full (x ∷ xs) zero lt = (x, refl)
   there-full (x ∷ xs) (suc p) lt = there-full xs p (omega (arith, lt))

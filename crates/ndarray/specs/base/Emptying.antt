@@ -9,10 +9,6 @@ module _ {X : Type 0} where
   still (x ∷ xs) (true ∷ fs) = Some x ∷ still xs fs
   still (x ∷ xs) (false ∷ fs) = None ∷ still xs fs
 
-  -- the place holds an element
-  abbrev pub IsThere : List (Option X) → ℕ → Type 0
-  IsThere slots place = (x : X) × (get_or slots place None ≡ Some x)
-
-  -- no place holds one
+  -- no place holds an element
   abbrev pub AllGone : List (Option X) → Type 0
   AllGone slots = (place : ℕ) → get_or slots place None ≡ None

@@ -1,6 +1,7 @@
 //! A `Vec` whose elements are moved out by place, each at most once.
 ghost use Rattle.std.specs.Prelude.{◌≡◌, map, length, Some, None, get_or, slice_set};
-ghost use Rattle.ndarray.specs.base.Emptying.{IsThere, AllGone};
+ghost use Rattle.ndarray.specs.base.Slots.{IsFilled};
+ghost use Rattle.ndarray.specs.base.Emptying.{AllGone};
 
 use crate::base::places::block::{Deed, close, open};
 use core::slots::Slots;
@@ -51,7 +52,7 @@ impl<A> Emptying<A> {
 
     /// Moves the element at the place out.
     pub fn take(&mut self, place: usize) -> A
-        requires { IsThere self.old place }
+        requires { IsFilled self.old place }
         ensures value { get_or self.old place None ≡ Some result }
         ensures slots { self.new ≡ slice_set self.old place None }
     {
