@@ -5,6 +5,8 @@ pub mod Cells
 pub mod Cloned
 pub mod Cuts
 pub mod Chunked
+pub mod Deeds
+pub mod Emptying
 pub mod Filled
 pub mod Images
 pub mod Items
@@ -12,6 +14,7 @@ pub mod LentAgain
 pub mod Lines
 pub mod Lists
 pub mod Memory
+pub mod Moving
 pub mod OneAxis
 pub mod Magnitudes
 pub mod Nested

@@ -80,7 +80,7 @@ dot-strides ColumnMajor ns bs is h b =
     column-dot 1 ns bs is h.as_many (λ k lt. h.each k lt ∙ omega arith) b ∙ omega arith
 
 module _ (o : Order) (ns bs : List ℕ) (h : AreStridesOf o ns bs) (limit : nonzero_size ns < 2 ^ 63) where
-  place-strides : (is : List ℕ) → InBox ns is → place 0 bs is ≡ rank_in o ns is
+  pub place-strides : (is : List ℕ) → InBox ns is → place 0 bs is ≡ rank_in o ns is
   unfolding place
   place-strides is b =
       let d = dot-strides o ns bs is h b in
