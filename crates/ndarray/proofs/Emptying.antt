@@ -2,7 +2,7 @@
 use Rattle.std.proofs.Common.{◌≡◌, ℕ, zero, suc, ◌<◌, Bool, true, false, List, [], ◌∷◌, map, length, refl, ap, arith}
 use lib.ListN.{get_or, set, replicate}
 use Rattle.std.specs.Prelude.{Some, None}
-use Rattle.ndarray.specs.base.Emptying.{still, AllGone}
+use Rattle.ndarray.specs.places.Emptying.{still, AllGone}
 
 module _ {X : Type 0} where
   -- one slot for each value

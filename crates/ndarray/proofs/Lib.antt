@@ -28,7 +28,7 @@ pub mod Orders
 pub mod Pairs
 pub mod Permutations
 pub mod Pieces
-pub mod Places
+pub mod Reached
 pub mod Readings
 pub mod Refilled
 pub mod RunningSum

@@ -9,7 +9,7 @@ use Rattle.ndarray.specs.base.Strides.{AreStridesOf}
 use Rattle.ndarray.specs.order.Steps.{block_in}
 use Rattle.ndarray.specs.declared.base.shape.Order.TheVariants.{RowMajor}
 use Rattle.ndarray.proofs.Cells.{along-row_order}
-use Rattle.ndarray.proofs.Places.{length-cells_at}
+use Rattle.ndarray.proofs.Reached.{length-cells_at}
 use Rattle.ndarray.proofs.Strides.{Reaches-slice, cells_in-slice}
 
 nonzero-one : (n : ℕ) → n < 2 ^ 63 → nonzero_size (n ∷ []) < 2 ^ 63

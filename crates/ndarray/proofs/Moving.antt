@@ -5,7 +5,7 @@ use Rattle.std.specs.List.{cons_option}
 use Rattle.std.proofs.lemmas.List.{get_or-set_other, get_or_default, length-map}
 use lib.ListN.{set, length-set}
 use Rattle.ndarray.specs.base.Slots.{IsFilled}
-use Rattle.ndarray.specs.base.Moving.{found, Stands}
+use Rattle.ndarray.specs.places.Moving.{found, Stands}
 
 module _ {X : Type 0} where
   -- a row of full slots holds the list

@@ -10,7 +10,7 @@ use Rattle.ndarray.specs.base.Parts.{cells_from}
 use Rattle.ndarray.specs.base.Places.{place, Reaches, cells_at, grid_at, places_at}
 use Rattle.ndarray.specs.base.Slots.{held_at}
 use Rattle.ndarray.proofs.Lists.{some-of}
-use Rattle.ndarray.proofs.Places.{all-some}
+use Rattle.ndarray.proofs.Reached.{all-some}
 
 -- the elements of a vector, with other elements from its front on
 pub refilled-at : {X : Type 0} (ws xs : List X) (n p : ℕ) (x : X) → n ≡ length xs → slice_get xs p ≡ Some x → slice_get (take n (ws ++ drop (length ws) xs)) p ≡ Some (get_or ws p x)

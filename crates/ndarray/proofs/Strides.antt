@@ -19,7 +19,7 @@ use Rattle.ndarray.proofs.Sizes.{size-take_fits, size-drop_fits, size-le}
 use Rattle.ndarray.proofs.Orders.{length-box_in, rank_in-lt, box_in-back}
 use Rattle.ndarray.proofs.Walks.{axis_in-lt, block_in-more}
 use Rattle.ndarray.proofs.NestedBoxes.{nested-strides}
-use Rattle.ndarray.proofs.Places.{cell-at, grid_at-same}
+use Rattle.ndarray.proofs.Reached.{cell-at, grid_at-same}
 
 pub block_in-fits : (o : Order) (ns : List ℕ) (p : ℕ) → nonzero_size ns < 2 ^ 63 → block_in o ns p < 2 ^ 64
 block_in-fits RowMajor ns p h = size-drop_fits ns (length ns - p) h

@@ -1,9 +1,7 @@
 -- What only `base` speaks of: places and strides.
 pub mod Chunks
-pub mod Emptying
 pub mod Follows
 pub mod Laws
-pub mod Moving
 pub mod Nested
 pub mod Opened
 pub mod Parts

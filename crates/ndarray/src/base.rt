@@ -13,7 +13,6 @@ pub mod lines;
 pub mod making;
 pub(crate) mod opened;
 pub mod owned;
-pub(crate) mod places;
 pub mod region;
 pub mod shape;
 pub mod slice;

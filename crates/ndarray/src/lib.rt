@@ -10,6 +10,7 @@ pub mod base;
 pub mod iter;
 pub mod order;
 pub mod owning;
+pub(crate) mod places;
 pub mod reduce;
 pub mod subviews;
 

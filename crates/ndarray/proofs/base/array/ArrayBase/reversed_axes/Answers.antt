@@ -1,6 +1,6 @@
 use Rattle.std.proofs.Common.{reverse, refl, ap, ◌∙◌}
 use Rattle.ndarray.specs.base.Places.{Rearranges}
-use Rattle.ndarray.proofs.Places.{length-cells_at}
+use Rattle.ndarray.proofs.Reached.{length-cells_at}
 use Rattle.ndarray.proofs.Images.{rearranges-reversed, Reaches-rearranged, grid-seen}
 use Rattle.ndarray.proofs.base.array.ArrayBase.reversed_axes.Goals as goal
 

@@ -3,7 +3,7 @@ use Rattle.std.proofs.lemmas.List.{take_all, take_min}
 use Rattle.ndarray.specs.Grid.{line}
 use Rattle.ndarray.specs.base.Storage.{seen_at}
 use Rattle.ndarray.proofs.Lines.{Reaches-line, grid-line}
-use Rattle.ndarray.proofs.Places.{length-cells_at}
+use Rattle.ndarray.proofs.Reached.{length-cells_at}
 use Rattle.ndarray.proofs.base.lines.ArrayView1FromRefSlice.from.Goals as goal
 
 pub invariant_of-result : goal.invariant_of-result

@@ -1,4 +1,4 @@
-use Rattle.ndarray.proofs.Places.{length-cells_at}
+use Rattle.ndarray.proofs.Reached.{length-cells_at}
 use Rattle.ndarray.proofs.base.region.RegionReprDataMut.lend.Goals as goal
 
 pub returns : goal.returns

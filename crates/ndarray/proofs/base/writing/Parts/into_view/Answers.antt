@@ -1,5 +1,5 @@
 use Rattle.std.proofs.Common.{sym}
-use Rattle.ndarray.proofs.Places.{length-cells_at, grid_at-same, Reaches-same}
+use Rattle.ndarray.proofs.Reached.{length-cells_at, grid_at-same, Reaches-same}
 use Rattle.ndarray.proofs.Refilled.{held-slice}
 use Rattle.ndarray.proofs.base.writing.Parts.into_view.Goals as goal
 
