@@ -12,4 +12,5 @@ mod refusing;
 mod shown;
 mod slices;
 mod subviews;
+mod view_mut;
 mod windows;

@@ -1,0 +1,107 @@
+//! Views to write in: what is written through them is what the array holds when they have ended.
+
+use crate::tests::shown::shown;
+use ndarray::{
+    Array, ArrayView, ArrayView1, ArrayViewMut1, Axis, Ix0, Ix1, Ix2, ShapeBuilder, Slice,
+};
+use std::test::Fail;
+
+#[test]
+fn what_is_written_through_a_view_is_in_the_array(rt: HostRuntime) -> Result<(), Fail> {
+    let mut array = Array::<i64, Ix2>::zeros(rt.alloc(), (2, 3))?;
+    let mut view = array.view_mut();
+    if let Some(cell) = view.get_mut((0, 1)) {
+        *cell = 7;
+    }
+    assert!(rt; view.get_mut((2, 0)).is_none());
+    drop(view);
+    assert_eq!(rt; shown(rt.alloc(), &array.view())?.as_str(), "[2, 3]: [0, 7, 0, 0, 0, 0]");
+    Ok(())
+}
+
+#[test]
+fn each_way_of_lying_is_written_at_the_same_index_lists(rt: HostRuntime) -> Result<(), Fail> {
+    let mut columns = Array::<i64, Ix2>::zeros(rt.alloc(), (2, 3).f())?;
+    let mut view = columns.view_mut();
+    view.invert_axis(Axis(1));
+    view.swap_axes(0, 1);
+    if let Some(cell) = view.get_mut((0, 1)) {
+        *cell = 8;
+    }
+    drop(view);
+    assert_eq!(rt; shown(rt.alloc(), &columns.view())?.as_str(), "[2, 3]: [0, 0, 0, 0, 0, 8]");
+    let mut steps = Array::from_shape_vec(6, vec![in rt.alloc(); 1i64, 2, 3, 4, 5, 6]?)?;
+    let mut view = steps.slice_axis_mut(Axis(0), Slice::new(0, None, -2));
+    assert_eq!(rt; shown(rt.alloc(), &view.view())?.as_str(), "[3]: [6, 4, 2]");
+    if let Some(cell) = view.get_mut(1) {
+        *cell = 0;
+    }
+    drop(view);
+    assert_eq!(rt; shown(rt.alloc(), &steps.view())?.as_str(), "[6]: [1, 2, 3, 0, 5, 6]");
+    Ok(())
+}
+
+#[test]
+fn an_item_along_an_axis_is_written(rt: HostRuntime) -> Result<(), Fail> {
+    let mut array = Array::<i64, Ix2>::zeros(rt.alloc(), (2, 2))?;
+    let mut column = array.index_axis_mut(Axis(1), 1);
+    for i in 0..2 {
+        if let Some(cell) = column.get_mut(i) {
+            *cell = 10;
+        }
+    }
+    drop(column);
+    assert_eq!(rt; shown(rt.alloc(), &array.view())?.as_str(), "[2, 2]: [0, 10, 0, 10]");
+    let mut line = Array::<i64, Ix1>::zeros(rt.alloc(), 2)?;
+    let mut cell: ndarray::ArrayViewMut<'_, i64, Ix0> = line.index_axis_mut(Axis(0), 1);
+    if let Some(cell) = cell.get_mut(()) {
+        *cell = 3;
+    }
+    drop(cell);
+    assert_eq!(rt; shown(rt.alloc(), &line.view())?.as_str(), "[2]: [0, 3]");
+    Ok(())
+}
+
+#[test]
+fn a_view_of_a_view_is_written_too(rt: HostRuntime) -> Result<(), Fail> {
+    let mut array = Array::<i64, Ix2>::zeros(rt.alloc(), (2, 2))?;
+    let mut view = array.view_mut();
+    let mut inner = view.view_mut().reversed_axes();
+    if let Some(cell) = inner.get_mut((0, 1)) {
+        *cell = 5;
+    }
+    drop(inner);
+    if let Some(cell) = view.get_mut((0, 0)) {
+        *cell = 4;
+    }
+    assert_eq!(rt; shown(rt.alloc(), &view.view())?.as_str(), "[2, 2]: [4, 0, 5, 0]");
+    drop(view);
+    assert_eq!(rt; shown(rt.alloc(), &array.view())?.as_str(), "[2, 2]: [4, 0, 5, 0]");
+    Ok(())
+}
+
+#[test]
+fn slices_are_views_of_one_axis(rt: HostRuntime) -> Result<(), Fail> {
+    let mut numbers = [1i64, 2, 3];
+    let view = ArrayView1::from(numbers.as_slice());
+    assert_eq!(rt; shown(rt.alloc(), &view)?.as_str(), "[3]: [1, 2, 3]");
+    let mut view = ArrayViewMut1::from(numbers.as_mut_slice());
+    if let Some(cell) = view.get_mut(2) {
+        *cell = 9;
+    }
+    drop(view);
+    assert_eq!(rt; numbers, [1, 2, 9]);
+    let none: [i64; 0] = [];
+    assert_eq!(rt; shown(rt.alloc(), &ArrayView1::from(none.as_slice()))?.as_str(), "[0]: []");
+    let units = [(), (), ()];
+    assert_eq!(rt; ArrayView1::from(units.as_slice()).len(), 3);
+    Ok(())
+}
+
+#[test]
+fn a_view_of_an_array_by_from(rt: HostRuntime) -> Result<(), Fail> {
+    let array = Array::from_elem(rt.alloc(), (1, 2), 6i64)?;
+    let view = ArrayView::from(&array);
+    assert_eq!(rt; shown(rt.alloc(), &view)?.as_str(), "[1, 2]: [6, 6]");
+    Ok(())
+}
