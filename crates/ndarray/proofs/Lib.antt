@@ -25,6 +25,7 @@ pub mod Pairs
 pub mod Permutations
 pub mod Pieces
 pub mod Places
+pub mod Portions
 pub mod Readings
 pub mod RunningSum
 pub mod Selections
