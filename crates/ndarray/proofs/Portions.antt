@@ -149,6 +149,20 @@ module _ {A : Type 0} (cs : List (Option A)) (xs ys : List Spot) (h : SharesBoth
   pub grids-others : grids_at (held_at (others (portion xs (length cs)) cs)) ys ≡ grids_at (held_at cs) ys
   grids-others = grids_at-same_at _ _ ys others-same
 
+-- one sub-view, on either side: it is the array that it was
+module _ {A : Type 0} (cs : List (Option A)) (s : Spot) where
+  pub one-reaches : (ys : List Spot) → SharesBoth (held_at cs) (s ∷ []) ys → Reaches ⊤ (held_at (kept (portion (s ∷ []) (length cs)) cs)) s.lengths s.start s.strides
+  one-reaches ys h = (Shares-kept cs (s ∷ []) ys h).each 0 s (omega arith)
+
+  pub one-seen : (ys : List Spot) → SharesBoth (held_at cs) (s ∷ []) ys → grid_at (held_at (kept (portion (s ∷ []) (length cs)) cs)) s.lengths s.start s.strides ≡ grid_at (held_at cs) s.lengths s.start s.strides
+  one-seen ys h = grid_at-same_at _ _ s (kept-same cs (s ∷ []) ys h 0 s (omega arith))
+
+  pub other-reaches : (xs : List Spot) → SharesBoth (held_at cs) xs (s ∷ []) → Reaches ⊤ (held_at (others (portion xs (length cs)) cs)) s.lengths s.start s.strides
+  other-reaches xs h = (Shares-others cs xs (s ∷ []) h).each 0 s (omega arith)
+
+  pub other-seen : (xs : List Spot) → SharesBoth (held_at cs) xs (s ∷ []) → grid_at (held_at (others (portion xs (length cs)) cs)) s.lengths s.start s.strides ≡ grid_at (held_at cs) s.lengths s.start s.strides
+  other-seen xs h = grid_at-same_at _ _ s (others-same cs xs (s ∷ []) h 0 s (omega arith))
+
 apart-back : (s t : Spot) → AreApart s t → AreApart t s
 apart-back s t h js is bj bi e = h is js bi bj (sym e)
 

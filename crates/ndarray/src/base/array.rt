@@ -12,6 +12,7 @@ use crate::base::axis::Axis;
 use crate::base::dimension::{Dimension, Ix1, Lengths};
 use crate::base::into_dimension::IntoDimension;
 use crate::base::layout::Layout;
+use crate::base::region::{Life, RegionRepr};
 use crate::base::storage::{CowRepr, Data, DataMut, OwnedRepr, ViewRepr};
 use std::marker::Model;
 
@@ -32,6 +33,12 @@ pub type ArrayView<'a, A, D> = ArrayBase<ViewRepr<'a, A>, D>;
 
 /// A reading view of one axis.
 pub type ArrayView1<'a, A> = ArrayView<'a, A, Ix1>;
+
+/// A view to write in.
+pub type ArrayViewMut<'a, A, D> = ArrayBase<RegionRepr<Life<'a>, A>, D>;
+
+/// A view of one axis to write in.
+pub type ArrayViewMut1<'a, A> = ArrayViewMut<'a, A, Ix1>;
 
 /// A reading view or an array that owns its cells.
 pub type CowArray<'a, A, D> = ArrayBase<CowRepr<'a, A>, D>;
