@@ -8,7 +8,7 @@ use Rattle.ndarray.specs.base.Nested.{magnitude, reach}
 use Rattle.ndarray.specs.base.Places.{dot, place, Reaches, Rearranges}
 use Rattle.ndarray.proofs.Boxes.{InBox-length, InBox-get, InBox-set_both}
 use Rattle.ndarray.proofs.NestedCuts.{nested-cut}
-use Rattle.ndarray.proofs.Places.{dot-set, mod_twice}
+use Rattle.ndarray.proofs.Reached.{dot-set, mod_twice}
 use Rattle.ndarray.proofs.Sizes.{nonzero-set_le}
 
 -- of an axis of length n, the `len` places that `at` names: from `from` on by `step`, which is not 0, modulo 2 ^ 64

@@ -11,7 +11,7 @@ use Rattle.ndarray.proofs.Boxes.{InBox-length, InBox-reverse, InBox-some, InBox-
 use Rattle.ndarray.proofs.NestedMoves.{nested-reversed}
 use Rattle.ndarray.proofs.Sizes.{nonzero-reverse}
 use Rattle.ndarray.proofs.Cells.{tabulate-is}
-use Rattle.ndarray.proofs.Places.{length-cells_at, cell-at, grid_at-same, Reaches-same}
+use Rattle.ndarray.proofs.Reached.{length-cells_at, cell-at, grid_at-same, Reaches-same}
 
 module _ {ns : List ℕ} {start : ℕ} {bs ns' : List ℕ} {start' : ℕ} {bs' : List ℕ} {f : List ℕ → List ℕ} {two : Type 0} (r : Rearranges two ns start bs ns' start' bs' f) where
   pub Reaches-rearranged : {one : Type 0} {A : Type 0} (at : ℕ → Option A) → (two → one) → Reaches one at ns start bs → Reaches two at ns' start' bs'

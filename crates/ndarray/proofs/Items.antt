@@ -8,7 +8,7 @@ use Rattle.ndarray.specs.Limits.{nonzero_size}
 use Rattle.ndarray.specs.base.Places.{dot, place, Reaches, Rearranges}
 use Rattle.ndarray.proofs.Boxes.{InBox-length}
 use Rattle.ndarray.proofs.NestedMoves.{nested-inserted, nested-removed}
-use Rattle.ndarray.proofs.Places.{mod_twice}
+use Rattle.ndarray.proofs.Reached.{mod_twice}
 use Rattle.ndarray.proofs.Sizes.{nonzero-insert_one}
 
 pub dot-insert : (bs js : List ℕ) (k i : ℕ) → k < length bs → length js + 1 ≡ length bs → dot bs (insert js k i) ≡ dot (remove bs k) js + i * get_or bs k 0

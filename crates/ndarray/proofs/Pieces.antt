@@ -14,7 +14,7 @@ use Rattle.std.proofs.Math.Nat.{mod-add-mod}
 use Rattle.std.proofs.lemmas.List.Edits.{length-remove}
 use Rattle.ndarray.proofs.Boxes.{InBox-length}
 use Rattle.ndarray.proofs.Items.{dot-insert, InBox-insert, nonzero-remove, rearranges-item}
-use Rattle.ndarray.proofs.Places.{Reaches-same}
+use Rattle.ndarray.proofs.Reached.{Reaches-same}
 use Rattle.ndarray.proofs.Sizes.{nonzero-one_of}
 
 -- where the piece at each position is the array's image by a function

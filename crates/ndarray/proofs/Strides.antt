@@ -19,7 +19,7 @@ use Rattle.ndarray.proofs.Sizes.{size-take_fits, size-drop_fits, size-le}
 use Rattle.ndarray.proofs.Orders.{length-box_in, rank_in-lt, box_in-back}
 use Rattle.ndarray.proofs.Walks.{axis_in-lt, block_in-more}
 use Rattle.ndarray.proofs.NestedBoxes.{nested-strides}
-use Rattle.ndarray.proofs.Places.{cell-at, grid_at-same}
+use Rattle.ndarray.proofs.Reached.{cell-at, grid_at-same}
 
 pub block_in-fits : (o : Order) (ns : List ℕ) (p : ℕ) → nonzero_size ns < 2 ^ 63 → block_in o ns p < 2 ^ 64
 block_in-fits RowMajor ns p h = size-drop_fits ns (length ns - p) h
@@ -80,7 +80,7 @@ dot-strides ColumnMajor ns bs is h b =
     column-dot 1 ns bs is h.as_many (λ k lt. h.each k lt ∙ omega arith) b ∙ omega arith
 
 module _ (o : Order) (ns bs : List ℕ) (h : AreStridesOf o ns bs) (limit : nonzero_size ns < 2 ^ 63) where
-  place-strides : (is : List ℕ) → InBox ns is → place 0 bs is ≡ rank_in o ns is
+  pub place-strides : (is : List ℕ) → InBox ns is → place 0 bs is ≡ rank_in o ns is
   unfolding place
   place-strides is b =
       let d = dot-strides o ns bs is h b in

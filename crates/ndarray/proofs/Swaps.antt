@@ -7,7 +7,7 @@ use Rattle.ndarray.specs.base.Places.{dot, place, Reaches, Rearranges}
 use Rattle.ndarray.proofs.Boxes.{InBox-length, InBox-get, InBox-set_both}
 use Rattle.ndarray.proofs.Lists.{get_or-set_own, swap-swap}
 use Rattle.ndarray.proofs.NestedMoves.{nested-swapped}
-use Rattle.ndarray.proofs.Places.{dot-set}
+use Rattle.ndarray.proofs.Reached.{dot-set}
 use Rattle.ndarray.proofs.Sizes.{nonzero-swap}
 
 dot-swap : (bs is : List ℕ) (i j : ℕ) → length bs ≡ length is → i < length is → j < length is → dot (swap bs i j) (swap is i j) ≡ dot bs is

@@ -1,7 +1,8 @@
 -- One step of a walk.
 use Rattle.std.proofs.Common.{◌≡◌, ℕ, ◌+◌, ◌-◌, ◌*◌, ◌<◌, ◌≤◌, ◌^◌, suc, zero, List, [], ◌∷◌, ◌++◌, length, take, drop, set, get_or, replicate, refl, sym, ◌∙◌, ap, arith, subst}
-use Rattle.std.proofs.lemmas.List.{take-take, drop-drop, drop-take, take_all, drop_all, length-take-le, length-drop, get_or-drop}
+use Rattle.std.proofs.lemmas.List.{take-take, drop-drop, drop-take, take_all, drop_all, length-take-le, length-drop, get_or-take, get_or-drop, get_or_default}
 use Rattle.std.proofs.Math.Seq.{take-suc, drop-cons}
+use Rattle.std.specs.Prelude.{Contains}
 use Rattle.ndarray.specs.Index.{InBox, size}
 use Rattle.ndarray.specs.Limits.{IsWithinLimit}
 use Rattle.ndarray.specs.Orders.{box_in}
@@ -10,7 +11,7 @@ use Rattle.ndarray.specs.declared.base.shape.Order.{Order}
 use Rattle.ndarray.specs.declared.base.shape.Order.TheVariants.{RowMajor, ColumnMajor}
 use Rattle.ndarray.proofs.Boxes.{InBox-length, InBox-get, InBox-set, InBox-zeros}
 use Rattle.ndarray.proofs.Sizes.{size-append, size-le}
-use Rattle.ndarray.proofs.Orders.{length-box_in, box_in-at}
+use Rattle.ndarray.proofs.Orders.{length-box_in, box_in-at, box_in-back}
 
 pub axis_in-lt : (o : Order) (n p : ℕ) → p < n → axis_in o n p < n
 axis_in-lt RowMajor n p h = omega arith
@@ -224,3 +225,30 @@ walk-later o (n ∷ ns) (i ∷ i2 ∷ is) k left rest j li ln h e at = absurd (o
 
 pub walk-first : (o : Order) (ns is : List ℕ) (k left : ℕ) → k ≤ left → walk_rest o ns is k ≡ take k (walk_rest o ns is left)
 walk-first o ns is k left le = sym (take-take k left (drop (rank_in o ns is) (box_in o ns)) le)
+
+-- what is still to come, of a walk that has not ended: the index lists of the box with the ranks from the next one on
+module _ (o : Order) (ns is js : List ℕ) (left : ℕ) (h : WalkStands o ns is left) (some : 0 < left) where
+  -- each stands as far behind the next one as its rank says
+  rest-get : (k : ℕ) (d : List ℕ) → k < left → get_or (walk_rest o ns is left) k d ≡ get_or (box_in o ns) (rank_in o ns is + k) d
+  rest-get k d lt = get_or-take left (drop (rank_in o ns is) (box_in o ns)) k d lt ∙ get_or-drop (rank_in o ns is) (box_in o ns) k d
+
+  -- no other index list is to come
+  pub to-come : Contains (walk_rest o ns is left) js → InBox ns js × (rank_in o ns is ≤ rank_in o ns js) × (rank_in o ns js < rank_in o ns is + left)
+  to-come c =
+      let l = length-walk_rest o ns is left h in
+      let f = h.fits some in
+      let size_is = length-box_in o ns in
+      let lt : c.0 < left = omega (arith, c.1) in
+      let k : ℕ = rank_in o ns is + c.0 in
+      let there : get_or (box_in o ns) k [] ≡ js = get_or_default (box_in o ns) k [] js (omega arith) ∙ (sym (rest-get c.0 js lt) ∙ c.2) in
+      let P : List ℕ → Type 0 = λ x. InBox ns x × (rank_in o ns x ≡ k) in
+      let b = subst P there (box_in-back o ns k (omega arith)) in
+      (b.0, omega (arith, b.1), omega (arith, b.1))
+
+  -- and all of them are
+  pub to-come_back : InBox ns js → rank_in o ns is ≤ rank_in o ns js → rank_in o ns js < rank_in o ns is + left → Contains (walk_rest o ns is left) js
+  to-come_back b low high =
+      let l = length-walk_rest o ns is left h in
+      let k : ℕ = rank_in o ns js - rank_in o ns is in
+      let e : rank_in o ns is + k ≡ rank_in o ns js = omega arith in
+      (k, omega arith, rest-get k js (omega arith) ∙ (ap (λ x. get_or (box_in o ns) x js) e ∙ box_in-at o ns js js b))

@@ -12,7 +12,7 @@ use Rattle.ndarray.proofs.Beside.{same_index-refl, same_index-true, same_index-f
 use Rattle.ndarray.proofs.Orders.{row_order-is, length-row_order}
 use Rattle.ndarray.proofs.Cells.{same_grid}
 use Rattle.ndarray.proofs.NestedPlaces.{Reaches-apart}
-use Rattle.ndarray.proofs.Places.{length-cells_at, cell-at}
+use Rattle.ndarray.proofs.Reached.{length-cells_at, cell-at}
 
 module _ {A : Type 0} where
   length-put_beside : (jss : List (List ℕ)) (xs : List A) (is : List ℕ) (w : A) → length (put_beside jss xs is w) ≡ length xs

@@ -13,3 +13,4 @@ pub mod Whole
 pub mod Writes
 pub mod base
 pub mod order
+pub mod places

@@ -4,6 +4,7 @@ pub mod Follows
 pub mod Laws
 pub mod Nested
 pub mod Opened
+pub mod Parts
 pub mod Places
 pub mod Portions
 pub mod Pushed

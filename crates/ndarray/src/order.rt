@@ -1,6 +1,6 @@
 //! The two orders of a box, and the walk over its index lists.
 
-ghost use Rattle.std.specs.Prelude.{◌≡◌, List, ℕ, ◌+◌, ◌<◌, ◌≤◌, length, take, drop, ⊤, IfSome, IsPermutation};
+ghost use Rattle.std.specs.Prelude.{◌≡◌, List, ℕ, ◌+◌, ◌<◌, ◌≤◌, length, take, drop, ⊤, ◌↔◌, Contains, IfSome, IsPermutation, IsTrue};
 ghost use Rattle.std.specs.Iterator.{YieldsFirstBy, YieldsLastBy, UpTo, item_count};
 ghost use Rattle.std.specs.Iterator.SizeHint.{IsExactHint, IsWithinCount};
 ghost use Rattle.ndarray.specs.Index.{InBox, size, IsRowOrder};
@@ -9,6 +9,7 @@ ghost use Rattle.ndarray.specs.Orders.{box_in, IsBoxIn};
 ghost use Rattle.ndarray.specs.order.Steps.{rank_in, axis_in};
 
 use crate::base::dimension::{Dim, Ix1, Lengths};
+use crate::base::layout::{Layout, default_strides};
 pub use crate::base::shape::Order;
 use std::alloc::AllocError;
 use std::iter::ExactSizeIterator;
@@ -99,6 +100,25 @@ impl<D: Lengths> Walk<D> {
         ensures { result ≡ length self.now }
     {
         self.left
+    }
+
+    /// Whether an index list is still to come.
+    pub(crate) fn is_to_come(&self, index: &D) -> bool
+        ensures { IsTrue result ↔ Contains self.now (D.numbers index.now) }
+    {
+        if self.left == 0 {
+            return false;
+        }
+        let ranks = Layout {
+            start: 0,
+            dim: self.dim.copied(),
+            strides: default_strides(&self.dim, self.order),
+        };
+        let Some(rank) = ranks.find(index) else {
+            return false;
+        };
+        let next = ranks.place(&self.index);
+        next <= rank && rank - next < self.left
     }
 }
 

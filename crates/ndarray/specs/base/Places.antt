@@ -1,5 +1,5 @@
 -- Inside `base`: how an array's cells lie among the elements of its storage.
-use Rattle.std.specs.Prelude.{◌≡◌, ℕ, ◌+◌, ◌*◌, ◌%◌, ◌^◌, ◌<◌, List, [], ◌∷◌, length, filter_map, Option, IsTrue}
+use Rattle.std.specs.Prelude.{◌≡◌, ℕ, ◌+◌, ◌*◌, ◌%◌, ◌^◌, ◌<◌, List, [], ◌∷◌, length, map, filter_map, Option, IsTrue}
 use Rattle.std.specs.Option.{is_some}
 use Rattle.ndarray.specs.Index.{InBox, row_order, size}
 use Rattle.ndarray.specs.Limits.{IsWithinLimit}
@@ -15,6 +15,10 @@ dot (b ∷ bs) (i ∷ is) = i * b + dot bs is
 -- where the cell of an index list lies. A stride is the bits of a signed number, so numbers count modulo 2 ^ 64
 unfoldable pub place : ℕ → List ℕ → List ℕ → ℕ
 place start bs is = (start + dot bs is) % 2 ^ 64
+
+-- where the cells lie, in row order
+abbrev pub places_at : List ℕ → ℕ → List ℕ → List ℕ
+places_at ns start bs = map (place start bs) (row_order ns)
 
 -- each index list of the box reaches a place that has an element, and where `one` holds the strides of a box that is
 -- not empty are nested, so that no two reach the same

@@ -37,7 +37,7 @@ pub type ArrayView1<'a, A> = ArrayView<'a, A, Ix1>;
 /// A view to write in.
 pub type ArrayViewMut<'a, A, D> = ArrayBase<RegionRepr<Life<'a>, A>, D>;
 
-/// A view of one axis to write in.
+/// A view to write in, of one axis.
 pub type ArrayViewMut1<'a, A> = ArrayViewMut<'a, A, Ix1>;
 
 /// A reading view or an array that owns its cells.

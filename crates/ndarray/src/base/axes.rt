@@ -13,7 +13,7 @@ use crate::base::axis::Axis;
 use crate::base::dimension::{Dimension, Lengths, RemoveAxis};
 use crate::base::error::{ErrorKind, ShapeError};
 use crate::base::slice::Slice;
-use crate::base::storage::Data;
+use crate::base::storage::{Data, DataMut};
 
 impl<S: Data, D: Lengths> ArrayBase<S, D> {
     /// Whether the axis is below the number of axes.
@@ -99,10 +99,55 @@ impl<S: Data, D: RemoveAxis> ArrayBase<S, D> {
         ensures value { result ≡ axis_item self.now axis.0 index }
         ensures whole { IsGrid result }
     {
+        self.view().index_axis_move(axis, index)
+    }
+
+    /// The same of the array itself: a view to write in stays one.
+    pub fn index_axis_move(self, axis: Axis, index: usize) -> ArrayBase<S, D::Smaller>
+        requires axis { axis.0 < length self.lengths }
+        requires within { index < slice_index self.lengths axis.0 }
+        ensures value { result ≡ axis_item self axis.0 index }
+        ensures whole { IsGrid result }
+    {
+        let ArrayBase { storage, layout } = self;
         ArrayBase {
-            storage: self.storage.seen(),
-            layout: self.layout.item(axis, index),
+            storage,
+            layout: layout.item(axis, index),
         }
+    }
+}
+
+impl<S: DataMut, D: Lengths> ArrayBase<S, D> {
+    /// The indices that a slice takes on an axis, to write in.
+    ///
+    /// The caller owes what `slice_axis` asks for.
+    pub fn slice_axis_mut(&mut self, axis: Axis, slice: Slice) -> ArrayViewMut<'_, S::Elem, D>
+        requires axis { axis.0 < length self.old.lengths }
+        requires within { IsSliceOf (slice_index self.old.lengths axis.0) slice }
+        ensures value { result ≡ sliced self.old axis.0 slice }
+        ensures whole { IsGrid result }
+    {
+        let mut view = self.view_mut();
+        view.slice_axis_inplace(axis, slice);
+        view
+    }
+}
+
+impl<S: DataMut, D: RemoveAxis> ArrayBase<S, D> {
+    /// Item `index` along an axis, to write in.
+    ///
+    /// The caller owes what `index_axis` asks for.
+    pub fn index_axis_mut(
+        &mut self,
+        axis: Axis,
+        index: usize,
+    ) -> ArrayViewMut<'_, S::Elem, D::Smaller>
+        requires axis { axis.0 < length self.old.lengths }
+        requires within { index < slice_index self.old.lengths axis.0 }
+        ensures value { result ≡ axis_item self.old axis.0 index }
+        ensures whole { IsGrid result }
+    {
+        self.view_mut().index_axis_move(axis, index)
     }
 }
 

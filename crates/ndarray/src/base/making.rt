@@ -1,4 +1,4 @@
-//! Making reading views.
+//! Making views over slices.
 
 ghost use Rattle.std.specs.Prelude.{◌≡◌, ◌<◌, ◌≤◌, ◌↔◌, length, take, IsOk, IfOk, IsErrOf};
 ghost use Rattle.ndarray.specs.Errors.{refusal};

@@ -9,6 +9,8 @@ ghost use base.Fml.{GName, ffalse};
 ghost use Rattle.ndarray.specs.base.Slots.{held_at, kept, others, IsFilled, IsRun};
 ghost use Rattle.ndarray.specs.base.Strewn.{region_owns, region_lent, reading_lent};
 
+use crate::base::array::{ArrayBase, ArrayViewMut};
+use crate::base::dimension::Lengths;
 use crate::base::storage::{Data, DataMut, OwnedRepr, ViewRepr};
 use std::marker::{Model, PhantomData};
 use std::slice;
@@ -157,6 +159,12 @@ impl<M, A> DataMut for RegionRepr<M, A> {
         ensures value { held_at self.old.slots place ≡ Some result.now }
     {
         self.get_mut(place)
+    }
+
+    fn lend<D: Lengths>(array: &mut ArrayBase<Self, D>) -> ArrayViewMut<'_, A, D> {
+        let (layout, storage) = array.opened();
+        let layout = layout.copied();
+        ArrayBase { storage, layout }
     }
 
     ghost written_here = { λ r k w h. slot_set-here r.slots k w h };

@@ -3,8 +3,11 @@
 ghost use Rattle.std.specs.Prelude.{◌≡◌, ◌≢◌, ◌↔◌, ℕ, slice_get, Some, Option, IsTrue, IsOk, IfOk, IfErr, ⊤};
 ghost use Rattle.std.specs.Option.{is_some};
 ghost use Rattle.std.specs.Borrow.{sem};
+ghost use Rattle.ndarray.specs.Grid.{IsGrid};
 ghost use Rattle.ndarray.specs.base.Storage.{seen_at};
 
+use crate::base::array::{ArrayBase, ArrayViewMut};
+use crate::base::dimension::Lengths;
 use crate::base::region::Reading;
 use std::alloc::AllocError;
 
@@ -53,6 +56,11 @@ pub trait DataMut: Data {
         requires { IsTrue (is_some (Self.at self.old place)) }
         ensures* writes_back { sem 𝓛 (Lends Self.row Self.Elem.row self.entry result (with_element self.entry.now place)) }
         ensures value { Self.at self.old place ≡ Some result.now };
+
+    /// The cells of an array, to write in.
+    fn lend<D: Lengths>(array: &mut ArrayBase<Self, D>) -> ArrayViewMut<'_, Self::Elem, D>
+        ensures same { result ≡ array.old }
+        ensures whole { IsGrid result };
 
     // What is written at a place is the element there.
     ghost written_here: { (s : Self) (k : ℕ) (w : Self.Elem) → IsTrue (is_some (Self.at s k)) → Self.at (with_element s k w) k ≡ Some w };
@@ -167,6 +175,10 @@ impl<A: Drop> DataMut for OwnedRepr<A> {
 
     fn element_mut(&mut self, place: usize) -> &mut A {
         &mut self.items[place]
+    }
+
+    fn lend<D: Lengths>(array: &mut ArrayBase<Self, D>) -> ArrayViewMut<'_, A, D> {
+        array.parts_mut().into_view()
     }
 
     ghost written_here = { λ s k w h. slice_set-here s.items.items k w h };

@@ -20,12 +20,21 @@ impl<S: Data, D: Lengths> ArrayBase<S, D> {
         ensures value { result ≡ transposed self.now }
         ensures whole { IsGrid result }
     {
+        self.view().reversed_axes()
+    }
+
+    /// The same of the array itself: a view to write in stays one.
+    pub fn reversed_axes(self) -> ArrayBase<S, D>
+        ensures value { result ≡ transposed self }
+        ensures whole { IsGrid result }
+    {
+        let ArrayBase { storage, layout } = self;
         ArrayBase {
-            storage: self.storage.seen(),
+            storage,
             layout: Layout {
-                start: self.layout.start,
-                dim: reversed(&self.layout.dim),
-                strides: reversed(&self.layout.strides),
+                start: layout.start,
+                dim: reversed(&layout.dim),
+                strides: reversed(&layout.strides),
             },
         }
     }

@@ -2,7 +2,7 @@ use Rattle.std.proofs.Common.{◌∙◌, ap, sym}
 use Rattle.ndarray.specs.Broadcast.{squeezed}
 use Rattle.ndarray.specs.Grid.{cell, tabulate}
 use Rattle.ndarray.specs.base.Places.{Rearranges}
-use Rattle.ndarray.proofs.Places.{Reaches-same, length-cells_at}
+use Rattle.ndarray.proofs.Reached.{Reaches-same, length-cells_at}
 use Rattle.ndarray.proofs.Images.{Reaches-rearranged, grid-seen}
 use Rattle.ndarray.proofs.Stretching.{rearranges-stretched}
 use Rattle.ndarray.proofs.Verdicts.{from_yes}

@@ -3,7 +3,7 @@ use Rattle.std.proofs.lemmas.List.{take_all}
 use Rattle.ndarray.specs.Index.{size}
 use Rattle.ndarray.specs.Orders.{HasInOrder}
 use Rattle.ndarray.proofs.Cells.{cells_in-HasInOrder}
-use Rattle.ndarray.proofs.Places.{length-cells_at}
+use Rattle.ndarray.proofs.Reached.{length-cells_at}
 use Rattle.ndarray.proofs.Strides.{Reaches-slice, cells_in-slice}
 use Rattle.ndarray.proofs.base.array.ArrayBase.from_elements.Goals as goal
 

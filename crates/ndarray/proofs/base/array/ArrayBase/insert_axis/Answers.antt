@@ -1,7 +1,7 @@
 use Rattle.std.proofs.Common.{◌≤◌, arith, length, ap, refl, ◌∙◌}
 use Rattle.std.specs.Prelude.{insert, remove}
 use Rattle.ndarray.specs.base.Places.{Rearranges}
-use Rattle.ndarray.proofs.Places.{length-cells_at}
+use Rattle.ndarray.proofs.Reached.{length-cells_at}
 use Rattle.ndarray.proofs.Images.{Reaches-rearranged, grid-seen}
 use Rattle.ndarray.proofs.Items.{rearranges-inserted}
 use Rattle.ndarray.proofs.base.array.ArrayBase.insert_axis.Goals as goal

@@ -5,7 +5,7 @@ use Rattle.ndarray.specs.Views.{turned}
 use Rattle.ndarray.specs.base.Places.{Rearranges}
 use Rattle.ndarray.proofs.Cuts.{IsCut, IsCut-turned, rearranges-cut}
 use Rattle.ndarray.proofs.Images.{Reaches-rearranged, grid-seen}
-use Rattle.ndarray.proofs.Places.{length-cells_at}
+use Rattle.ndarray.proofs.Reached.{length-cells_at}
 use Rattle.ndarray.proofs.Sizes.{length-fits}
 use Rattle.ndarray.proofs.base.array.ArrayBase.invert_axis.Goals as goal
 

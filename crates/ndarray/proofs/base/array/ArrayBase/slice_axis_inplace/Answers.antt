@@ -7,7 +7,7 @@ use Rattle.ndarray.specs.Slices.{IsSliceOf, slice_index_at, slice_length}
 use Rattle.ndarray.specs.base.Places.{Rearranges}
 use Rattle.ndarray.proofs.Cuts.{IsCut, rearranges-cut}
 use Rattle.ndarray.proofs.Images.{Reaches-rearranged, grid-seen}
-use Rattle.ndarray.proofs.Places.{length-cells_at}
+use Rattle.ndarray.proofs.Reached.{length-cells_at}
 use Rattle.ndarray.proofs.Sizes.{length-fits}
 use Rattle.ndarray.proofs.Slices.{IsCut-slice}
 use Rattle.ndarray.proofs.base.array.ArrayBase.slice_axis_inplace.Goals as goal

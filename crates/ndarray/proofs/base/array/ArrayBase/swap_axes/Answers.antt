@@ -1,6 +1,6 @@
 use Rattle.std.proofs.Common.{◌<◌, arith, length, swap, ap, refl, ◌∙◌}
 use Rattle.ndarray.specs.base.Places.{Rearranges}
-use Rattle.ndarray.proofs.Places.{length-cells_at}
+use Rattle.ndarray.proofs.Reached.{length-cells_at}
 use Rattle.ndarray.proofs.Images.{Reaches-rearranged, grid-seen}
 use Rattle.ndarray.proofs.Swaps.{rearranges-swapped}
 use Rattle.ndarray.proofs.base.array.ArrayBase.swap_axes.Goals as goal

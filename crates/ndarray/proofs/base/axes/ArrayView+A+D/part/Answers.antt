@@ -2,7 +2,7 @@ use Rattle.std.proofs.Common.{◌<◌, ◌≤◌, ◌+◌, arith, length, get_or
 use Rattle.ndarray.specs.base.Places.{Rearranges}
 use Rattle.ndarray.specs.base.Storage.{seen_at}
 use Rattle.ndarray.proofs.Cuts.{IsCut-part, rearranges-cut}
-use Rattle.ndarray.proofs.Places.{length-cells_at}
+use Rattle.ndarray.proofs.Reached.{length-cells_at}
 use Rattle.ndarray.proofs.Sizes.{length-fits}
 use Rattle.ndarray.proofs.Images.{Reaches-rearranged, grid-seen}
 use Rattle.ndarray.proofs.base.axes.ArrayView+A+D.part.Goals as goal

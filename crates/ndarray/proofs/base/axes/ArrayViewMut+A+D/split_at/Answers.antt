@@ -6,7 +6,7 @@ use Rattle.ndarray.specs.base.Portions.{Spot, spot}
 use Rattle.ndarray.specs.base.Slots.{held_at}
 use Rattle.ndarray.proofs.Cuts.{IsCut-part, rearranges-cut, cuts-apart}
 use Rattle.ndarray.proofs.Images.{grid-seen}
-use Rattle.ndarray.proofs.Places.{length-cells_at}
+use Rattle.ndarray.proofs.Reached.{length-cells_at}
 use Rattle.ndarray.proofs.Portions.{SharesBoth, SharesBoth-images, one-reaches, one-seen, other-reaches, other-seen}
 use Rattle.ndarray.proofs.Sizes.{length-fits}
 use Rattle.ndarray.proofs.base.axes.ArrayViewMut+A+D.split_at.Goals as goal

@@ -1,7 +1,7 @@
 use Rattle.std.proofs.Common.{arith, subst}
 use Rattle.ndarray.specs.Orders.{HasInOrder}
 use Rattle.ndarray.proofs.Cells.{cells_in-HasInOrder}
-use Rattle.ndarray.proofs.Places.{length-cells_at}
+use Rattle.ndarray.proofs.Reached.{length-cells_at}
 use Rattle.ndarray.proofs.Strides.{Reaches-slice, cells_in-slice}
 use Rattle.ndarray.proofs.Verdicts.{from_yes}
 use Rattle.ndarray.proofs.base.making.ArrayView+A+D.from_shape.Goals as goal

@@ -1,0 +1,3 @@
+-- What only `places` speaks of: elements that are moved out.
+pub mod Emptying
+pub mod Moving

@@ -1,0 +1,64 @@
+//! Views to write in.
+
+ghost use Rattle.std.specs.Prelude.{◌≡◌, [], ◌∷◌, length, slice_get, ⊤};
+ghost use Rattle.std.specs.Borrow.{sem};
+ghost use Rattle.ndarray.specs.Grid.{IsGrid, line};
+ghost use Rattle.ndarray.specs.base.Places.{grid_at, places_at, Reaches};
+ghost use Rattle.ndarray.specs.base.Parts.{follows_places};
+
+use crate::base::array::{Array, ArrayBase, ArrayViewMut};
+use crate::base::dimension::Lengths;
+use crate::base::layout::Layout;
+use crate::base::region::RegionRepr;
+use crate::base::storage::DataMut;
+
+/// A view to write in before it is one: the elements, and how the cells lie among them.
+#[derive(Drop)]
+pub(crate) struct Parts<'a, A, D: Lengths> {
+    pub(super) slice: &'a mut [A],
+    pub(super) layout: Layout<D>,
+}
+
+impl<A: Drop, D: Lengths> Array<A, D> {
+    /// The elements of the array, and how its cells lie among them.
+    ///
+    /// Once the loan of the elements has ended, the array has at each place what was written there.
+    pub(crate) fn parts_mut(&mut self) -> Parts<'_, A, D>
+        ensures* writes_back { sem 𝓛 (follows_places A.row D.row D.Lengths self.entry result.slice.ghost_name (places_at (D.numbers result.layout.dim) result.layout.start (D.numbers result.layout.strides))) }
+        ensures reaches { Reaches ⊤ (slice_get result.slice.now) (D.numbers result.layout.dim) result.layout.start (D.numbers result.layout.strides) }
+        ensures same { grid_at (slice_get result.slice.now) (D.numbers result.layout.dim) result.layout.start (D.numbers result.layout.strides) ≡ self.old }
+    {
+        let layout = self.layout.copied();
+        Parts {
+            layout,
+            slice: self.storage.items.as_mut_slice(),
+        }
+    }
+}
+
+impl<'a, A, D: Lengths> Parts<'a, A, D> {
+    /// The view of these cells.
+    pub(crate) fn into_view(self) -> ArrayViewMut<'a, A, D>
+        requires { Reaches ⊤ (slice_get self.slice.now) (D.numbers self.layout.dim) self.layout.start (D.numbers self.layout.strides) }
+        ensures same { result ≡ grid_at (slice_get self.entry.slice.now) (D.numbers self.entry.layout.dim) self.entry.layout.start (D.numbers self.entry.layout.strides) }
+        ensures whole { IsGrid result }
+    {
+        let Parts { slice, layout } = self;
+        ArrayBase {
+            storage: RegionRepr::of(slice),
+            layout,
+        }
+    }
+}
+
+impl<S: DataMut, D: Lengths> ArrayBase<S, D> {
+    /// A view to write in, of the same lengths and cells.
+    ///
+    /// What is written through it is what the array holds when the view has ended.
+    pub fn view_mut(&mut self) -> ArrayViewMut<'_, S::Elem, D>
+        ensures same { result ≡ self.old }
+        ensures whole { IsGrid result }
+    {
+        S::lend(self)
+    }
+}

@@ -1,0 +1,4 @@
+//! Elements that are moved out of their storage by place.
+pub mod block;
+pub mod emptying;
+pub mod move_out;
