@@ -91,3 +91,18 @@ module _ {A one : Type 0} (two : Type 0) (held : ℕ → Option A) (ns : List �
     same = cut-same;
     nested = λ _. nested-cut ns bs k len step h.as_many lt cut.fewer cut.near cut.moves;
   }
+
+-- of two cuts that keep different places of the axis, no index lists are one
+pub cuts-apart : (ns : List ℕ) (k : ℕ) → k < length ns → (len len' : ℕ) (at at' : ℕ → ℕ) → ((i j : ℕ) → i < len → j < len' → at i ≡ at' j → ⊥) → (is js : List ℕ) → InBox (set ns k len) is → InBox (set ns k len') js → set is k (at (get_or is k 0)) ≡ set js k (at' (get_or js k 0)) → ⊥
+cuts-apart ns k lt len len' at at' differ is js bi bj e =
+    let li = InBox-length (set ns k len) is bi in
+    let lj = InBox-length (set ns k len') js bj in
+    let ln = length-set ns k len in
+    let ln' = length-set ns k len' in
+    let gi = InBox-get (set ns k len) is k bi (omega arith) in
+    let gj = InBox-get (set ns k len') js k bj (omega arith) in
+    let there = get_or-set_same ns k len 0 lt in
+    let there' = get_or-set_same ns k len' 0 lt in
+    let ei : get_or (set is k (at (get_or is k 0))) k 0 ≡ at (get_or is k 0) = get_or-set_same is k (at (get_or is k 0)) 0 (omega arith) in
+    let ej : get_or (set js k (at' (get_or js k 0))) k 0 ≡ at' (get_or js k 0) = get_or-set_same js k (at' (get_or js k 0)) 0 (omega arith) in
+    differ (get_or is k 0) (get_or js k 0) (omega arith) (omega arith) (sym ei ∙ (ap (λ xs. get_or xs k 0) e ∙ ej))

@@ -6,6 +6,7 @@ pub mod Nested
 pub mod Opened
 pub mod Parts
 pub mod Places
+pub mod Portions
 pub mod Pushed
 pub mod Slots
 pub mod Storage

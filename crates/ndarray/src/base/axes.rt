@@ -201,3 +201,36 @@ impl<'a, A, D: Lengths> ArrayView<'a, A, D> {
         part
     }
 }
+
+impl<'a, A, D: Lengths> ArrayViewMut<'a, A, D> {
+    /// The first `index` places of an axis, and the rest. No cell is in both.
+    ///
+    /// The caller owes an axis below the number of axes (the test is `axis_ok`) and an index that is
+    /// at most its length.
+    pub fn split_at(self, axis: Axis, index: usize) -> (Self, Self)
+        requires axis { axis.0 < length self.lengths }
+        requires within { index ≤ slice_index self.lengths axis.0 }
+        ensures first { result.0 ≡ axis_part self.entry axis.0 0 index }
+        ensures second { result.1 ≡ axis_part self.entry axis.0 index (slice_index self.entry.lengths axis.0) }
+        ensures first_whole { IsGrid result.0 }
+        ensures second_whole { IsGrid result.1 }
+    {
+        let ArrayBase { storage, layout } = self;
+        let len = layout.dim.axis(axis.0);
+        let mut first = layout.copied();
+        first.cut(axis.0, 0, index, 1);
+        let mut second = layout;
+        second.cut(axis.0, index, len - index, 1);
+        let (here, rest) = storage.split(&first);
+        (
+            ArrayBase {
+                storage: here,
+                layout: first,
+            },
+            ArrayBase {
+                storage: rest,
+                layout: second,
+            },
+        )
+    }
+}
