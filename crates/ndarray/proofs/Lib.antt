@@ -10,6 +10,7 @@ pub mod Emptying
 pub mod Filled
 pub mod Images
 pub mod Items
+pub mod Lent
 pub mod LentAgain
 pub mod Lines
 pub mod Lists

@@ -1,8 +1,8 @@
 -- The places of a slice that are held, and those of its parts.
-use Rattle.std.proofs.Common.{◌≡◌, IsTrue, ℕ, zero, suc, ◌<◌, Bool, true, false, List, [], ◌∷◌, Option, Some, None, map, get_or, refl, ap, length, take, drop, arith}
+use Rattle.std.proofs.Common.{◌≡◌, ◌≢◌, IsTrue, ℕ, zero, suc, ◌<◌, Bool, true, false, List, [], ◌∷◌, Option, Some, None, map, get_or, refl, ap, length, take, drop, arith}
 use Rattle.std.specs.Option.{is_some}
 use lib.ListN.{set}
-use Rattle.ndarray.specs.base.Slots.{somes, kept, others}
+use Rattle.ndarray.specs.base.Slots.{somes, held_at, only_at, kept, others}
 
 pub filled_within : {X : Type 0} (cs : List (Option X)) (i : ℕ) (x : X) → get_or cs i None ≡ Some x → i < length cs
 filled_within [] i x e = cc
@@ -75,3 +75,22 @@ still_held (Some c ∷ cs) [] zero h = h
 still_held (Some c ∷ cs) [] (suc p) h = still_held cs [] p h
 still_held (Some c ∷ cs) (w ∷ ws) zero h = refl
 still_held (Some c ∷ cs) (w ∷ ws) (suc p) h = still_held cs ws p h
+
+-- ---- one place and the others
+
+pub kept-only : {X : Type 0} (cs : List (Option X)) (i : ℕ) → held_at (kept (only_at i) cs) i ≡ held_at cs i
+kept-only [] i = refl
+kept-only (c ∷ cs) zero = refl
+kept-only (c ∷ cs) (suc i) = kept-only cs i
+
+pub others-only : {X : Type 0} (cs : List (Option X)) (i p : ℕ) → p ≢ i → held_at (others (only_at i) cs) p ≡ held_at cs p
+others-only [] i p h = refl
+others-only (c ∷ cs) zero zero h = absurd (h refl)
+others-only (c ∷ cs) zero (suc p) h = others-none cs p
+  where
+    others-none : {X : Type 0} (ds : List (Option X)) (q : ℕ) → held_at (others [] ds) q ≡ held_at ds q
+    others-none [] q = refl
+    others-none (d ∷ ds) zero = refl
+    others-none (d ∷ ds) (suc q) = others-none ds q
+others-only (c ∷ cs) (suc i) zero h = refl
+others-only (c ∷ cs) (suc i) (suc p) h = others-only cs i p (λ e. h (ap (λ n. suc n) e))

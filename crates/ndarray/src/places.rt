@@ -1,4 +1,5 @@
 //! Elements that are moved out of their storage by place.
 pub mod block;
 pub mod emptying;
+pub mod lent;
 pub mod move_out;

@@ -1,5 +1,5 @@
 -- Inside `base`: some of the places of a slice. A place that is held has its value, another is `None`.
-use Rattle.std.specs.Prelude.{◌≡◌, ℕ, ◌+◌, ◌≤◌, length, take, drop, map, Bool, true, false, List, [], ◌∷◌, Option, Some, None, get_or}
+use Rattle.std.specs.Prelude.{◌≡◌, ℕ, ◌+◌, ◌≤◌, length, take, drop, map, replicate, ◌++◌, Bool, true, false, List, [], ◌∷◌, Option, Some, None, get_or}
 
 module _ {X : Type 0} where
   -- the values that are held
@@ -45,3 +45,7 @@ module _ {X : Type 0} where
   weave (true ∷ m) (Some c ∷ cs) (x ∷ xs) ys = x ∷ weave m cs xs ys
   weave (false ∷ m) (Some c ∷ cs) xs [] = []
   weave (false ∷ m) (Some c ∷ cs) xs (y ∷ ys) = y ∷ weave m cs xs ys
+
+-- the mask of one place
+abbrev pub only_at : ℕ → List Bool
+only_at i = replicate i false ++ true ∷ []

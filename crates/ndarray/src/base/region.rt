@@ -3,7 +3,7 @@
 //! A region is split by places, and its parts live side by side. Raw pointers stay inside `of`,
 //! `into_mut`, `get_mut`, `shared` and `Reading::slice`.
 
-ghost use Rattle.std.specs.Prelude.{◌≡◌, Bool, List, Option, Some, map, take, drop};
+ghost use Rattle.std.specs.Prelude.{◌≡◌, ◌≢◌, ℕ, Bool, List, Option, Some, map, take, drop};
 ghost use Rattle.std.specs.Borrow.{sem};
 ghost use base.Fml.{GName, ffalse};
 ghost use Rattle.ndarray.specs.base.Slots.{held_at, kept, others, IsFilled, IsRun};
@@ -13,6 +13,7 @@ use crate::base::array::{ArrayBase, ArrayViewMut};
 use crate::base::dimension::Lengths;
 use crate::base::storage::{Data, DataMut, OwnedRepr, ViewRepr};
 use std::marker::{Model, PhantomData};
+use std::mem::replace;
 use std::slice;
 
 /// A lifetime as a type.
@@ -67,6 +68,18 @@ impl<'a, A> RegionRepr<Life<'a>, A> {
     {
         let RegionRepr { ptr, mark: _ } = self;
         unsafe { &mut *ptr.add(place) }
+    }
+
+    /// The element at one place, for as long as the slice was lent; the place is then no longer held.
+    pub(crate) fn take(&mut self, place: usize) -> &'a mut A
+        requires { IsFilled self.old.slots place }
+        ensures value { held_at self.old.slots place ≡ Some result.now }
+        ensures rest { (p : ℕ) → p ≢ place → held_at self.new.slots p ≡ held_at self.old.slots p }
+    {
+        let whole = replace(self, RegionRepr::of(&mut []));
+        let (one, rest) = whole.split(&place);
+        *self = rest;
+        one.into_mut(place)
     }
 }
 

@@ -1,0 +1,112 @@
+-- Cells that are lent one after another: the next one, the last one, and all cells of an array.
+use Rattle.std.proofs.Common.{◌≡◌, ◌≢◌, ℕ, suc, ◌<◌, List, [], ◌∷◌, ◌++◌, length, zip, get_or, Option, Some, refl, sym, ◌∙◌, ap, arith, subst}
+use Rattle.std.specs.Prelude.{filter_map, All, AllPairs, Contains, IsTrue, ⊤}
+use Rattle.std.specs.Option.{is_some}
+use Rattle.std.proofs.lemmas.List.{get_or_append_left, length-append}
+use Rattle.std.proofs.lemmas.List.Elements.{All-tail, filter_map-append}
+use Rattle.ndarray.specs.Index.{InBox, row_order, IsBefore}
+use Rattle.ndarray.specs.base.Places.{place, Reaches}
+use Rattle.ndarray.specs.places.Lent.{along, AreLent}
+use Rattle.ndarray.proofs.Boxes.{InBox-length}
+use Rattle.ndarray.proofs.Lists.{some-of, filter_map-same, length-filter_map_all, get_or-append-last}
+use Rattle.ndarray.proofs.NestedPlaces.{Reaches-apart}
+use Rattle.ndarray.proofs.Orders.{row_order-is, IsBefore-not_itself}
+use Rattle.ndarray.proofs.Pairs.{AllPairs-tail}
+
+zip-push : {X Y : Type 0} (xs : List X) (ys : List Y) (x : X) (y : Y) → length xs ≡ length ys → zip (xs ++ x ∷ []) (ys ++ y ∷ []) ≡ zip xs ys ++ (x, y) ∷ []
+zip-push [] [] x y l = refl
+zip-push [] (z ∷ ys) x y l = absurd (omega arith)
+zip-push (z ∷ xs) [] x y l = absurd (omega arith)
+zip-push (z ∷ xs) (v ∷ ys) x y l = ap (λ ps. (z, v) ∷ ps) (zip-push xs ys x y (omega arith))
+
+-- all cells of an array, in row order
+pub AreLent-all : {A : Type 0} (at : ℕ → Option A) (ns : List ℕ) (start : ℕ) (bs : List ℕ) → Reaches ⊤ at ns start bs → AreLent at start bs (row_order ns)
+AreLent-all at ns start bs h =
+    let o = row_order-is ns in
+    record {
+      as_many = λ k d lt. let l = InBox-length ns _ (o.within k d lt) in let m = h.as_many in omega arith;
+      held = λ k d lt. h.inside _ (o.within k d lt);
+      once = λ i j d lt lj e. IsBefore-not_itself _ (subst (IsBefore (get_or (row_order ns) i d)) (sym (Reaches-apart at ns start bs h tt _ _ (o.within i d (omega arith)) (o.within j d lj) e)) (o.rising i j d lt lj));
+    }
+
+module _ {A : Type 0} (at : ℕ → Option A) (start : ℕ) (bs : List ℕ) where
+  -- as many cells as index lists
+  pub length-along_lent : (iss : List (List ℕ)) → AreLent at start bs iss → length (along at start bs iss) ≡ length iss
+  length-along_lent iss h = length-filter_map_all (λ is. at (place start bs is)) iss (λ k d lt. some-of _ (h.held k d lt))
+
+  first-apart : (is : List ℕ) (rest : List (List ℕ)) → AreLent at start bs (is ∷ rest) → All (λ js. place start bs js ≢ place start bs is) rest
+  first-apart is rest h k d lt = λ e. h.once 0 (suc k) d (omega arith) (omega arith) (sym e)
+
+  last-apart : (is : List ℕ) (rest : List (List ℕ)) → AreLent at start bs (rest ++ is ∷ []) → All (λ js. place start bs js ≢ place start bs is) rest
+  last-apart is rest h k d lt = λ e.
+      let l = length-append rest (is ∷ []) in
+      h.once k (length rest) d lt (omega arith)
+      (ap (place start bs) (get_or_append_left rest (is ∷ []) d k lt) ∙ (e ∙ sym (ap (place start bs) (get_or-append-last rest is d))))
+
+  -- the next of them, and the last, reach an element
+  pub lent-next : (is : List ℕ) (iss rest : List (List ℕ)) → AreLent at start bs iss → iss ≡ is ∷ rest → (x : A) × (at (place start bs is) ≡ Some x)
+  lent-next is iss rest h e = let g = subst (AreLent at start bs) e h in some-of _ (g.held 0 is (omega arith))
+
+  pub lent-next_back : (is : List ℕ) (iss rest : List (List ℕ)) → AreLent at start bs iss → iss ≡ rest ++ is ∷ [] → (x : A) × (at (place start bs is) ≡ Some x)
+  lent-next_back is iss rest h e =
+      let g = subst (AreLent at start bs) e h in
+      let l = length-append rest (is ∷ []) in
+      subst (λ js. (x : A) × (at (place start bs js) ≡ Some x)) (get_or-append-last rest is is) (some-of _ (g.held (length rest) is (omega arith)))
+
+  AreLent-rest : (is : List ℕ) (rest : List (List ℕ)) → AreLent at start bs (is ∷ rest) → AreLent at start bs rest
+  AreLent-rest is rest h = record {
+    as_many = All-tail (λ js. length bs ≡ length js) is rest h.as_many;
+    held = All-tail (λ js. IsTrue (is_some (at (place start bs js)))) is rest h.held;
+    once = AllPairs-tail (λ js ks. place start bs js ≡ place start bs ks → ⊥) is rest h.once;
+  }
+
+  AreLent-beginning : (is : List ℕ) (rest : List (List ℕ)) → AreLent at start bs (rest ++ is ∷ []) → AreLent at start bs rest
+  AreLent-beginning is rest h =
+      let l = length-append rest (is ∷ []) in
+      let same = λ (k : ℕ) (d : List ℕ) (lt : k < length rest). get_or_append_left rest (is ∷ []) d k lt in
+      record {
+        as_many = λ k d lt. subst (λ js. length bs ≡ length js) (same k d lt) (h.as_many k d (omega arith));
+        held = λ k d lt. subst (λ js. IsTrue (is_some (at (place start bs js)))) (same k d lt) (h.held k d (omega arith));
+        once = λ i j d lt lj e. h.once i j d lt (omega arith) (ap (place start bs) (same i d (omega arith)) ∙ (e ∙ sym (ap (place start bs) (same j d lj))));
+      }
+
+module _ {A : Type 0} (at after : ℕ → Option A) (start : ℕ) (bs is : List ℕ) (others : (p : ℕ) → p ≢ place start bs is → after p ≡ at p) where
+  -- what is still to come when the cell at is was lent, which none of it reaches
+  along-later : (iss : List (List ℕ)) → All (λ js. place start bs js ≢ place start bs is) iss → along after start bs iss ≡ along at start bs iss
+  along-later iss apart = filter_map-same (λ js. after (place start bs js)) (λ js. at (place start bs js)) (λ js. place start bs js ≢ place start bs is) iss (λ js ne. others (place start bs js) ne) apart
+
+  AreLent-later : (iss : List (List ℕ)) → All (λ js. place start bs js ≢ place start bs is) iss → AreLent at start bs iss → AreLent after start bs iss
+  AreLent-later iss apart h = record {
+    as_many = h.as_many;
+    held = λ k d lt. subst (λ o. IsTrue (is_some o)) (sym (others _ (apart k d lt))) (h.held k d lt);
+    once = h.once;
+  }
+
+  module _ (iss rest : List (List ℕ)) (x : A) (h : AreLent at start bs iss) (here : at (place start bs is) ≡ Some x) where
+    -- the first of them is lent
+    pub AreLent-next : iss ≡ is ∷ rest → AreLent after start bs rest
+    AreLent-next e =
+        let g = subst (AreLent at start bs) e h in
+        AreLent-later rest (first-apart at start bs is rest g) (AreLent-rest at start bs is rest g)
+
+    pub zip-next : iss ≡ is ∷ rest → zip iss (along at start bs iss) ≡ (is, x) ∷ zip rest (along after start bs rest)
+    zip-next e =
+        let g = subst (AreLent at start bs) e h in
+        let l = along-later rest (first-apart at start bs is rest g) in
+        rw (e, here, l) refl
+
+    -- the last of them is lent
+    pub AreLent-next_back : iss ≡ rest ++ is ∷ [] → AreLent after start bs rest
+    AreLent-next_back e =
+        let g = subst (AreLent at start bs) e h in
+        AreLent-later rest (last-apart at start bs is rest g) (AreLent-beginning at start bs is rest g)
+
+    pub zip-next_back : iss ≡ rest ++ is ∷ [] → zip iss (along at start bs iss) ≡ zip rest (along after start bs rest) ++ (is, x) ∷ []
+    zip-next_back e =
+        let g = subst (AreLent at start bs) e h in
+        let b = AreLent-beginning at start bs is rest g in
+        let l = along-later rest (last-apart at start bs is rest g) in
+        let one : along at start bs (is ∷ []) ≡ x ∷ [] = rw here refl in
+        let cells = filter_map-append (λ js. at (place start bs js)) rest (is ∷ []) ∙ ap (λ ys. along at start bs rest ++ ys) one in
+        let n = length-along_lent at start bs rest b in
+        rw (e, l) (ap (zip (rest ++ is ∷ [])) cells ∙ zip-push rest (along at start bs rest) is x (sym n))

@@ -1,0 +1,22 @@
+use Rattle.std.proofs.Common.{◌≡◌, zip, ap, ◌∙◌, subst, sym}
+use Rattle.ndarray.specs.Index.{row_order}
+use Rattle.ndarray.specs.base.Places.{cells_at}
+use Rattle.ndarray.specs.base.Slots.{held_at}
+use Rattle.ndarray.specs.places.Lent.{along, AreLent}
+use Rattle.ndarray.proofs.Lent.{AreLent-all}
+use Rattle.ndarray.proofs.places.lent.Places.new.Goals as goal
+
+walked : (g : _) (c : goal.After-new-walk g) → c.new-walk.result ≡ row_order (g.D.Lengths.numbers c.view.inside.layout.dim)
+walked g c = c.new-walk.ensures.list ∙ ap row_order c.copied.ensures
+
+pub invariant_of-result : goal.invariant_of-result
+invariant_of-result g c =
+    let a = c.view.inside in
+    subst (AreLent (held_at a.storage.slots) a.layout.start (g.D.Lengths.numbers a.layout.strides)) (sym (walked g c)) (AreLent-all (held_at a.storage.slots) (g.D.Lengths.numbers a.layout.dim) a.layout.start (g.D.Lengths.numbers a.layout.strides) c.view.invariant)
+
+pub returns : goal.returns
+unfolding cells_at
+returns g c =
+    let a = c.view.inside in
+    ap (λ iss. zip iss (along (held_at a.storage.slots) a.layout.start (g.D.Lengths.numbers a.layout.strides) iss)) (walked g c)
+    ∙ ap (λ v. zip (row_order v.lengths) v.cells) c.view.view_is

@@ -1,0 +1,14 @@
+-- Cells that are lent one after another, along a list of index lists.
+use Rattle.std.specs.Prelude.{◌≡◌, ℕ, List, length, filter_map, Option, All, AllPairs, IsTrue}
+use Rattle.std.specs.Option.{is_some}
+use Rattle.ndarray.specs.base.Places.{place}
+
+-- the elements at the places of the index lists
+abbrev pub along : {A : Type 0} → (ℕ → Option A) → ℕ → List ℕ → List (List ℕ) → List A
+along at start bs iss = filter_map (λ is. at (place start bs is)) iss
+
+-- each index list has as many numbers as there are strides, and reaches an element that no later one reaches
+pub record AreLent {A : Type 0} (at : ℕ → Option A) (start : ℕ) (bs : List ℕ) (iss : List (List ℕ)) : Type 0 where
+  pub as_many : All (λ is. length bs ≡ length is) iss
+  pub held : All (λ is. IsTrue (is_some (at (place start bs is)))) iss
+  pub once : AllPairs (λ is js. place start bs is ≡ place start bs js → ⊥) iss
