@@ -9,6 +9,7 @@ pub mod Deeds
 pub mod Emptying
 pub mod Filled
 pub mod Images
+pub mod Indexed
 pub mod Items
 pub mod Lent
 pub mod LentAgain

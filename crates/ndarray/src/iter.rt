@@ -6,13 +6,17 @@ ghost use Rattle.std.specs.Iterator.SizeHint.{IsExactHint, IsWithinCount};
 ghost use Rattle.ndarray.specs.Orders.{HasInOrder};
 ghost use Rattle.ndarray.specs.declared.base.shape.Order.TheVariants.{RowMajor};
 
+pub mod cells_mut;
 pub mod elements;
+pub mod elements_mut;
 pub mod indexed;
 
 use crate::base::array::ArrayBase;
 use crate::base::dimension::{Ix1, Lengths};
 use crate::base::storage::Data;
+pub use crate::iter::cells_mut::{IndexedIterMut, IterMut};
 pub use crate::iter::elements::ElementsBase;
+pub use crate::iter::elements_mut::ElementsBaseMut;
 pub use crate::iter::indexed::IndexedIter;
 pub use crate::subviews::axis::AxisIter;
 pub use crate::subviews::axis_chunks::AxisChunksIter;

@@ -3,6 +3,7 @@
 mod base;
 mod chunks;
 mod iter;
+mod iter_mut;
 mod lanes;
 mod layouts;
 mod order;

@@ -2,7 +2,9 @@
 
 ghost use Rattle.std.specs.Prelude.{◌≡◌, length, zip};
 ghost use Rattle.std.specs.Iterator.{YieldsFirstBy, YieldsLastBy};
+ghost use Rattle.ndarray.specs.Grid.{IsGrid};
 ghost use Rattle.ndarray.specs.Index.{row_order};
+ghost use Rattle.ndarray.specs.Limits.{IsWithinLimit};
 
 use crate::base::array::{ArrayBase, ArrayViewMut};
 use crate::base::dimension::{Ix1, Lengths};
@@ -35,7 +37,9 @@ impl<'a, A, D: Lengths> Model for Places<'a, A, D> {
 impl<'a, A, D: Lengths> Places<'a, A, D> {
     /// The cells of a view in row order.
     pub(crate) fn new(view: ArrayViewMut<'a, A, D>) -> Self
-        ensures { result ≡ zip (row_order view.entry.lengths) view.entry.cells }
+        ensures list { result ≡ zip (row_order view.entry.lengths) view.entry.cells }
+        ensures whole { IsGrid view.entry }
+        ensures limit { IsWithinLimit view.entry.lengths }
     {
         let ArrayBase { storage, layout } = view;
         let walk = Walk::new(layout.dim.copied(), Order::RowMajor);

@@ -6,7 +6,7 @@ use Rattle.ndarray.specs.Index.{IsRowOrder, row_order}
 use Rattle.ndarray.specs.Grid.{HasCells, cell}
 use Rattle.ndarray.proofs.Cells.{all-cells, along-row_order, HasCells-row_order}
 use Rattle.ndarray.proofs.Lists.{zip-filter_map}
-use Rattle.ndarray.proofs.Orders.{length-row_order, row_order-is}
+use Rattle.ndarray.proofs.Indexed.{indexed-row_order, indexed-cells, indexed-own, indexed-fits}
 use Rattle.ndarray.proofs.Sizes.{size-le}
 use Rattle.ndarray.proofs.base.array.ArrayBase.indexed_iter.Goals as goal
 
@@ -24,31 +24,13 @@ returns-clause-list g c =
     rw (walked g c, c.view.ensures.same) (ap (zip (row_order v.lengths)) (along-row_order v c.raw_dim.ensures.whole))
 
 pub returns-clause-row_order : goal.returns-clause-row_order
-returns-clause-row_order g c =
-    let v = c.args.self.now in
-    let l = length-row_order v.lengths in
-    let w = c.raw_dim.ensures.whole in
-    subst (IsRowOrder v.lengths) (sym (ap (map (λ (p : List ℕ × _). p.0)) (returns-clause-list g c) ∙ firsts-zip (row_order v.lengths) v.cells (omega arith))) (row_order-is v.lengths)
+returns-clause-row_order g c = indexed-row_order c.args.self.now c.raw_dim.ensures.whole _ (returns-clause-list g c)
 
 pub returns-clause-cells : goal.returns-clause-cells
-returns-clause-cells g c =
-    let v = c.args.self.now in
-    let l = length-row_order v.lengths in
-    let w = c.raw_dim.ensures.whole in
-    ap (map (λ (p : List ℕ × _). p.1)) (returns-clause-list g c) ∙ seconds-zip (row_order v.lengths) v.cells (omega arith)
+returns-clause-cells g c = indexed-cells c.args.self.now c.raw_dim.ensures.whole _ (returns-clause-list g c)
 
 pub returns-clause-own_cells : goal.returns-clause-own_cells
-returns-clause-own_cells g c =
-    let v = c.args.self.now in
-    let h = HasCells-row_order v c.raw_dim.ensures.whole in
-    let e = returns-clause-list g c ∙ ap (zip (row_order v.lengths)) (sym (along-row_order v h.whole)) in
-    All-same (λ p. cell v p.0 ≡ Some p.1) _ _ e (zip-filter_map (cell v) (row_order v.lengths) (all-cells v h.whole _ h.within))
+returns-clause-own_cells g c = indexed-own c.args.self.now c.raw_dim.ensures.whole _ (returns-clause-list g c)
 
 pub returns-clause-fits : goal.returns-clause-fits
-returns-clause-fits g c =
-    let v = c.args.self.now in
-    let l = ap length (returns-clause-list g c) ∙ length-zip (row_order v.lengths) v.cells in
-    let n = length-row_order v.lengths in
-    let m = c.raw_dim.ensures.limit in
-    let s = size-le v.lengths in
-    omega arith
+returns-clause-fits g c = indexed-fits c.args.self.now c.raw_dim.ensures.whole _ (returns-clause-list g c) c.raw_dim.ensures.limit

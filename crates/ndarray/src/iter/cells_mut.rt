@@ -1,0 +1,185 @@
+//! The iterators over cells to write to.
+
+ghost use Rattle.std.specs.Prelude.{◌≡◌, ◌<◌, ◌^◌, length, map, zip, IfSome, All, Some};
+ghost use Rattle.std.specs.Iterator.{YieldsFirstBy, YieldsFirstMut, YieldsLastMut, UpTo, item_count};
+ghost use Rattle.std.specs.Iterator.SizeHint.{IsExactHint, IsWithinCount};
+ghost use Rattle.ndarray.specs.Grid.{cell};
+ghost use Rattle.ndarray.specs.Index.{IsRowOrder, row_order};
+ghost use Rattle.ndarray.specs.Orders.{HasInOrder};
+ghost use Rattle.ndarray.specs.declared.base.shape.Order.TheVariants.{RowMajor};
+
+use crate::base::array::{ArrayBase, ArrayViewMut};
+use crate::base::dimension::{Dimension, Ix1, Lengths};
+use crate::base::storage::DataMut;
+use crate::iter::elements_mut::ElementsBaseMut;
+use crate::places::lent::Places;
+use std::iter::ExactSizeIterator;
+use std::marker::Model;
+
+/// The cells of an array that are still to come, to write to, in row order.
+///
+/// An iterator takes no memory, and neither does any of its steps.
+#[derive(Drop)]
+pub struct IterMut<'a, A, D: Lengths> {
+    elements: ElementsBaseMut<'a, A, D>,
+}
+
+impl<'a, A, D: Lengths> Model for IterMut<'a, A, D> {
+    ghost use Rattle.std.specs.Prelude.{List, ⊤};
+
+    ghost Value = { List A };
+
+    ghost view = { λ s. s.elements };
+
+    ghost invariant = { λ _. ⊤ };
+}
+
+impl<S: DataMut, D: Lengths> ArrayBase<S, D> {
+    /// The cells to write to, in row order, whatever the strides.
+    ///
+    /// ```
+    /// for cell in array.iter_mut() {
+    ///     *cell += 1;
+    /// }
+    /// ```
+    pub fn iter_mut(&mut self) -> IterMut<'_, S::Elem, D>
+        ensures row_order { HasInOrder RowMajor self.old result }
+        ensures cells { result ≡ self.old.cells }
+        ensures fits { length result < 2 ^ 63 }
+    {
+        IterMut {
+            elements: ElementsBaseMut::new(self.view_mut()),
+        }
+    }
+}
+
+impl<'a, A: 'a, D: Lengths> Iterator for IterMut<'a, A, D> {
+    type Item = &'a mut A;
+
+    ghost next_gives = { YieldsFirstMut (λ rest. rest) };
+
+    ghost remaining = { item_count (λ rest. rest) };
+
+    fn next(&mut self) -> Option<&'a mut A> {
+        self.elements.next()
+    }
+
+    fn size_hint(&self) -> (usize, Option<usize>)
+        ensures lower { IsWithinCount result.0 (item_count (λ rest. rest) self.now) }
+        ensures upper { IfSome result.1 (UpTo (item_count (λ rest. rest) self.now)) }
+        ensures exact { IsExactHint result (length self.now) }
+    {
+        self.elements.size_hint()
+    }
+}
+
+impl<'a, A: 'a, D: Lengths> ExactSizeIterator for IterMut<'a, A, D> {
+    fn len(&self) -> usize {
+        self.elements.len()
+    }
+}
+
+impl<'a, A: 'a> DoubleEndedIterator for IterMut<'a, A, Ix1> {
+    ghost next_back_gives = { YieldsLastMut (λ rest. rest) };
+
+    fn next_back(&mut self) -> Option<&'a mut A> {
+        self.elements.next_back()
+    }
+}
+
+/// The cells of an array that are still to come in row order, to write to, each beside its index list.
+///
+/// An iterator takes no memory, and neither does any of its steps.
+#[derive(Drop)]
+pub struct IndexedIterMut<'a, A, D: Lengths> {
+    places: Places<'a, A, D>,
+}
+
+impl<'a, A, D: Lengths> Model for IndexedIterMut<'a, A, D> {
+    ghost use Rattle.std.specs.Prelude.{ℕ, List, ⊤};
+
+    ghost Value = { List (List ℕ × A) };
+
+    ghost view = { λ s. s.places };
+
+    ghost invariant = { λ _. ⊤ };
+}
+
+impl<S: DataMut, D: Dimension> ArrayBase<S, D> {
+    /// The cells to write to, in row order, whatever the strides, each beside the pattern of its index
+    /// list.
+    ///
+    /// ```
+    /// for ((i, j), cell) in array.indexed_iter_mut() {
+    ///     *cell = 10 * i + j;
+    /// }
+    /// ```
+    pub fn indexed_iter_mut(&mut self) -> IndexedIterMut<'_, S::Elem, D>
+        ensures row_order { IsRowOrder self.old.lengths (map (λ item. item.0) result) }
+        ensures cells { map (λ item. item.1) result ≡ self.old.cells }
+        ensures list { result ≡ zip (row_order self.old.lengths) self.old.cells }
+        ensures own_cells { All (λ item. cell self.old item.0 ≡ Some item.1) result }
+        ensures fits { length result < 2 ^ 63 }
+    {
+        IndexedIterMut {
+            places: Places::new(self.view_mut()),
+        }
+    }
+}
+
+impl<'a, A: 'a, D: Dimension> Iterator for IndexedIterMut<'a, A, D> {
+    type Item = (D::Pattern, &'a mut A);
+
+    ghost next_gives = { YieldsFirstBy (λ item. (D.pattern_numbers item.0, item.1.now)) (λ rest. rest) };
+
+    ghost remaining = { item_count (λ rest. rest) };
+
+    fn next(&mut self) -> Option<(D::Pattern, &'a mut A)> {
+        let Some((index, cell)) = self.places.next() else {
+            return None;
+        };
+        Some((index.into_pattern(), cell))
+    }
+
+    fn size_hint(&self) -> (usize, Option<usize>)
+        ensures lower { IsWithinCount result.0 (item_count (λ rest. rest) self.now) }
+        ensures upper { IfSome result.1 (UpTo (item_count (λ rest. rest) self.now)) }
+        ensures exact { IsExactHint result (length self.now) }
+    {
+        let len = self.len();
+        (len, Some(len))
+    }
+}
+
+impl<'a, A: 'a, D: Dimension> ExactSizeIterator for IndexedIterMut<'a, A, D> {
+    fn len(&self) -> usize {
+        self.places.len()
+    }
+}
+
+impl<'a, S: DataMut, D: Lengths> IntoIterator for &'a mut ArrayBase<S, D>
+where
+    S::Elem: 'a,
+{
+    type Item = &'a mut S::Elem;
+    type IntoIter = IterMut<'a, S::Elem, D>;
+
+    ghost into_iter_gives = { λ array iter. iter ≡ array.now.cells };
+
+    fn into_iter(self) -> IterMut<'a, S::Elem, D> {
+        self.iter_mut()
+    }
+}
+
+impl<'a, A: 'a, D: Lengths> IntoIterator for ArrayViewMut<'a, A, D> {
+    type Item = &'a mut A;
+    type IntoIter = IterMut<'a, A, D>;
+
+    ghost into_iter_gives = { λ view iter. iter ≡ view.cells };
+
+    fn into_iter(self) -> IterMut<'a, A, D> {
+        IterMut {
+            elements: ElementsBaseMut::new(self),
+        }
+    }
+}

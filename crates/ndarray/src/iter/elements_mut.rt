@@ -1,0 +1,85 @@
+//! The walk that the iterators over cells to write to stand on.
+
+ghost use Rattle.std.specs.Prelude.{◌≡◌, ◌<◌, ◌^◌, length, IfSome};
+ghost use Rattle.std.specs.Iterator.{YieldsFirstMut, YieldsLastMut, UpTo, item_count};
+ghost use Rattle.std.specs.Iterator.SizeHint.{IsExactHint, IsWithinCount};
+ghost use Rattle.ndarray.specs.Orders.{HasInOrder};
+ghost use Rattle.ndarray.specs.declared.base.shape.Order.TheVariants.{RowMajor};
+
+use crate::base::array::ArrayViewMut;
+use crate::base::dimension::{Ix1, Lengths};
+use crate::places::lent::Places;
+use std::iter::ExactSizeIterator;
+use std::marker::Model;
+
+/// The cells of a view to write in that are still to come, in row order.
+///
+/// An iterator takes no memory, and neither does any of its steps.
+#[derive(Drop)]
+pub struct ElementsBaseMut<'a, A, D: Lengths> {
+    places: Places<'a, A, D>,
+}
+
+impl<'a, A, D: Lengths> Model for ElementsBaseMut<'a, A, D> {
+    ghost use Rattle.std.specs.Prelude.{List, map, ⊤};
+
+    ghost Value = { List A };
+
+    ghost view = { λ s. map (λ item. item.1) s.places };
+
+    ghost invariant = { λ _. ⊤ };
+}
+
+impl<'a, A, D: Lengths> ElementsBaseMut<'a, A, D> {
+    /// The cells of a view in row order, whatever the strides.
+    pub fn new(v: ArrayViewMut<'a, A, D>) -> Self
+        ensures row_order { HasInOrder RowMajor v.entry result }
+        ensures cells { result ≡ v.entry.cells }
+        ensures fits { length result < 2 ^ 63 }
+    {
+        ElementsBaseMut {
+            places: Places::new(v),
+        }
+    }
+}
+
+impl<'a, A: 'a, D: Lengths> Iterator for ElementsBaseMut<'a, A, D> {
+    type Item = &'a mut A;
+
+    ghost next_gives = { YieldsFirstMut (λ rest. rest) };
+
+    ghost remaining = { item_count (λ rest. rest) };
+
+    fn next(&mut self) -> Option<&'a mut A> {
+        let Some((_index, cell)) = self.places.next() else {
+            return None;
+        };
+        Some(cell)
+    }
+
+    fn size_hint(&self) -> (usize, Option<usize>)
+        ensures lower { IsWithinCount result.0 (item_count (λ rest. rest) self.now) }
+        ensures upper { IfSome result.1 (UpTo (item_count (λ rest. rest) self.now)) }
+        ensures exact { IsExactHint result (length self.now) }
+    {
+        let len = self.len();
+        (len, Some(len))
+    }
+}
+
+impl<'a, A: 'a, D: Lengths> ExactSizeIterator for ElementsBaseMut<'a, A, D> {
+    fn len(&self) -> usize {
+        self.places.len()
+    }
+}
+
+impl<'a, A: 'a> DoubleEndedIterator for ElementsBaseMut<'a, A, Ix1> {
+    ghost next_back_gives = { YieldsLastMut (λ rest. rest) };
+
+    fn next_back(&mut self) -> Option<&'a mut A> {
+        let Some((_, cell)) = self.places.next_back() else {
+            return None;
+        };
+        Some(cell)
+    }
+}
