@@ -5,6 +5,7 @@ pub mod axis;
 pub mod axis_chunks;
 pub mod exact_chunks;
 pub mod lanes;
+pub(crate) mod portions;
 pub(crate) mod positions;
 pub(crate) mod tiles;
 pub mod windows;
