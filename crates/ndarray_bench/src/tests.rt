@@ -13,3 +13,4 @@ mod shown;
 mod slices;
 mod subviews;
 mod windows;
+mod writing;

@@ -106,8 +106,8 @@ impl<'a, A: 'a, T: PortionsFromEnds> DoubleEndedIterator for PortionsMut<'a, A, 
             return None;
         };
         let whole = replace(&mut self.region, RegionRepr::of(&mut []));
-        let (storage, others) = whole.split(&layout);
-        self.region = others;
+        let (storage, rest) = whole.split(&layout);
+        self.region = rest;
         Some(ArrayBase { storage, layout })
     }
 }
