@@ -30,6 +30,7 @@ pub mod Orders
 pub mod Pairs
 pub mod Permutations
 pub mod Pieces
+pub mod PiecesApart
 pub mod Portions
 pub mod Reached
 pub mod Readings

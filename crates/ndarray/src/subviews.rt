@@ -3,8 +3,11 @@
 
 pub mod axis;
 pub mod axis_chunks;
+pub mod axis_mut;
 pub mod exact_chunks;
 pub mod lanes;
+pub(crate) mod portions;
 pub(crate) mod positions;
 pub(crate) mod tiles;
+pub(crate) mod tiles_mut;
 pub mod windows;

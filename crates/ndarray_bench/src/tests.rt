@@ -15,3 +15,4 @@ mod slices;
 mod subviews;
 mod view_mut;
 mod windows;
+mod writing;

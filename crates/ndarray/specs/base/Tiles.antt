@@ -1,9 +1,10 @@
 -- Inside `subviews`: equal pieces of an array, one at each position of a box.
-use Rattle.std.specs.Prelude.{◌≡◌, ℕ, ◌*◌, ◌%◌, ◌^◌, ◌<◌, ◌⊎◌, List, length, slice_index, Option}
-use Rattle.ndarray.specs.Index.{InBox}
+use Rattle.std.specs.Prelude.{◌≡◌, ℕ, ◌*◌, ◌%◌, ◌^◌, ◌<◌, ◌⊎◌, List, length, map, slice_index, Option, All}
+use Rattle.ndarray.specs.Index.{InBox, row_order}
 use Rattle.ndarray.specs.Limits.{IsWithinLimit}
 use Rattle.ndarray.specs.Grid.{Grid, arranged}
 use Rattle.ndarray.specs.base.Places.{place, Reaches, grid_at}
+use Rattle.ndarray.specs.base.Portions.{Spot, spot, Shares}
 
 -- at each position of the box of ps, the array of lengths ns that begins where the position lies
 abbrev pub tiles_at : {A : Type 0} → (ℕ → Option A) → List ℕ → ℕ → List ℕ → List ℕ → List ℕ → Grid (Grid A)
@@ -24,3 +25,22 @@ pub record AreWindowsOf (ns ws : List ℕ) : Type 0 where
 pub record AreStepsOf (counts bs ss steps : List ℕ) : Type 0 where
   pub as_many : length steps ≡ length counts
   pub each : (k : ℕ) → k < length counts → (slice_index counts k ≡ 0) ⊎ (slice_index steps k ≡ (slice_index bs k * slice_index ss k) % 2 ^ 64)
+
+-- where the piece at a position lies
+abbrev pub tile_spot : ℕ → List ℕ → List ℕ → List ℕ → List ℕ → Spot
+tile_spot start steps ns bs p = spot ns (place start steps p) bs
+
+-- where those at these positions lie
+abbrev pub tile_spots : ℕ → List ℕ → List ℕ → List ℕ → List (List ℕ) → List Spot
+tile_spots start steps ns bs ps = map (tile_spot start steps ns bs) ps
+
+-- each of the pieces reaches elements, and no two have a place in common
+pub record ShareTiles {A : Type 0} (at : ℕ → Option A) (ps : List ℕ) (start : ℕ) (steps ns bs : List ℕ) : Type 0 where
+  pub as_many : length steps ≡ length ps
+  pub limit : IsWithinLimit ps
+  pub shares : Shares at (tile_spots start steps ns bs (row_order ps))
+
+-- the positions that are left are of the box
+pub record TilesStand (ps steps : List ℕ) (left : List (List ℕ)) : Type 0 where
+  pub as_many : length steps ≡ length ps
+  pub within : All (InBox ps) left
