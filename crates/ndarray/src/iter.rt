@@ -19,6 +19,7 @@ pub use crate::subviews::axis_chunks::AxisChunksIter;
 pub use crate::subviews::axis_mut::AxisIterMut;
 pub use crate::subviews::exact_chunks::{ExactChunks, ExactChunksIter};
 pub use crate::subviews::lanes::{Lanes, LanesIter};
+pub use crate::subviews::lanes_mut::{LanesIterMut, LanesMut};
 pub use crate::subviews::windows::{AxisWindows, Windows, WindowsIter};
 use std::alloc::AllocError;
 use std::iter::ExactSizeIterator;

@@ -6,6 +6,7 @@ pub mod axis_chunks;
 pub mod axis_mut;
 pub mod exact_chunks;
 pub mod lanes;
+pub mod lanes_mut;
 pub(crate) mod portions;
 pub(crate) mod positions;
 pub(crate) mod tiles;
