@@ -18,6 +18,7 @@ pub use crate::subviews::axis::AxisIter;
 pub use crate::subviews::axis_chunks::AxisChunksIter;
 pub use crate::subviews::axis_mut::AxisIterMut;
 pub use crate::subviews::exact_chunks::{ExactChunks, ExactChunksIter};
+pub use crate::subviews::exact_chunks_mut::{ExactChunksIterMut, ExactChunksMut};
 pub use crate::subviews::lanes::{Lanes, LanesIter};
 pub use crate::subviews::lanes_mut::{LanesIterMut, LanesMut};
 pub use crate::subviews::windows::{AxisWindows, Windows, WindowsIter};

@@ -5,6 +5,7 @@ pub mod axis;
 pub mod axis_chunks;
 pub mod axis_mut;
 pub mod exact_chunks;
+pub mod exact_chunks_mut;
 pub mod lanes;
 pub mod lanes_mut;
 pub(crate) mod portions;
