@@ -120,7 +120,7 @@ lanes-images_none at start stride h = record {
 abbrev pub AreOfLane : List ℕ → List ℕ → ℕ → ℕ → ℕ → Type 0
 AreOfLane ns bs k len stride = ((ns ≡ []) × (len ≡ 1)) ⊎ ((k < length ns) × (len ≡ get_or ns k 0) × (stride ≡ get_or bs k 0))
 
-remove-none : (k : ℕ) → remove {X = ℕ} [] k ≡ []
+pub remove-none : (k : ℕ) → remove {X = ℕ} [] k ≡ []
 remove-none zero = refl
 remove-none (suc k) = refl
 

@@ -92,3 +92,15 @@ total-le f g (n ∷ ns) (b ∷ bs) l h =
     let here = h 0 (omega arith) in
     let ih = total-le f g ns bs (omega arith) (λ k lt. h (suc k) (omega arith)) in
     omega arith
+
+-- where each axis counts no more with the lengths ws than with ns
+pub total-shorter : (f : ℕ → ℕ → ℕ) (ws ns bs : List ℕ) → length bs ≡ length ns → length ws ≡ length ns → ((k : ℕ) → k < length ns → f (get_or ws k 0) (get_or bs k 0) ≤ f (get_or ns k 0) (get_or bs k 0)) → total f ws bs ≤ total f ns bs
+unfolding total
+total-shorter f [] [] bs l lw h = omega arith
+total-shorter f (w ∷ ws) [] bs l lw h = absurd (omega arith)
+total-shorter f [] (n ∷ ns) bs l lw h = absurd (omega arith)
+total-shorter f (w ∷ ws) (n ∷ ns) [] l lw h = absurd (omega arith)
+total-shorter f (w ∷ ws) (n ∷ ns) (b ∷ bs) l lw h =
+    let here = h 0 (omega arith) in
+    let ih = total-shorter f ws ns bs (omega arith) (omega arith) (λ k lt. h (suc k) (omega arith)) in
+    omega arith
