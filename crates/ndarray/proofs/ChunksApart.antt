@@ -1,6 +1,6 @@
 -- The chunks along an axis as sub-views to write in: they have no place in common.
-use Rattle.std.proofs.Common.{◌≡◌, ℕ, ◌+◌, ◌-◌, ◌*◌, ◌/◌, ◌%◌, ◌<◌, ◌≤◌, ◌^◌, List, [], ◌∷◌, map, length, get_or, set, Option, refl, sym, ◌∙◌, ap, arith, subst}
-use Rattle.std.specs.Prelude.{All, min, ⊤}
+use Rattle.std.proofs.Common.{◌≡◌, ℕ, ◌+◌, ◌*◌, ◌/◌, ◌<◌, ◌≤◌, List, [], ◌∷◌, length, get_or, set, Option, refl, sym, ◌∙◌, ap, arith, subst}
+use Rattle.std.specs.Prelude.{All, ⊤}
 use Rattle.std.specs.Int.{div_ceil}
 use Rattle.std.proofs.lemmas.Nat.{div-mul-add}
 use Rattle.std.proofs.lemmas.Simd.{map-map}
@@ -10,7 +10,6 @@ use Rattle.ndarray.specs.Subviews.{axis_chunk}
 use Rattle.ndarray.specs.base.Chunks.{chunk_len, chunk_spot, chunk_spots, chunks_along}
 use Rattle.ndarray.specs.base.Places.{Reaches, Rearranges, grid_at}
 use Rattle.ndarray.specs.base.Portions.{Spot, Shares, grids_at}
-use Rattle.ndarray.proofs.Boxes.{InBox-length}
 use Rattle.ndarray.proofs.Chunked.{chunk-begins}
 use Rattle.ndarray.proofs.Cuts.{IsCut-part, rearranges-cut, cuts-apart}
 use Rattle.ndarray.proofs.Images.{grid-seen}
