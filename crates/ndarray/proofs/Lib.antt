@@ -5,6 +5,7 @@ pub mod Cells
 pub mod Cloned
 pub mod Cuts
 pub mod Chunked
+pub mod ChunksApart
 pub mod Deeds
 pub mod Emptying
 pub mod Filled

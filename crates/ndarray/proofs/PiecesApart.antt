@@ -1,5 +1,5 @@
 -- The pieces of an array that have no place in common, as sub-views to write in.
-use Rattle.std.proofs.Common.{◌≡◌, ℕ, ◌+◌, ◌*◌, ◌/◌, ◌<◌, ◌≤◌, ◌^◌, suc, zero, List, [], ◌∷◌, length, get_or, Option, refl, sym, ◌∙◌, ap, arith, subst, inl, inr}
+use Rattle.std.proofs.Common.{◌≡◌, ℕ, ◌+◌, ◌*◌, ◌/◌, ◌<◌, ◌≤◌, suc, zero, List, [], ◌∷◌, length, get_or, Option, refl, sym, ◌∙◌, ap, arith, subst, inl, inr}
 use Rattle.std.specs.Prelude.{All, insert, remove, ⊤}
 use Rattle.std.proofs.Math.Nat.{mul-le-mul_right}
 use Rattle.std.proofs.lemmas.Bool.{cases_lt}
@@ -8,9 +8,9 @@ use Rattle.std.proofs.lemmas.Nat.{div-mul-add}
 use Rattle.std.proofs.lemmas.List.Edits.{get_or-insert_at, length-remove}
 use Rattle.ndarray.specs.Index.{InBox, row_order, IsBefore}
 use Rattle.ndarray.specs.Subviews.{ArePositive, moved, window_counts}
-use Rattle.ndarray.specs.base.Nested.{AreNested, magnitude, reach, reach_within, reached_within, total}
-use Rattle.ndarray.specs.base.Places.{place, Reaches, Rearranges}
-use Rattle.ndarray.specs.base.Tiles.{AreStepsOf, AreWindowsOf, ShareTiles, tile_spot}
+use Rattle.ndarray.specs.base.Nested.{AreNested, magnitude, reach, reach_within, total}
+use Rattle.ndarray.specs.base.Places.{Reaches}
+use Rattle.ndarray.specs.base.Tiles.{AreStepsOf, ShareTiles, tile_spot}
 use Rattle.ndarray.proofs.Boxes.{InBox-length}
 use Rattle.ndarray.proofs.Magnitudes.{within-near, within-far}
 use Rattle.ndarray.proofs.Nested.{nested-fewer}
@@ -113,6 +113,7 @@ lanes-apart_none at start stride h = record {
     short : (k : ℕ) → k < 1 → 1 < get_or (1 ∷ []) k 0 → ⊥
     short zero lt long = omega arith
     short (suc k) lt long = omega arith
+
     both-none : (p q : List ℕ) → InBox [] p → InBox [] q → p ≡ q
     both-none [] [] bp bq = refl
     both-none [] (j ∷ q) bp bq = absurd bq

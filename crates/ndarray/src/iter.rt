@@ -20,6 +20,7 @@ pub use crate::iter::elements_mut::ElementsBaseMut;
 pub use crate::iter::indexed::IndexedIter;
 pub use crate::subviews::axis::AxisIter;
 pub use crate::subviews::axis_chunks::AxisChunksIter;
+pub use crate::subviews::axis_chunks_mut::AxisChunksIterMut;
 pub use crate::subviews::axis_mut::AxisIterMut;
 pub use crate::subviews::exact_chunks::{ExactChunks, ExactChunksIter};
 pub use crate::subviews::exact_chunks_mut::{ExactChunksIterMut, ExactChunksMut};

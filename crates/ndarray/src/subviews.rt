@@ -3,6 +3,7 @@
 
 pub mod axis;
 pub mod axis_chunks;
+pub mod axis_chunks_mut;
 pub mod axis_mut;
 pub mod exact_chunks;
 pub mod exact_chunks_mut;

@@ -1,5 +1,5 @@
 use Rattle.std.proofs.Common.{ap, sym, refl, ◌∙◌, subst}
-use Rattle.ndarray.specs.Subviews.{ArePositive, moved, window_counts, windows_of}
+use Rattle.ndarray.specs.Subviews.{ArePositive, moved, window_counts}
 use Rattle.ndarray.specs.base.Slots.{held_at}
 use Rattle.ndarray.specs.base.Tiles.{AreStepsOf}
 use Rattle.ndarray.proofs.OneAxis.{exact_chunks-windows}

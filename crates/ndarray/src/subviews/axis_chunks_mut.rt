@@ -1,0 +1,216 @@
+//! The chunks along an axis, to write in.
+
+ghost use Rattle.std.specs.Prelude.{◌≡◌, ◌<◌, ◌≤◌, ◌^◌, length, take, drop, slice_index, IfSome};
+ghost use Rattle.std.specs.Int.{div_ceil};
+ghost use Rattle.std.specs.Iterator.{UpTo, YieldsFirst, YieldsLast, item_count};
+ghost use Rattle.std.specs.Iterator.SizeHint.{IsExactHint, IsWithinCount};
+ghost use Rattle.ndarray.specs.Subviews.{axis_chunks};
+ghost use Rattle.ndarray.specs.base.Chunks.{chunk_spot};
+ghost use Rattle.ndarray.specs.base.Portions.{spot};
+
+use crate::base::array::{ArrayBase, ArrayViewMut};
+use crate::base::axis::Axis;
+use crate::base::dimension::{Ix1, Lengths};
+use crate::base::layout::Layout;
+use crate::base::storage::DataMut;
+use crate::order::{Order, Walk};
+use crate::subviews::portions::{Portions, PortionsFromEnds, PortionsMut};
+use std::iter::ExactSizeIterator;
+use std::marker::Model;
+
+/// Where the chunks along an axis lie that are still to come.
+#[derive(Drop)]
+pub(crate) struct ChunkPortions<D: Lengths> {
+    layout: Layout<D>,
+    axis: usize,
+    size: usize,
+    walk: Walk<Ix1>,
+}
+
+impl<D: Lengths> Model for ChunkPortions<D> {
+    ghost use Rattle.std.specs.Prelude.{List};
+    ghost use Rattle.ndarray.specs.base.Portions.{Spot};
+
+    ghost Value = { List Spot };
+
+    ghost use Rattle.ndarray.specs.base.Chunks.{ChunkSpotsStand, chunk_spots};
+
+    ghost view = { λ s. chunk_spots (D.numbers s.layout.dim) s.layout.start (D.numbers s.layout.strides) s.axis s.size s.walk };
+
+    ghost invariant = { λ s. ChunkSpotsStand (D.numbers s.layout.dim) (D.numbers s.layout.strides) s.axis s.size s.walk };
+}
+
+/// Where the chunk of a number lies, which is below the number of chunks.
+fn chunk<D: Lengths>(layout: &Layout<D>, axis: usize, size: usize, number: usize) -> Layout<D>
+    requires as_many { length (D.numbers layout.now.strides) ≡ length (D.numbers layout.now.dim) }
+    requires axis { axis < length (D.numbers layout.now.dim) }
+    requires fits { slice_index (D.numbers layout.now.dim) axis < 2 ^ 63 }
+    requires size { 1 ≤ size }
+    requires number { number < div_ceil (slice_index (D.numbers layout.now.dim) axis) size }
+    ensures { spot (D.numbers result.dim) result.start (D.numbers result.strides) ≡ chunk_spot (D.numbers layout.now.dim) layout.now.start (D.numbers layout.now.strides) axis size number }
+{
+    let len = layout.dim.axis(axis);
+    let from = number * size;
+    let mut chunk = layout.copied();
+    chunk.cut(axis, from, size.min(len - from), 1);
+    chunk
+}
+
+impl<D: Lengths> Portions for ChunkPortions<D> {
+    type Dim = D;
+
+    ghost spots = { λ s. s };
+
+    fn next(&mut self) -> Option<Layout<D>> {
+        let Some(position) = self.walk.next() else {
+            return None;
+        };
+        Some(chunk(&self.layout, self.axis, self.size, position.axis(0)))
+    }
+
+    fn len(&self) -> usize {
+        self.walk.len()
+    }
+}
+
+impl<D: Lengths> PortionsFromEnds for ChunkPortions<D> {
+    fn next_back(&mut self) -> Option<Layout<D>> {
+        let Some(position) = self.walk.next_back() else {
+            return None;
+        };
+        Some(chunk(&self.layout, self.axis, self.size, position.axis(0)))
+    }
+
+    fn take_first(&mut self, count: usize) -> Self {
+        ChunkPortions {
+            layout: self.layout.copied(),
+            axis: self.axis,
+            size: self.size,
+            walk: self.walk.take_first(count),
+        }
+    }
+}
+
+/// The chunks along an axis that are still to come, from the first to the last, to write in. No two
+/// of them share a cell.
+///
+/// An iterator takes no memory, and each chunk is made by arithmetic on the one axis.
+#[derive(Drop)]
+pub struct AxisChunksIterMut<'a, A, D: Lengths> {
+    items: PortionsMut<'a, A, ChunkPortions<D>>,
+}
+
+impl<'a, A, D: Lengths> Model for AxisChunksIterMut<'a, A, D> {
+    ghost use Rattle.std.specs.Prelude.{List};
+    ghost use Rattle.ndarray.specs.Grid.{Grid};
+
+    ghost Value = { List (Grid A) };
+
+    ghost view = { λ s. s.items };
+}
+
+impl<S: DataMut, D: Lengths> ArrayBase<S, D> {
+    /// The chunks of a size along an axis, from the first to the last, to write in. All have that
+    /// length on the axis, but the last one has what is left.
+    ///
+    /// The caller owes an axis below the number of axes and a size of at least 1; the test is
+    /// `chunk_ok`.
+    ///
+    /// ```
+    /// for mut chunk in array.axis_chunks_iter_mut(Axis(0), 2) {
+    ///     if let Some(cell) = chunk.get_mut(0) {
+    ///         *cell = 7;
+    ///     }
+    /// }
+    /// ```
+    pub fn axis_chunks_iter_mut(
+        &mut self,
+        axis: Axis,
+        size: usize,
+    ) -> AxisChunksIterMut<'_, S::Elem, D>
+        requires axis { axis.0 < length self.old.lengths }
+        requires size { 1 ≤ size }
+        ensures items { result ≡ axis_chunks self.old axis.0 size }
+        ensures fits { length result < 2 ^ 63 }
+    {
+        AxisChunksIterMut {
+            items: chunks(self.view_mut(), axis, size),
+        }
+    }
+}
+
+/// The chunks of a size along an axis.
+fn chunks<'a, A, D: Lengths>(
+    view: ArrayViewMut<'a, A, D>,
+    axis: Axis,
+    size: usize,
+) -> PortionsMut<'a, A, ChunkPortions<D>>
+    requires axis { axis.0 < length view.lengths }
+    requires size { 1 ≤ size }
+    ensures items { result ≡ axis_chunks view.entry axis.0 size }
+    ensures fits { length result < 2 ^ 63 }
+{
+    let count = view.len_of(axis).div_ceil(size);
+    let ArrayBase { storage, layout } = view;
+    PortionsMut {
+        region: storage,
+        portions: ChunkPortions {
+            layout,
+            axis: axis.0,
+            size,
+            walk: Walk::new(Ix1(count), Order::RowMajor),
+        },
+    }
+}
+
+impl<'a, A, D: Lengths> AxisChunksIterMut<'a, A, D> {
+    /// The first `index` chunks still to come, and the rest. Nothing is gone over.
+    ///
+    /// The caller owes an index that is at most `len()`.
+    pub fn split_at(self, index: usize) -> (Self, Self)
+        requires { index ≤ length self }
+        ensures first { result.0 ≡ take index self.entry }
+        ensures second { result.1 ≡ drop index self.entry }
+    {
+        let AxisChunksIterMut { items } = self;
+        let (first, rest) = items.split_at(index);
+        (
+            AxisChunksIterMut { items: first },
+            AxisChunksIterMut { items: rest },
+        )
+    }
+}
+
+impl<'a, A: 'a, D: Lengths> Iterator for AxisChunksIterMut<'a, A, D> {
+    type Item = ArrayViewMut<'a, A, D>;
+
+    ghost next_gives = { YieldsFirst (λ rest. rest) };
+
+    ghost remaining = { item_count (λ rest. rest) };
+
+    fn next(&mut self) -> Option<ArrayViewMut<'a, A, D>> {
+        self.items.next()
+    }
+
+    fn size_hint(&self) -> (usize, Option<usize>)
+        ensures lower { IsWithinCount result.0 (item_count (λ rest. rest) self.now) }
+        ensures upper { IfSome result.1 (UpTo (item_count (λ rest. rest) self.now)) }
+        ensures exact { IsExactHint result (length self.now) }
+    {
+        self.items.size_hint()
+    }
+}
+
+impl<'a, A: 'a, D: Lengths> DoubleEndedIterator for AxisChunksIterMut<'a, A, D> {
+    ghost next_back_gives = { YieldsLast (λ rest. rest) };
+
+    fn next_back(&mut self) -> Option<ArrayViewMut<'a, A, D>> {
+        self.items.next_back()
+    }
+}
+
+impl<'a, A: 'a, D: Lengths> ExactSizeIterator for AxisChunksIterMut<'a, A, D> {
+    fn len(&self) -> usize {
+        self.items.len()
+    }
+}
