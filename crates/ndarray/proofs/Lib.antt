@@ -39,6 +39,7 @@ pub mod Slices
 pub mod Slots
 pub mod Sought
 pub mod Steps
+pub mod Stepped
 pub mod Stretching
 pub mod Strides
 pub mod Swaps

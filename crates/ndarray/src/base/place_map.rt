@@ -1,13 +1,20 @@
-//! Inside `base`: the index list whose cell lies at a place.
+//! Inside `base`: the places of an array's cells, and the index list whose cell lies at a place.
 
-ghost use Rattle.std.specs.Prelude.{◌≡◌, ◌≢◌, ◌<◌, ◌≤◌, ◌^◌, ℕ, List, length, slice_index, MatchOption};
+ghost use Rattle.std.specs.Prelude.{◌≡◌, ◌≢◌, ◌<◌, ◌≤◌, ◌^◌, ℕ, List, length, slice_index, slice_get, IfSome, MatchOption};
+ghost use Rattle.ndarray.specs.Grid.{cell, IsGrid};
 ghost use Rattle.ndarray.specs.Index.{InBox, size};
 ghost use Rattle.ndarray.specs.Limits.{IsWithinLimit};
 ghost use Rattle.ndarray.specs.base.Places.{place};
 ghost use Rattle.ndarray.specs.base.Nested.{magnitude, reach, total, turned, sunk, AreNested};
+ghost use Rattle.ndarray.specs.base.PlaceMap.{place_in};
+ghost use Rattle.ndarray.specs.base.Slots.{held_at};
 
+use crate::base::array::{Array, ArrayBase, ArrayViewMut};
 use crate::base::dimension::Lengths;
 use crate::base::layout::Layout;
+use crate::base::region::{Life, RegionRepr};
+use crate::base::storage::OwnedRepr;
+use std::marker::Model;
 
 /// A stride without its sign.
 fn without_sign(stride: usize) -> usize
@@ -102,5 +109,75 @@ impl<D: Lengths> Layout<D> {
             Some(found) if found == at => Some(index),
             _ => None,
         }
+    }
+}
+
+/// The place of the cell at each index list, and the index list whose cell lies at a place. Each undoes the other.
+#[derive(Drop)]
+pub struct PlaceMap<D: Lengths> {
+    layout: Layout<D>,
+}
+
+impl<D: Lengths> Model for PlaceMap<D> {
+    ghost use Rattle.ndarray.specs.base.PlaceMap.{Laid, laid, LiesApart};
+
+    ghost Value = { Laid };
+
+    ghost view = { λ m. laid (D.numbers m.layout.dim) m.layout.start (D.numbers m.layout.strides) };
+
+    ghost invariant = { λ m. LiesApart (laid (D.numbers m.layout.dim) m.layout.start (D.numbers m.layout.strides)) };
+}
+
+impl<D: Lengths> PlaceMap<D> {
+    /// The lengths.
+    pub(crate) fn raw_dim(&self) -> D
+        ensures lengths { D.numbers result ≡ self.now.lengths }
+        ensures limit { IsWithinLimit self.now.lengths }
+    {
+        self.layout.dim.copied()
+    }
+
+    /// The place of the cell at an index list of the box. No other index list has this place.
+    pub(crate) fn place(&self, index: &D) -> usize
+        requires { InBox self.now.lengths (D.numbers index.now) }
+        ensures value { result ≡ place_in self.now (D.numbers index.now) }
+        ensures alone { (is : List ℕ) → InBox self.now.lengths is → place_in self.now is ≡ result → is ≡ D.numbers index.now }
+    {
+        self.layout.place(index)
+    }
+
+    /// The one index list whose cell lies at a place; `None` where none does.
+    pub(crate) fn index_of(&self, at: usize) -> Option<D>
+        ensures value { MatchOption result ((is : List ℕ) → InBox self.now.lengths is → place_in self.now is ≢ at) (λ is. InBox self.now.lengths (D.numbers is) × (place_in self.now (D.numbers is) ≡ at)) }
+        ensures alone { IfSome result (λ index. (is : List ℕ) → InBox self.now.lengths is → place_in self.now is ≡ at → is ≡ D.numbers index) }
+    {
+        self.layout.index_of(at)
+    }
+}
+
+impl<A: Drop, D: Lengths> Array<A, D> {
+    /// The array's vector, and where its cells lie in it: at each index list's place its cell.
+    pub(crate) fn into_storage(self) -> (Vec<A>, PlaceMap<D>)
+        ensures lengths { result.1.lengths ≡ self.lengths }
+        ensures cells { (is : List ℕ) → InBox self.lengths is → slice_get result.0.items (place_in result.1 is) ≡ cell self is }
+        ensures whole { IsGrid self }
+        ensures limit { IsWithinLimit self.lengths }
+    {
+        let ArrayBase { storage, layout } = self;
+        let OwnedRepr { items } = storage;
+        (items, PlaceMap { layout })
+    }
+}
+
+impl<'a, A, D: Lengths> ArrayViewMut<'a, A, D> {
+    /// The view's region, and where its cells lie in it: at each index list's place its cell.
+    pub(crate) fn into_region(self) -> (RegionRepr<Life<'a>, A>, PlaceMap<D>)
+        ensures lengths { result.1.lengths ≡ self.entry.lengths }
+        ensures cells { (is : List ℕ) → InBox self.entry.lengths is → held_at result.0.slots (place_in result.1 is) ≡ cell self.entry is }
+        ensures whole { IsGrid self.entry }
+        ensures limit { IsWithinLimit self.entry.lengths }
+    {
+        let ArrayBase { storage, layout } = self;
+        (storage, PlaceMap { layout })
     }
 }
