@@ -1,3 +1,4 @@
 -- What only `places` speaks of: elements that are moved out.
 pub mod Emptying
 pub mod Moving
+pub mod Steps

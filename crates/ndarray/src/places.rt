@@ -2,3 +2,4 @@
 pub mod block;
 pub mod emptying;
 pub mod move_out;
+pub mod steps;
