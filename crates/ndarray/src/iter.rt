@@ -8,12 +8,14 @@ ghost use Rattle.ndarray.specs.declared.base.shape.Order.TheVariants.{RowMajor};
 
 pub mod elements;
 pub mod indexed;
+pub mod into_iter;
 
 use crate::base::array::ArrayBase;
 use crate::base::dimension::{Ix1, Lengths};
 use crate::base::storage::Data;
 pub use crate::iter::elements::ElementsBase;
 pub use crate::iter::indexed::IndexedIter;
+pub use crate::iter::into_iter::IntoIter;
 pub use crate::subviews::axis::AxisIter;
 pub use crate::subviews::axis_chunks::AxisChunksIter;
 pub use crate::subviews::exact_chunks::{ExactChunks, ExactChunksIter};
