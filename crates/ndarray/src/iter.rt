@@ -10,7 +10,7 @@ pub mod elements;
 pub mod indexed;
 pub mod into_iter;
 
-use crate::base::array::ArrayBase;
+use crate::base::array::{ArrayBase, ArrayView};
 use crate::base::dimension::{Ix1, Lengths};
 use crate::base::storage::Data;
 pub use crate::iter::elements::ElementsBase;
@@ -58,6 +58,39 @@ impl<S: Data, D: Lengths> ArrayBase<S, D> {
     {
         Iter {
             elements: ElementsBase::new(self.view()),
+        }
+    }
+}
+
+impl<'b, S: Data, D: Lengths> IntoIterator for &'b ArrayBase<S, D>
+where
+    S::Elem: 'b,
+{
+    ghost use Rattle.std.specs.Prelude.{◌<◌, ◌^◌, length};
+
+    type Item = &'b S::Elem;
+
+    type IntoIter = Iter<'b, S::Elem, D>;
+
+    ghost into_iter_gives = { λ a it. (it ≡ a.now.cells) × (length it < 2 ^ 63) };
+
+    fn into_iter(self) -> Iter<'b, S::Elem, D> {
+        self.iter()
+    }
+}
+
+impl<'a, A, D: Lengths> IntoIterator for ArrayView<'a, A, D> {
+    ghost use Rattle.std.specs.Prelude.{◌<◌, ◌^◌, length};
+
+    type Item = &'a A;
+
+    type IntoIter = Iter<'a, A, D>;
+
+    ghost into_iter_gives = { λ a it. (it ≡ a.cells) × (length it < 2 ^ 63) };
+
+    fn into_iter(self) -> Iter<'a, A, D> {
+        Iter {
+            elements: ElementsBase::new(self),
         }
     }
 }

@@ -1,13 +1,15 @@
 //! Iterators that give the cells of an array themselves.
 
-ghost use Rattle.std.specs.Prelude.{◌≡◌, length, IfSome};
+ghost use Rattle.std.specs.Prelude.{◌≡◌, ◌⊎◌, ◌<◌, ◌^◌, length, IfOk, IfSome};
 ghost use Rattle.std.specs.Iterator.{UpTo, YieldsFirst, item_count};
 ghost use Rattle.std.specs.Iterator.SizeHint.{IsExactHint, IsWithinCount};
+ghost use Rattle.std.specs.List.{AllZip};
 
-use crate::base::array::Array;
+use crate::base::array::{Array, CowArray};
 use crate::base::dimension::Lengths;
 use crate::places::move_out::MoveOut;
 use crate::places::steps::Steps;
+use std::alloc::{AllocError, Global};
 use std::iter::ExactSizeIterator;
 use std::marker::Model;
 
@@ -42,6 +44,26 @@ impl<A: Drop, D: Lengths> IntoIterator for Array<A, D> {
         IntoIter {
             elements: MoveOut::new(items, Steps::new(map)),
         }
+    }
+}
+
+impl<'a, A: Clone + Drop, D: Lengths> CowArray<'a, A, D> {
+    /// The cells in row order: the array's own, moved out of it, where it owns them, else clones of them.
+    ///
+    /// The error is want of memory, for the clones; this array is then gone, and what it borrowed stays.
+    ///
+    /// ```
+    /// let source = [1, 2];
+    /// let array = CowArray::from(ArrayView::from_shape(2, &source)?);
+    /// for x in array.try_into_iter(alloc)? { .. } // 1, 2
+    /// ```
+    pub fn try_into_iter(self, alloc: Global) -> Result<IntoIter<A, D>, AllocError>
+        ensures cells { IfOk result (λ it. (it ≡ self.entry.cells) ⊎ AllZip A.is_clone self.entry.cells it) }
+        ensures fits { IfOk result (λ it. length it < 2 ^ 63) }
+        ensures same { IfOk result (λ it. ((x y : A) → A.is_clone x y → y ≡ x) → it ≡ self.entry.cells) }
+    {
+        let array = self.into_owned(alloc)?;
+        Ok(array.into_iter())
     }
 }
 
