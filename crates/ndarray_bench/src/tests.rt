@@ -2,6 +2,7 @@
 
 mod base;
 mod chunks;
+mod into_iter;
 mod iter;
 mod lanes;
 mod layouts;
