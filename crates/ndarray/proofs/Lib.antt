@@ -42,11 +42,14 @@ pub mod Sharing
 pub mod Sizes
 pub mod Slices
 pub mod Slots
+pub mod Sought
 pub mod Steps
+pub mod Stepped
 pub mod Stretching
 pub mod Strides
 pub mod Swaps
 pub mod Totals
+pub mod Turned
 pub mod Unique
 pub mod Verdicts
 pub mod Walks

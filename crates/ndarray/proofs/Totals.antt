@@ -1,7 +1,7 @@
 -- What the axes count together.
-use Rattle.std.proofs.Common.{◌≡◌, ◌≢◌, ℕ, ◌+◌, ◌<◌, ◌≤◌, suc, zero, List, [], ◌∷◌, ◌++◌, length, reverse, set, swap, get_or, refl, sym, ◌∙◌, ap, arith}
+use Rattle.std.proofs.Common.{◌≡◌, ◌≢◌, ℕ, ◌+◌, ◌<◌, ◌≤◌, suc, zero, List, [], ◌∷◌, ◌++◌, length, reverse, set, swap, take, get_or, refl, sym, ◌∙◌, ap, arith}
 use Rattle.std.specs.Prelude.{insert, remove}
-use Rattle.std.proofs.lemmas.List.{length-set, length-reverse}
+use Rattle.std.proofs.lemmas.List.{length-set, length-reverse, take_all}
 use Rattle.std.proofs.lemmas.List.Edits.{swap_is}
 use Rattle.ndarray.specs.base.Nested.{total}
 use Rattle.ndarray.proofs.Lists.{reverse-cons, get_or-set_own}
@@ -82,6 +82,26 @@ module _ (f : ℕ → ℕ → ℕ) where
       let o : f (get_or ns1 j 0) (get_or bs1 j 0) ≡ f n b = ap (λ x. f x (get_or bs1 j 0)) (get_or-set_own ns i j hi) ∙ ap (λ x. f n x) (get_or-set_own bs i j (omega arith)) in
       let e : total f (set ns1 j (get_or ns i 0)) (set bs1 j (get_or bs i 0)) ≡ total f ns bs = omega arith in
       ap (λ x. total f x (swap bs i j)) (sym (swap_is ns i j 0 hi hj)) ∙ (ap (λ x. total f (set ns1 j (get_or ns i 0)) x) (sym (swap_is bs i j 0 (omega arith) (omega arith))) ∙ e)
+
+  -- the first k axes and the next one
+  pub total-take_more : (ns bs : List ℕ) (k : ℕ) → length bs ≡ length ns → k < length ns → total f (take (suc k) ns) (take (suc k) bs) ≡ total f (take k ns) (take k bs) + f (get_or ns k 0) (get_or bs k 0)
+  unfolding total
+  total-take_more [] bs k l h = absurd (omega arith)
+  total-take_more (n ∷ ns) [] k l h = absurd (omega arith)
+  total-take_more (n ∷ ns) (b ∷ bs) zero l h = omega arith
+  total-take_more (n ∷ ns) (b ∷ bs) (suc k) l h = let ih = total-take_more ns bs k (omega arith) (omega arith) in omega arith
+
+  -- the first k axes count no more than all
+  pub total-take_le : (ns bs : List ℕ) (k : ℕ) → length bs ≡ length ns → total f (take k ns) (take k bs) ≤ total f ns bs
+  unfolding total
+  total-take_le ns bs zero l = omega arith
+  total-take_le [] bs (suc k) l = omega arith
+  total-take_le (n ∷ ns) [] (suc k) l = absurd (omega arith)
+  total-take_le (n ∷ ns) (b ∷ bs) (suc k) l = let ih = total-take_le ns bs k (omega arith) in omega arith
+
+  -- the first axes, as many as there are
+  pub total-take_all : (ns bs : List ℕ) (k : ℕ) → length bs ≡ length ns → length ns ≡ k → total f (take k ns) (take k bs) ≡ total f ns bs
+  total-take_all ns bs k l h = ap (λ x. total f x (take k bs)) (take_all k ns (omega arith)) ∙ ap (total f ns) (take_all k bs (omega arith))
 
 -- where each axis counts no more by f than by g
 pub total-le : (f g : ℕ → ℕ → ℕ) (ns bs : List ℕ) → length bs ≡ length ns → ((k : ℕ) → k < length ns → f (get_or ns k 0) (get_or bs k 0) ≤ g (get_or ns k 0) (get_or bs k 0)) → total f ns bs ≤ total g ns bs

@@ -5,6 +5,7 @@ pub mod Laws
 pub mod Nested
 pub mod Opened
 pub mod Parts
+pub mod PlaceMap
 pub mod Places
 pub mod Portions
 pub mod Pushed

@@ -2,3 +2,4 @@
 pub mod Emptying
 pub mod Lent
 pub mod Moving
+pub mod Steps

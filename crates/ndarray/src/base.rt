@@ -13,6 +13,7 @@ pub mod lines;
 pub mod making;
 pub(crate) mod opened;
 pub mod owned;
+pub(crate) mod place_map;
 pub mod region;
 pub mod shape;
 pub mod slice;

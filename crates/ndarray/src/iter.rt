@@ -10,14 +10,16 @@ pub mod cells_mut;
 pub mod elements;
 pub mod elements_mut;
 pub mod indexed;
+pub mod into_iter;
 
-use crate::base::array::ArrayBase;
+use crate::base::array::{ArrayBase, ArrayView};
 use crate::base::dimension::{Ix1, Lengths};
 use crate::base::storage::Data;
 pub use crate::iter::cells_mut::{IndexedIterMut, IterMut};
 pub use crate::iter::elements::ElementsBase;
 pub use crate::iter::elements_mut::ElementsBaseMut;
 pub use crate::iter::indexed::IndexedIter;
+pub use crate::iter::into_iter::IntoIter;
 pub use crate::subviews::axis::AxisIter;
 pub use crate::subviews::axis_chunks::AxisChunksIter;
 pub use crate::subviews::axis_chunks_mut::AxisChunksIterMut;
@@ -64,6 +66,39 @@ impl<S: Data, D: Lengths> ArrayBase<S, D> {
     {
         Iter {
             elements: ElementsBase::new(self.view()),
+        }
+    }
+}
+
+impl<'b, S: Data, D: Lengths> IntoIterator for &'b ArrayBase<S, D>
+where
+    S::Elem: 'b,
+{
+    ghost use Rattle.std.specs.Prelude.{◌<◌, ◌^◌, length};
+
+    type Item = &'b S::Elem;
+
+    type IntoIter = Iter<'b, S::Elem, D>;
+
+    ghost into_iter_gives = { λ a it. (it ≡ a.now.cells) × (length it < 2 ^ 63) };
+
+    fn into_iter(self) -> Iter<'b, S::Elem, D> {
+        self.iter()
+    }
+}
+
+impl<'a, A, D: Lengths> IntoIterator for ArrayView<'a, A, D> {
+    ghost use Rattle.std.specs.Prelude.{◌<◌, ◌^◌, length};
+
+    type Item = &'a A;
+
+    type IntoIter = Iter<'a, A, D>;
+
+    ghost into_iter_gives = { λ a it. (it ≡ a.cells) × (length it < 2 ^ 63) };
+
+    fn into_iter(self) -> Iter<'a, A, D> {
+        Iter {
+            elements: ElementsBase::new(self),
         }
     }
 }

@@ -3,3 +3,4 @@ pub mod block;
 pub mod emptying;
 pub mod lent;
 pub mod move_out;
+pub mod steps;

@@ -2,6 +2,7 @@
 
 mod base;
 mod chunks;
+mod into_iter;
 mod iter;
 mod iter_mut;
 mod lanes;

@@ -1,5 +1,5 @@
 -- Inside `base`: nested strides, by which different index lists reach different places.
-use Rattle.std.specs.Prelude.{ℕ, ◌+◌, ◌-◌, ◌*◌, ◌%◌, ◌^◌, ◌<◌, List, [], ◌∷◌, length, slice_index, remove, min, cond, nat_lt}
+use Rattle.std.specs.Prelude.{ℕ, ◌+◌, ◌-◌, ◌*◌, ◌%◌, ◌^◌, ◌<◌, List, [], ◌∷◌, length, slice_index, remove, min, cond, nat_lt, nat_eq}
 
 -- the size of a stride without its sign: the bits of -1, 2 ^ 64 - 1, have the size 1
 abbrev pub magnitude : ℕ → ℕ
@@ -8,6 +8,14 @@ magnitude b = min (b % 2 ^ 64) (2 ^ 64 - b % 2 ^ 64)
 -- how far the first and the last place of an axis lie apart, by its length and its stride
 abbrev pub reach : ℕ → ℕ → ℕ
 reach n b = (n - 1) * magnitude b
+
+-- the index of a place on an axis of length n and stride b that is turned so that its stride goes up
+unfoldable pub turned : ℕ → ℕ → ℕ → ℕ
+turned n b i = cond (nat_eq (magnitude b) (b % 2 ^ 64)) i (n - 1 - i)
+
+-- how far the axis goes below its first place
+unfoldable pub sunk : ℕ → ℕ → ℕ
+sunk n b = cond (nat_eq (magnitude b) (b % 2 ^ 64)) 0 (reach n b)
 
 -- what each axis counts by its length and its stride, added up
 unfoldable pub total : (ℕ → ℕ → ℕ) → List ℕ → List ℕ → ℕ

@@ -1,0 +1,95 @@
+//! Iterators that give the cells of an array themselves.
+
+ghost use Rattle.std.specs.Prelude.{◌≡◌, ◌⊎◌, ◌<◌, ◌^◌, length, IfOk, IfSome};
+ghost use Rattle.std.specs.Iterator.{UpTo, YieldsFirst, item_count};
+ghost use Rattle.std.specs.Iterator.SizeHint.{IsExactHint, IsWithinCount};
+ghost use Rattle.std.specs.List.{AllZip};
+
+use crate::base::array::{Array, CowArray};
+use crate::base::dimension::Lengths;
+use crate::places::move_out::MoveOut;
+use crate::places::steps::Steps;
+use std::alloc::{AllocError, Global};
+use std::iter::ExactSizeIterator;
+use std::marker::Model;
+
+/// The cells of an array that are still to come, in row order, each moved out of it.
+///
+/// An iterator takes no memory, and neither does any of its steps. Its end drops each element that was not moved out,
+/// also those that the array hid.
+#[derive(Drop)]
+pub struct IntoIter<A, D: Lengths> {
+    elements: MoveOut<A, Steps<D>>,
+}
+
+impl<A, D: Lengths> Model for IntoIter<A, D> {
+    ghost use Rattle.std.specs.Prelude.{List};
+
+    ghost Value = { List A };
+
+    ghost view = { λ s. s.elements };
+}
+
+impl<A: Drop, D: Lengths> IntoIterator for Array<A, D> {
+    ghost use Rattle.std.specs.Prelude.{◌<◌, ◌^◌, length};
+
+    type Item = A;
+
+    type IntoIter = IntoIter<A, D>;
+
+    ghost into_iter_gives = { λ a it. (it ≡ a.cells) × (length it < 2 ^ 63) };
+
+    fn into_iter(self) -> IntoIter<A, D> {
+        let (items, map) = self.into_storage();
+        IntoIter {
+            elements: MoveOut::new(items, Steps::new(map)),
+        }
+    }
+}
+
+impl<'a, A: Clone + Drop, D: Lengths> CowArray<'a, A, D> {
+    /// The cells in row order: the array's own, moved out of it, where it owns them, else clones of them.
+    ///
+    /// The error is want of memory, for the clones; this array is then gone, and what it borrowed stays.
+    ///
+    /// ```
+    /// let source = [1, 2];
+    /// let array = CowArray::from(ArrayView::from_shape(2, &source)?);
+    /// for x in array.try_into_iter(alloc)? { .. } // 1, 2
+    /// ```
+    pub fn try_into_iter(self, alloc: Global) -> Result<IntoIter<A, D>, AllocError>
+        ensures cells { IfOk result (λ it. (it ≡ self.entry.cells) ⊎ AllZip A.is_clone self.entry.cells it) }
+        ensures fits { IfOk result (λ it. length it < 2 ^ 63) }
+        ensures same { IfOk result (λ it. ((x y : A) → A.is_clone x y → y ≡ x) → it ≡ self.entry.cells) }
+    {
+        let array = self.into_owned(alloc)?;
+        Ok(array.into_iter())
+    }
+}
+
+impl<A: Drop, D: Lengths> Iterator for IntoIter<A, D> {
+    type Item = A;
+
+    ghost next_gives = { YieldsFirst (λ rest. rest) };
+
+    ghost remaining = { item_count (λ rest. rest) };
+
+    fn next(&mut self) -> Option<A> {
+        self.elements.next()
+    }
+
+    fn size_hint(&self) -> (usize, Option<usize>)
+        ensures lower { IsWithinCount result.0 (item_count (λ rest. rest) self.now) }
+        ensures upper { IfSome result.1 (UpTo (item_count (λ rest. rest) self.now)) }
+        ensures exact { IsExactHint result (length self.now) }
+    {
+        let len = self.len();
+        (len, Some(len))
+    }
+}
+
+impl<A: Drop, D: Lengths> ExactSizeIterator for IntoIter<A, D> {
+    fn len(&self) -> usize {
+        self.elements.len()
+    }
+}
