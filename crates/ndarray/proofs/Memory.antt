@@ -1,11 +1,12 @@
 -- Regions in memory: what the walks share. Assumes `Logic`.
 use mathlib.Core.Path.{◌≡◌, refl, sym, ap, subst, ◌∙◌}
-use Prim.Native.Nat.{ℕ, zero, suc, ◌+◌, ◌*◌}
+use Prim.Native.Nat.{ℕ, zero, suc, ◌+◌, ◌*◌, ◌≤◌}
 use native.Mathlib.Omega.{arith}
 use native.Mathlib.Nat.{zero-mul, suc-mul}
 use mathlib.Core.List.{List, [], ◌∷◌, ◌++◌, map}
 use mathlib.Core.Bool.{Bool, true, false}
-use lib.ListN.{length, set, get_or}
+use lib.ListN.{length, set, get_or, take, take-append-drop, length-take}
+use lib.ListN.{drop as drop_l}
 use seplogic.Ra.Ura.{Ura}
 use mir.Val.{Val, vstruct, vcons, vnil, of_list}
 use base.Logic.{SProp, ent, sep, emp, wand, all, all_e, apply∗, via, id⊢, mono_r, never_e}
@@ -26,8 +27,8 @@ use denote.Struct.Tuple.{Tuple, tuple_type}
 use denote.Struct.Owning.{shape}
 use Rattle.std.specs.Prelude.{Option, Some, None}
 use Rattle.core.proofs.mem.Param.{El, R, el_x}
-use Rattle.ndarray.specs.base.Slots.{somes, kept, others, weave}
-use Rattle.ndarray.proofs.Slots.{given_or}
+use Rattle.ndarray.specs.base.Slots.{somes, put_in, kept, others, weave}
+use Rattle.ndarray.proofs.Slots.{given_or, somes_all, somes-put_in}
 use Rattle.ndarray.specs.base.Strewn.{strewn}
 use Rattle.ndarray.specs.contracts.base.region.RegionRepr as G-type
 
@@ -153,3 +154,52 @@ module _ (E : El) {M : Type 1} {𝓤 : Ura M} (𝓛 : Logic 𝓤) (b : ℕ) wher
       by ! (mono_r 𝓤 (sem 𝓛 ((mem (R E)).own_at x b at)) (qed 𝓛 (raw (all 𝓤 (Again cs i (o + s) at)) ∷ ‵ ((mem (R E)).own_at c b o) ∷ []) ∵ each ! (Again (Some c ∷ cs) (suc i) o at) (λ w. assume ! (‵ ((mem (R E)).own_at w b at)) $
       move ! (1 ∷ []) $ use1 𝓛 (raw (Again cs i (o + s) at w)) (all_e 𝓤 (Again cs i (o + s) at) w) $ move ! (1 ∷ 0 ∷ []) $
       use2 𝓛 (‵ (St (o + s) cs (somes (set cs i (Some w))))) (apply∗ 𝓤 (sem 𝓛 ((mem (R E)).own_at w b at)) (sem 𝓛 (St (o + s) cs (somes (set cs i (Some w)))))) $ move ! (1 ∷ []) $ fjoin ! $ done !)))
+
+  -- places one after another
+  apart : (cs ds : List Place) (o at : ℕ) → at ≡ length cs * s + o → ent 𝓤 (sem 𝓛 (St o (cs ++ ds) (somes (cs ++ ds)))) (sep 𝓤 (sem 𝓛 (St o cs (somes cs))) (sem 𝓛 (St at ds (somes ds))))
+  apart [] ds o at e = qed 𝓛 (‵ (St o ds (somes ds)) ∷ []) ∵ rewrite ! 0 (λ (k : ℕ). ‵ (St k ds (somes ds))) {x = at} (omega (arith, zero-mul s)) refl $ nothing ! $ done !
+  apart (None ∷ cs) ds o at e = let more : at ≡ suc (length cs) * s + o = e in apart cs ds (o + s) at (omega (arith, suc-mul (length cs) s))
+  apart (Some c ∷ cs) ds o at e = let more : at ≡ suc (length cs) * s + o = e in
+      qed 𝓛 (‵ (St o (Some c ∷ (cs ++ ds)) (c ∷ somes (cs ++ ds))) ∷ []) ∵ fsplit ! $ move ! (1 ∷ []) $
+      use1 𝓛 (‵ (St (o + s) cs (somes cs)) ⊛ ‵ (St at ds (somes ds))) (apart cs ds (o + s) at (omega (arith, suc-mul (length cs) s))) $ split ! $ move ! (2 ∷ 0 ∷ []) $ fjoin ! $ done !
+
+  joined : (cs ds : List Place) (vs ws : List (el_x E)) (o at : ℕ) → at ≡ length cs * s + o → ent 𝓤 (sep 𝓤 (sem 𝓛 (St o cs vs)) (sem 𝓛 (St at ds ws))) (sem 𝓛 (St o (cs ++ ds) (vs ++ ws)))
+  joined [] ds [] ws o at e = qed 𝓛 (‵ ftrue ∷ ‵ (St at ds ws) ∷ []) ∵ drop ! $ rewrite ! 0 (λ (k : ℕ). ‵ (St k ds ws)) {x = o} (omega (arith, zero-mul s)) refl $ done !
+  joined [] ds (v ∷ vs) ws o at e = qed 𝓛 (‵ ffalse ∷ ‵ (St at ds ws) ∷ []) ∵ keep ! (0 ∷ []) $ by ! (never_e 𝓤 _)
+  joined (None ∷ cs) ds vs ws o at e = let more : at ≡ suc (length cs) * s + o = e in joined cs ds vs ws (o + s) at (omega (arith, suc-mul (length cs) s))
+  joined (Some c ∷ cs) ds [] ws o at e = qed 𝓛 (‵ ffalse ∷ ‵ (St at ds ws) ∷ []) ∵ keep ! (0 ∷ []) $ by ! (never_e 𝓤 _)
+  joined (Some c ∷ cs) ds (v ∷ vs) ws o at e = let more : at ≡ suc (length cs) * s + o = e in
+      qed 𝓛 (‵ (St o (Some c ∷ cs) (v ∷ vs)) ∷ ‵ (St at ds ws) ∷ []) ∵ fsplit ! $ move ! (1 ∷ 2 ∷ []) $
+      use2 𝓛 (‵ (St (o + s) (cs ++ ds) (vs ++ ws))) (joined cs ds vs ws (o + s) at (omega (arith, suc-mul (length cs) s))) $ move ! (1 ∷ []) $ fjoin ! $ done !
+
+  filled_again : (xs ws : List (el_x E)) (o : ℕ) → length ws ≡ length xs → ent 𝓤 (sem 𝓛 (cells (mem (R E)) ws b o)) (sem 𝓛 (St o (map Some xs) ws))
+  filled_again [] [] o e = id⊢ 𝓤 (emp 𝓤)
+  filled_again [] (w ∷ ws) o e = absurd (omega arith)
+  filled_again (x ∷ xs) [] o e = absurd (omega arith)
+  filled_again (x ∷ xs) (w ∷ ws) o e = mono_r 𝓤 (sem 𝓛 ((mem (R E)).own_at w b o)) (filled_again xs ws (o + s) (omega arith))
+
+  -- a run of values is taken out, and any others put in its place
+  abbrev pub RunAgain : List Place → ℕ → ℕ → ℕ → ℕ → List (el_x E) → SProp 𝓤
+  RunAgain cs i n o at ws = wand 𝓤 (sem 𝓛 ((Arr (mem (R E)) n).own_at ws b at)) (sem 𝓛 (St o cs (somes (put_in cs i ws))))
+
+  pub run_out : (cs : List Place) (i n o at : ℕ) (xs : List (el_x E)) → i + n ≤ length cs → at ≡ i * s + o → length xs ≡ n → take n (drop_l i cs) ≡ map Some xs
+      → ent 𝓤 (sem 𝓛 (St o cs (somes cs))) (sep 𝓤 (sem 𝓛 ((Arr (mem (R E)) (length xs)).own_at xs b at)) (all 𝓤 (RunAgain cs i (length xs) o at)))
+  run_out cs i n o at xs le e long filled =
+      let before = take i cs in
+      let rest = drop_l n (drop_l i cs) in
+      let run : List Place = map Some xs in
+      let on : ℕ = length run * s + at in
+      let is : cs ≡ before ++ (run ++ rest) = sym (take-append-drop i cs) ∙ ap (λ l. before ++ l) (sym (take-append-drop n (drop_l i cs)) ∙ ap (λ l. l ++ rest) filled) in
+      let many : length before ≡ i = omega (arith, length-take i cs) in
+      let here : at ≡ length before * s + o = e ∙ ap (λ k. k * s + o) (sym many) in
+      qed 𝓛 (‵ (St o cs (somes cs)) ∷ []) ∵ rewrite ! 0 (λ (l : List Place). ‵ (St o l (somes l))) is refl $
+      use1 𝓛 (‵ (St o before (somes before)) ⊛ ‵ (St at (run ++ rest) (somes (run ++ rest)))) (apart before (run ++ rest) o at here) $ split ! $ move ! (1 ∷ 0 ∷ []) $
+      use1 𝓛 (‵ (St at run (somes run)) ⊛ ‵ (St on rest (somes rest))) (apart run rest at on refl) $ split ! $
+      rewrite ! 0 (λ (l : List (el_x E)). ‵ (St at run l)) (somes_all xs) refl $ use1 𝓛 (‵ ((Arr (mem (R E)) (length xs)).own_at xs b at)) (to_cells xs xs at) $
+      by ! (mono_r 𝓤 (sem 𝓛 ((Arr (mem (R E)) (length xs)).own_at xs b at)) (qed 𝓛 (‵ (St on rest (somes rest)) ∷ ‵ (St o before (somes before)) ∷ []) ∵
+      each ! (RunAgain cs i (length xs) o at) (λ ws. assume ! (‵ ((Arr (mem (R E)) (length xs)).own_at ws b at)) $ fsplit ! $ feq_l ! (λ same.
+      use1 𝓛 (‵ (St at run ws)) (filled_again xs ws at same) $
+      use2 𝓛 (‵ (St at (run ++ rest) (ws ++ somes rest))) (joined run rest ws (somes rest) at on refl) $ move ! (1 ∷ 0 ∷ []) $
+      use2 𝓛 (‵ (St o (before ++ (run ++ rest)) (somes before ++ (ws ++ somes rest)))) (joined before (run ++ rest) (somes before) (ws ++ somes rest) o at here) $
+      rewrite ! 0 (λ (l : List Place). ‵ (St o l (somes before ++ (ws ++ somes rest)))) (sym is) refl $
+      rewrite ! 0 (λ (l : List (el_x E)). ‵ (St o cs l)) (sym (somes-put_in cs i n ws (same ∙ long))) refl $ done !))))

@@ -1,8 +1,8 @@
 -- The places of a slice that are held, and those of its parts.
-use Rattle.std.proofs.Common.{◌≡◌, ◌≢◌, IsTrue, ℕ, zero, suc, ◌<◌, Bool, true, false, List, [], ◌∷◌, Option, Some, None, map, get_or, refl, ap, length, take, drop, arith}
+use Rattle.std.proofs.Common.{◌≡◌, ◌≢◌, IsTrue, ℕ, zero, suc, ◌<◌, Bool, true, false, List, [], ◌∷◌, Option, Some, None, map, get_or, refl, ap, ◌∙◌, ◌++◌, length, take, drop, arith}
 use Rattle.std.specs.Option.{is_some}
 use lib.ListN.{set}
-use Rattle.ndarray.specs.base.Slots.{somes, held_at, only_at, kept, others}
+use Rattle.ndarray.specs.base.Slots.{somes, put_in, held_at, only_at, kept, others}
 
 pub filled_within : {X : Type 0} (cs : List (Option X)) (i : ℕ) (x : X) → get_or cs i None ≡ Some x → i < length cs
 filled_within [] i x e = cc
@@ -26,6 +26,11 @@ length-others [] (c ∷ cs) = ap suc (length-others [] cs)
 length-others (true ∷ m) (c ∷ cs) = ap suc (length-others m cs)
 length-others (false ∷ m) (c ∷ cs) = ap suc (length-others m cs)
 
+pub somes-append : {X : Type 0} (cs ds : List (Option X)) → somes (cs ++ ds) ≡ somes cs ++ somes ds
+somes-append [] ds = refl
+somes-append (None ∷ cs) ds = somes-append cs ds
+somes-append (Some c ∷ cs) ds = ap (λ xs. c ∷ xs) (somes-append cs ds)
+
 -- the value, or d where there is none
 abbrev pub given_or : {X : Type 0} → Option X → X → X
 given_or None d = d
@@ -34,6 +39,12 @@ given_or (Some x) d = x
 pub somes_all : {X : Type 0} (xs : List X) → somes (map Some xs) ≡ xs
 somes_all [] = refl
 somes_all (x ∷ xs) = ap (λ ys. x ∷ ys) (somes_all xs)
+
+pub somes-put_in : {X : Type 0} (cs : List (Option X)) (i n : ℕ) (ws : List X) → length ws ≡ n → somes (put_in cs i ws) ≡ somes (take i cs) ++ (ws ++ somes (drop n (drop i cs)))
+somes-put_in cs i n ws e =
+    somes-append (take i cs) (map Some ws ++ drop (length ws) (drop i cs))
+    ∙ ap (λ xs. somes (take i cs) ++ xs) (somes-append (map Some ws) (drop (length ws) (drop i cs))
+    ∙ (ap (λ xs. xs ++ somes (drop (length ws) (drop i cs))) (somes_all ws) ∙ ap (λ k. ws ++ somes (drop k (drop i cs))) e))
 
 -- the places of cs, with other values
 abbrev pub fill : {X : Type 0} → List (Option X) → List X → List (Option X)

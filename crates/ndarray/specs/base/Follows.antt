@@ -3,7 +3,7 @@ use Rattle.std.specs.Prelude.{ℕ, Bool, List, Option, Some, slice_set}
 use Rattle.std.specs.Borrow.{Fml, RattleType, MutBor, Array, Lends}
 use base.Fml.{GName}
 use denote.Follow.{follows, follows_both}
-use Rattle.ndarray.specs.base.Slots.{somes, weave}
+use Rattle.ndarray.specs.base.Slots.{somes, put_in, weave}
 use Rattle.ndarray.specs.declared.base.region.RegionRepr.{RegionRepr}
 use Rattle.ndarray.specs.contracts.base.region.RegionRepr.{the_row}
 
@@ -20,9 +20,9 @@ module _ (V : RattleType) where
   abbrev pub follows_parts : List Bool → List (Option V.Denot) → GName → GName → GName → Fml
   follows_parts m cs γ γ₁ γ₂ = follows_both (Array V 0) (Array V 0) (Array V 0) γ γ₁ γ₂ (weave m cs)
 
-  -- the whole has at the place what was written there
-  abbrev pub follows_value : List (Option V.Denot) → GName → ℕ → GName → Fml
-  follows_value cs γ i γ' = follows (Array V 0) V γ γ' (λ w. somes (slice_set cs i (Some w)))
+  -- the whole has what was written to the run from `from` on
+  abbrev pub follows_run : List (Option V.Denot) → GName → ℕ → GName → Fml
+  follows_run cs γ from γ' = follows (Array V 0) (Array V 0) γ γ' (λ ws. somes (put_in cs from ws))
 
 -- the region has at the place what was written there
 abbrev pub lends_place : (M V : RattleType) → MutBor (RegionRepr M.Denot V.Denot) → ℕ → MutBor V.Denot → Fml

@@ -20,6 +20,10 @@ module _ {X : Type 0} where
   abbrev pub IsRun : List (Option X) → ℕ → ℕ → Type 0
   IsRun cs from len = (from + len ≤ length cs) × ((xs : List X) × (take len (drop from cs) ≡ map Some xs))
 
+  -- cs with ws in the place of what lies there, from `from` on
+  abbrev pub put_in : List (Option X) → ℕ → List X → List (Option X)
+  put_in cs from ws = take from cs ++ (map Some ws ++ drop (length ws) (drop from cs))
+
   -- the places of the mask
   abbrev pub kept : List Bool → List (Option X) → List (Option X)
   kept m [] = []

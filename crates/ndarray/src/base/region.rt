@@ -1,7 +1,7 @@
 //! Elements at some of the places of a slice, behind one lifetime: what writing views keep theirs in.
 //!
 //! A region is split by places, and its parts live side by side. Raw pointers stay inside `of`,
-//! `into_mut`, `get_mut`, `shared` and `Reading::slice`.
+//! `into_slice`, `get_mut`, `shared` and `Reading::slice`.
 
 ghost use Rattle.std.specs.Prelude.{◌≡◌, ◌≢◌, ℕ, Bool, List, Option, Some, map, take, drop};
 ghost use Rattle.std.specs.Borrow.{sem};
@@ -47,7 +47,7 @@ impl<M, A> Drop for RegionRepr<M, A> {
 }
 
 impl<'a, A> RegionRepr<Life<'a>, A> {
-    ghost use Rattle.ndarray.specs.base.Follows.{follows_slice, follows_value};
+    ghost use Rattle.ndarray.specs.base.Follows.{follows_slice, follows_run};
 
     /// Every place of the slice.
     pub(crate) fn of(s: &'a mut [A]) -> RegionRepr<Life<'a>, A>
@@ -60,14 +60,23 @@ impl<'a, A> RegionRepr<Life<'a>, A> {
         }
     }
 
+    /// The `len` elements from `from` on, for as long as the slice was lent.
+    pub(crate) fn into_slice(self, from: usize, len: usize) -> &'a mut [A]
+        requires { IsRun self.slots from len }
+        ensures* writes_back { sem 𝓛 (follows_run A.row self.entry.slots self.entry.name from result.ghost_name) }
+        ensures value { take len (drop from self.entry.slots) ≡ map Some result.now }
+    {
+        let RegionRepr { ptr, mark: _ } = self;
+        unsafe { slice::from_raw_parts_mut(ptr.add(from), len) }
+    }
+
     /// The element at one place, for as long as the slice was lent.
     pub(crate) fn into_mut(self, place: usize) -> &'a mut A
         requires { IsFilled self.slots place }
-        ensures* writes_back { sem 𝓛 (follows_value A.row self.entry.slots self.entry.name place result.ghost_name) }
         ensures value { held_at self.entry.slots place ≡ Some result.now }
     {
-        let RegionRepr { ptr, mark: _ } = self;
-        unsafe { &mut *ptr.add(place) }
+        let run = self.into_slice(place, 1);
+        &mut run[0]
     }
 
     /// The element at one place, for as long as the slice was lent; the place is then no longer held.
