@@ -108,7 +108,7 @@ All-cells P o g whole h k d lt =
     let l = length-box_in o g.lengths in
     let lc = length-along g whole (box_in o g.lengths) (box_in-within o g.lengths) in
     let here = slice_get-filter_map_all (cell g) (box_in o g.lengths) j [] all (omega arith)
-        ∙ (ap (cell g) (box_in-at o g.lengths is [] b.0) ∙ (cell-within g whole is b.0 ∙ (ap (slice_get g.cells) b.1 ∙ slice_get-get_or g.cells k d lt))) in
+    ∙ (ap (cell g) (box_in-at o g.lengths is [] b.0) ∙ (cell-within g whole is b.0 ∙ (ap (slice_get g.cells) b.1 ∙ slice_get-get_or g.cells k d lt))) in
     subst P (get_or_from_slice_get (cells_in o g) j (get_or g.cells k d) d here) (h j d (omega arith))
 
 -- cells that are all the same along an order are all the same

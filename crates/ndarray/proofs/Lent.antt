@@ -1,10 +1,10 @@
 -- Cells that are lent one after another: the next one, the last one, and all cells of an array.
 use Rattle.std.proofs.Common.{◌≡◌, ◌≢◌, ℕ, suc, ◌<◌, List, [], ◌∷◌, ◌++◌, length, zip, get_or, Option, Some, refl, sym, ◌∙◌, ap, arith, subst}
-use Rattle.std.specs.Prelude.{filter_map, All, AllPairs, Contains, IsTrue, ⊤}
+use Rattle.std.specs.Prelude.{All, IsTrue, ⊤}
 use Rattle.std.specs.Option.{is_some}
 use Rattle.std.proofs.lemmas.List.{get_or_append_left, length-append}
 use Rattle.std.proofs.lemmas.List.Elements.{All-tail, filter_map-append}
-use Rattle.ndarray.specs.Index.{InBox, row_order, IsBefore}
+use Rattle.ndarray.specs.Index.{row_order, IsBefore}
 use Rattle.ndarray.specs.base.Places.{place, Reaches}
 use Rattle.ndarray.specs.places.Lent.{along, AreLent}
 use Rattle.ndarray.proofs.Boxes.{InBox-length}

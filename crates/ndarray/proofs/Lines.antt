@@ -1,5 +1,5 @@
 -- One axis over the first elements of a slice, as many as a shape may have.
-use Rattle.std.proofs.Common.{◌≡◌, ℕ, ◌+◌, ◌*◌, ◌-◌, ◌<◌, ◌≤◌, ◌^◌, zero, suc, List, [], ◌∷◌, length, take, get_or, Option, refl, sym, ◌∙◌, ap, arith}
+use Rattle.std.proofs.Common.{◌≡◌, ℕ, ◌*◌, ◌-◌, ◌<◌, ◌≤◌, ◌^◌, zero, suc, List, [], ◌∷◌, length, take, get_or, Option, refl, sym, ◌∙◌, ap, arith}
 use Rattle.std.specs.Prelude.{slice_get}
 use Rattle.std.proofs.lemmas.List.{length-take-le}
 use Rattle.ndarray.specs.Grid.{Grid, grid, line}
@@ -30,5 +30,5 @@ module _ {A : Type 0} (at : ℕ → Option A) (xs : List A) (e : (p : ℕ) → a
   grid-line =
       let g : Grid A = grid_at at (n ∷ []) 0 (1 ∷ []) in
       let cells = sym (along-row_order g (length-cells_at at (n ∷ []) 0 (1 ∷ []) (Reaches-line ⊥)))
-          ∙ (cells_in-slice RowMajor (n ∷ []) (1 ∷ []) (strides-one n) (nonzero-one n limit) at xs e (omega arith) ∙ ap (λ m. take m xs) (let o : n * 1 ≡ n = omega arith in o)) in
+      ∙ (cells_in-slice RowMajor (n ∷ []) (1 ∷ []) (strides-one n) (nonzero-one n limit) at xs e (omega arith) ∙ ap (λ m. take m xs) (let o : n * 1 ≡ n = omega arith in o)) in
       ap (grid (n ∷ [])) cells ∙ ap (λ m. grid (m ∷ []) (take n xs)) (sym (length-take-le n xs room))

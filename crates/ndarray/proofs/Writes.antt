@@ -1,10 +1,10 @@
 -- What one write leaves of an array.
-use Rattle.std.proofs.Common.{◌≡◌, ◌≢◌, ℕ, suc, List, [], ◌∷◌, length, Option, Some, None, refl, sym, ◌∙◌, ap, arith, subst, inl, inr, true, false}
+use Rattle.std.proofs.Common.{◌≡◌, ◌≢◌, ℕ, suc, List, [], ◌∷◌, length, Option, Some, refl, sym, ◌∙◌, ap, arith, subst, inl, inr, true, false}
 use Rattle.std.specs.Prelude.{IsTrue, Contains}
 use Rattle.std.specs.Option.{is_some}
 use Rattle.std.proofs.lemmas.Bool.{cases_Bool, cases_eq}
-use Rattle.ndarray.specs.Index.{InBox, size, row_order}
-use Rattle.ndarray.specs.Grid.{Grid, grid, same_index, beside, cell, IsGrid}
+use Rattle.ndarray.specs.Index.{InBox, row_order}
+use Rattle.ndarray.specs.Grid.{Grid, same_index, beside, cell, IsGrid}
 use Rattle.ndarray.specs.Writes.{put_beside, with_cell}
 use Rattle.ndarray.specs.base.Places.{place, Reaches, grid_at}
 use Rattle.ndarray.proofs.Pairs.{Contains-cases}
@@ -31,9 +31,9 @@ module _ {A : Type 0} where
       elim (cases_Bool (same_index js is)) [
         | inl e ↦ rw (e, e) refl
         | inr e ↦ rw (e, e) (beside-put_here jss xs is w (omega arith) (elim (Contains-cases js jss is c) [
-            | inl here ↦ (let t : same_index js is ≡ true = subst (λ ks. same_index js ks ≡ true) here (same_index-refl js) in cc)
-            | inr later ↦ later
-          ]))
+          | inl here ↦ (let t : same_index js is ≡ true = subst (λ ks. same_index js ks ≡ true) here (same_index-refl js) in cc)
+          | inr later ↦ later
+        ]))
       ]
 
   beside-put_elsewhere : (jss : List (List ℕ)) (xs : List A) (is js : List ℕ) (w : A) → js ≢ is → beside jss (put_beside jss xs is w) js ≡ beside jss xs js

@@ -14,7 +14,9 @@ pub(crate) mod places;
 pub mod reduce;
 pub mod subviews;
 
-pub use crate::base::array::{Array, ArrayBase, ArrayView, ArrayView1, ArrayViewMut, ArrayViewMut1, CowArray};
+pub use crate::base::array::{
+    Array, ArrayBase, ArrayView, ArrayView1, ArrayViewMut, ArrayViewMut1, CowArray,
+};
 pub use crate::base::axis::Axis;
 pub use crate::base::dim_max::DimMax;
 pub use crate::base::dimension::{

@@ -162,6 +162,7 @@ where
     S::Elem: 'a,
 {
     type Item = &'a mut S::Elem;
+
     type IntoIter = IterMut<'a, S::Elem, D>;
 
     ghost into_iter_gives = { λ array iter. iter ≡ array.now.cells };
@@ -173,6 +174,7 @@ where
 
 impl<'a, A: 'a, D: Lengths> IntoIterator for ArrayViewMut<'a, A, D> {
     type Item = &'a mut A;
+
     type IntoIter = IterMut<'a, A, D>;
 
     ghost into_iter_gives = { λ view iter. iter ≡ view.cells };

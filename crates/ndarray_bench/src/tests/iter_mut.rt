@@ -17,7 +17,10 @@ fn each_cell_is_written_in_row_order(rt: HostRuntime) -> Result<(), Fail> {
             number += 1;
             *cell = number;
         }
-        assert_eq!(rt; shown(rt.alloc(), &array.view())?.as_str(), "[2, 3]: [1, 2, 3, 4, 5, 6]");
+        assert_eq!(rt;
+            shown(rt.alloc(), &array.view())?.as_str(),
+            "[2, 3]: [1, 2, 3, 4, 5, 6]"
+        );
     }
     Ok(())
 }
@@ -33,7 +36,10 @@ fn two_cells_held_together_are_exchanged(rt: HostRuntime) -> Result<(), Fail> {
     mem::swap(first, second);
     drop(cells);
     drop(turned);
-    assert_eq!(rt; shown(rt.alloc(), &array.view())?.as_str(), "[2, 2]: [3, 2, 1, 4]");
+    assert_eq!(rt;
+        shown(rt.alloc(), &array.view())?.as_str(),
+        "[2, 2]: [3, 2, 1, 4]"
+    );
     Ok(())
 }
 
@@ -46,7 +52,10 @@ fn index_lists_are_written_where_they_are(rt: HostRuntime) -> Result<(), Fail> {
         *cell = 10 * i64::try_from(i)? + i64::try_from(j)?;
     }
     drop(reversed);
-    assert_eq!(rt; shown(rt.alloc(), &array.view())?.as_str(), "[2, 2]: [10, 11, 0, 1]");
+    assert_eq!(rt;
+        shown(rt.alloc(), &array.view())?.as_str(),
+        "[2, 2]: [10, 11, 0, 1]"
+    );
     Ok(())
 }
 
@@ -60,7 +69,10 @@ fn both_ends_of_a_step_are_written_and_the_rest_stays(rt: HostRuntime) -> Result
     assert_eq!(rt; cells.len(), 1);
     drop(cells);
     drop(steps);
-    assert_eq!(rt; shown(rt.alloc(), &array.view())?.as_str(), "[6]: [0, 2, 3, 4, 0, 6]");
+    assert_eq!(rt;
+        shown(rt.alloc(), &array.view())?.as_str(),
+        "[6]: [0, 2, 3, 4, 0, 6]"
+    );
     Ok(())
 }
 
@@ -103,7 +115,10 @@ fn a_loop_over_an_array_to_write_in(rt: HostRuntime) -> Result<(), Fail> {
     for cell in view {
         *cell *= 10;
     }
-    assert_eq!(rt; shown(rt.alloc(), &array.view())?.as_str(), "[2, 2]: [2, 20, 2, 20]");
+    assert_eq!(rt;
+        shown(rt.alloc(), &array.view())?.as_str(),
+        "[2, 2]: [2, 20, 2, 20]"
+    );
     Ok(())
 }
 
@@ -116,7 +131,13 @@ fn steps_of_an_iterator_to_write(rt: HostRuntime) -> Result<(), Fail> {
     *array.iter_mut().last().ok_or("last")? = 50;
     assert_eq!(rt; array.iter_mut().count(), 5);
     assert_eq!(rt; array.iter_mut().position(|x| *x == 30), Some(2));
-    assert_eq!(rt; array.iter_mut().rfold(0, |sum, x| sum * 2 + *x), 50 * 16 + 40 * 8 + 30 * 4 + 20 * 2 + 1);
-    assert_eq!(rt; shown(rt.alloc(), &array.view())?.as_str(), "[5]: [1, 20, 30, 40, 50]");
+    assert_eq!(rt;
+        array.iter_mut().rfold(0, |sum, x| sum * 2 + *x),
+        50 * 16 + 40 * 8 + 30 * 4 + 20 * 2 + 1
+    );
+    assert_eq!(rt;
+        shown(rt.alloc(), &array.view())?.as_str(),
+        "[5]: [1, 20, 30, 40, 50]"
+    );
     Ok(())
 }

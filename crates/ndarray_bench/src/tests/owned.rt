@@ -10,9 +10,15 @@ use std::test::Fail;
 #[test]
 fn a_vector_is_taken_over_in_row_order_or_column_order(rt: HostRuntime) -> Result<(), Fail> {
     let rows = Array::from_shape_vec((2, 3), vec![in rt.alloc(); 1i64, 2, 3, 4, 5, 6]?)?;
-    assert_eq!(rt; shown(rt.alloc(), &rows.view())?.as_str(), "[2, 3]: [1, 2, 3, 4, 5, 6]");
+    assert_eq!(rt;
+        shown(rt.alloc(), &rows.view())?.as_str(),
+        "[2, 3]: [1, 2, 3, 4, 5, 6]"
+    );
     let columns = Array::from_shape_vec((2, 3).f(), vec![in rt.alloc(); 1i64, 4, 2, 5, 3, 6]?)?;
-    assert_eq!(rt; shown(rt.alloc(), &columns.view())?.as_str(), "[2, 3]: [1, 2, 3, 4, 5, 6]");
+    assert_eq!(rt;
+        shown(rt.alloc(), &columns.view())?.as_str(),
+        "[2, 3]: [1, 2, 3, 4, 5, 6]"
+    );
     let one = Array::from_shape_vec((), vec![in rt.alloc(); 7i64]?)?;
     assert_eq!(rt; shown(rt.alloc(), &one.view())?.as_str(), "[]: [7]");
     let none = Array::from_shape_vec((3, 0), Vec::<i64>::new(rt.alloc()))?;
@@ -43,11 +49,17 @@ fn a_vector_of_another_length_is_refused(rt: HostRuntime) -> Result<(), Fail> {
 #[test]
 fn one_element_in_each_cell(rt: HostRuntime) -> Result<(), Fail> {
     let sevens = Array::from_elem(rt.alloc(), (2, 1), 7i64)?;
-    assert_eq!(rt; shown(rt.alloc(), &sevens.view())?.as_str(), "[2, 1]: [7, 7]");
+    assert_eq!(rt;
+        shown(rt.alloc(), &sevens.view())?.as_str(),
+        "[2, 1]: [7, 7]"
+    );
     let zeros = Array::<i64, Ix1>::zeros(rt.alloc(), 2)?;
     assert_eq!(rt; shown(rt.alloc(), &zeros.view())?.as_str(), "[2]: [0, 0]");
     let columns = Array::<i64, Ix2>::zeros(rt.alloc(), (2, 3).f())?;
-    assert_eq!(rt; shown(rt.alloc(), &columns.view())?.as_str(), "[2, 3]: [0, 0, 0, 0, 0, 0]");
+    assert_eq!(rt;
+        shown(rt.alloc(), &columns.view())?.as_str(),
+        "[2, 3]: [0, 0, 0, 0, 0, 0]"
+    );
     let none = Array::<i64, Ix2>::zeros(rt.alloc(), (0, 3))?;
     assert_eq!(rt; shown(rt.alloc(), &none.view())?.as_str(), "[0, 3]: []");
     let one = Array::<i64, Ix0>::from_elem(rt.alloc(), (), 4)?;
@@ -61,9 +73,15 @@ fn one_element_in_each_cell(rt: HostRuntime) -> Result<(), Fail> {
 fn each_layout_has_the_same_copy(rt: HostRuntime) -> Result<(), Fail> {
     for view in &layouts()? {
         let copy = view.to_owned(rt.alloc())?;
-        assert_eq!(rt; shown(rt.alloc(), &copy.view())?.as_str(), "[2, 3]: [1, 2, 3, 4, 5, 6]");
+        assert_eq!(rt;
+            shown(rt.alloc(), &copy.view())?.as_str(),
+            "[2, 3]: [1, 2, 3, 4, 5, 6]"
+        );
         let turned = view.t().to_owned(rt.alloc())?;
-        assert_eq!(rt; shown(rt.alloc(), &turned.view())?.as_str(), "[3, 2]: [1, 4, 2, 5, 3, 6]");
+        assert_eq!(rt;
+            shown(rt.alloc(), &turned.view())?.as_str(),
+            "[3, 2]: [1, 4, 2, 5, 3, 6]"
+        );
     }
     let none = ArrayView::from_shape((0, 2), &[0i64; 0])?.to_owned(rt.alloc())?;
     assert_eq!(rt; shown(rt.alloc(), &none.view())?.as_str(), "[0, 2]: []");
@@ -74,17 +92,29 @@ fn each_layout_has_the_same_copy(rt: HostRuntime) -> Result<(), Fail> {
 fn a_view_or_an_array_that_may_be_owned(rt: HostRuntime) -> Result<(), Fail> {
     let source = [1i64, 2];
     let borrowed = CowArray::from(ArrayView::from_shape(2, &source)?);
-    assert_eq!(rt; shown(rt.alloc(), &borrowed.view())?.as_str(), "[2]: [1, 2]");
+    assert_eq!(rt;
+        shown(rt.alloc(), &borrowed.view())?.as_str(),
+        "[2]: [1, 2]"
+    );
     let copy = borrowed.into_owned(rt.alloc())?;
     assert_eq!(rt; shown(rt.alloc(), &copy.view())?.as_str(), "[2]: [1, 2]");
     let mut array = Array::from_shape_vec((1, 2), vec![in rt.alloc(); 3i64, 4]?)?;
     array.swap_axes(0, 1);
     let owned = CowArray::from(array);
-    assert_eq!(rt; shown(rt.alloc(), &owned.view())?.as_str(), "[2, 1]: [3, 4]");
+    assert_eq!(rt;
+        shown(rt.alloc(), &owned.view())?.as_str(),
+        "[2, 1]: [3, 4]"
+    );
     let taken = owned.into_owned(rt.alloc())?;
-    assert_eq!(rt; shown(rt.alloc(), &taken.view())?.as_str(), "[2, 1]: [3, 4]");
+    assert_eq!(rt;
+        shown(rt.alloc(), &taken.view())?.as_str(),
+        "[2, 1]: [3, 4]"
+    );
     let again = taken.into_owned(rt.alloc())?;
-    assert_eq!(rt; shown(rt.alloc(), &again.view())?.as_str(), "[2, 1]: [3, 4]");
+    assert_eq!(rt;
+        shown(rt.alloc(), &again.view())?.as_str(),
+        "[2, 1]: [3, 4]"
+    );
     assert_eq!(rt; source, [1, 2]);
     Ok(())
 }
@@ -95,7 +125,10 @@ fn what_is_written_is_the_cell_there_and_all_others_stay(rt: HostRuntime) -> Res
     if let Some(cell) = array.get_mut((1, 0)) {
         *cell = 7;
     }
-    assert_eq!(rt; shown(rt.alloc(), &array.view())?.as_str(), "[2, 3]: [0, 0, 0, 7, 0, 0]");
+    assert_eq!(rt;
+        shown(rt.alloc(), &array.view())?.as_str(),
+        "[2, 3]: [0, 0, 0, 7, 0, 0]"
+    );
     assert!(rt; array.get_mut((0, 3)).is_none());
     assert!(rt; array.get_mut((2, 0)).is_none());
     let mut columns = Array::<i64, Ix2>::zeros(rt.alloc(), (2, 3).f())?;
@@ -106,7 +139,10 @@ fn what_is_written_is_the_cell_there_and_all_others_stay(rt: HostRuntime) -> Res
     if let Some(cell) = columns.get_mut((1, 2)) {
         *cell = 8;
     }
-    assert_eq!(rt; shown(rt.alloc(), &columns.view())?.as_str(), "[2, 3]: [0, 5, 0, 0, 0, 8]");
+    assert_eq!(rt;
+        shown(rt.alloc(), &columns.view())?.as_str(),
+        "[2, 3]: [0, 5, 0, 0, 0, 8]"
+    );
     let mut one = Array::<i64, Ix0>::zeros(rt.alloc(), ())?;
     if let Some(cell) = one.get_mut(()) {
         *cell = 3;
@@ -119,11 +155,17 @@ fn what_is_written_is_the_cell_there_and_all_others_stay(rt: HostRuntime) -> Res
 fn a_slice_in_place_hides_cells(rt: HostRuntime) -> Result<(), Fail> {
     let mut array = Array::from_shape_vec(6, vec![in rt.alloc(); 1i64, 2, 3, 4, 5, 6]?)?;
     array.slice_axis_inplace(Axis(0), Slice::new(1, None, 2));
-    assert_eq!(rt; shown(rt.alloc(), &array.view())?.as_str(), "[3]: [2, 4, 6]");
+    assert_eq!(rt;
+        shown(rt.alloc(), &array.view())?.as_str(),
+        "[3]: [2, 4, 6]"
+    );
     if let Some(cell) = array.get_mut(1) {
         *cell = 0;
     }
-    assert_eq!(rt; shown(rt.alloc(), &array.view())?.as_str(), "[3]: [2, 0, 6]");
+    assert_eq!(rt;
+        shown(rt.alloc(), &array.view())?.as_str(),
+        "[3]: [2, 0, 6]"
+    );
     let copy = array.to_owned(rt.alloc())?;
     assert_eq!(rt; shown(rt.alloc(), &copy.view())?.as_str(), "[3]: [2, 0, 6]");
     Ok(())

@@ -15,7 +15,10 @@ fn what_is_written_through_a_view_is_in_the_array(rt: HostRuntime) -> Result<(),
     }
     assert!(rt; view.get_mut((2, 0)).is_none());
     drop(view);
-    assert_eq!(rt; shown(rt.alloc(), &array.view())?.as_str(), "[2, 3]: [0, 7, 0, 0, 0, 0]");
+    assert_eq!(rt;
+        shown(rt.alloc(), &array.view())?.as_str(),
+        "[2, 3]: [0, 7, 0, 0, 0, 0]"
+    );
     Ok(())
 }
 
@@ -29,7 +32,10 @@ fn each_way_of_lying_is_written_at_the_same_index_lists(rt: HostRuntime) -> Resu
         *cell = 8;
     }
     drop(view);
-    assert_eq!(rt; shown(rt.alloc(), &columns.view())?.as_str(), "[2, 3]: [0, 0, 0, 0, 0, 8]");
+    assert_eq!(rt;
+        shown(rt.alloc(), &columns.view())?.as_str(),
+        "[2, 3]: [0, 0, 0, 0, 0, 8]"
+    );
     let mut steps = Array::from_shape_vec(6, vec![in rt.alloc(); 1i64, 2, 3, 4, 5, 6]?)?;
     let mut view = steps.slice_axis_mut(Axis(0), Slice::new(0, None, -2));
     assert_eq!(rt; shown(rt.alloc(), &view.view())?.as_str(), "[3]: [6, 4, 2]");
@@ -37,7 +43,10 @@ fn each_way_of_lying_is_written_at_the_same_index_lists(rt: HostRuntime) -> Resu
         *cell = 0;
     }
     drop(view);
-    assert_eq!(rt; shown(rt.alloc(), &steps.view())?.as_str(), "[6]: [1, 2, 3, 0, 5, 6]");
+    assert_eq!(rt;
+        shown(rt.alloc(), &steps.view())?.as_str(),
+        "[6]: [1, 2, 3, 0, 5, 6]"
+    );
     Ok(())
 }
 
@@ -51,7 +60,10 @@ fn an_item_along_an_axis_is_written(rt: HostRuntime) -> Result<(), Fail> {
         }
     }
     drop(column);
-    assert_eq!(rt; shown(rt.alloc(), &array.view())?.as_str(), "[2, 2]: [0, 10, 0, 10]");
+    assert_eq!(rt;
+        shown(rt.alloc(), &array.view())?.as_str(),
+        "[2, 2]: [0, 10, 0, 10]"
+    );
     let mut line = Array::<i64, Ix1>::zeros(rt.alloc(), 2)?;
     let mut cell: ndarray::ArrayViewMut<'_, i64, Ix0> = line.index_axis_mut(Axis(0), 1);
     if let Some(cell) = cell.get_mut(()) {
@@ -74,9 +86,15 @@ fn a_view_of_a_view_is_written_too(rt: HostRuntime) -> Result<(), Fail> {
     if let Some(cell) = view.get_mut((0, 0)) {
         *cell = 4;
     }
-    assert_eq!(rt; shown(rt.alloc(), &view.view())?.as_str(), "[2, 2]: [4, 0, 5, 0]");
+    assert_eq!(rt;
+        shown(rt.alloc(), &view.view())?.as_str(),
+        "[2, 2]: [4, 0, 5, 0]"
+    );
     drop(view);
-    assert_eq!(rt; shown(rt.alloc(), &array.view())?.as_str(), "[2, 2]: [4, 0, 5, 0]");
+    assert_eq!(rt;
+        shown(rt.alloc(), &array.view())?.as_str(),
+        "[2, 2]: [4, 0, 5, 0]"
+    );
     Ok(())
 }
 
@@ -92,7 +110,10 @@ fn slices_are_views_of_one_axis(rt: HostRuntime) -> Result<(), Fail> {
     drop(view);
     assert_eq!(rt; numbers, [1, 2, 9]);
     let none: [i64; 0] = [];
-    assert_eq!(rt; shown(rt.alloc(), &ArrayView1::from(none.as_slice()))?.as_str(), "[0]: []");
+    assert_eq!(rt;
+        shown(rt.alloc(), &ArrayView1::from(none.as_slice()))?.as_str(),
+        "[0]: []"
+    );
     let units = [(), (), ()];
     assert_eq!(rt; ArrayView1::from(units.as_slice()).len(), 3);
     Ok(())

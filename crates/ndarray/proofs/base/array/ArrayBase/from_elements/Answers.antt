@@ -1,4 +1,4 @@
-use Rattle.std.proofs.Common.{arith, take, length, ◌∙◌, subst}
+use Rattle.std.proofs.Common.{arith, ◌∙◌, subst}
 use Rattle.std.proofs.lemmas.List.{take_all}
 use Rattle.ndarray.specs.Index.{size}
 use Rattle.ndarray.specs.Orders.{HasInOrder}

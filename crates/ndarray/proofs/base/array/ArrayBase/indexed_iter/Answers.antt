@@ -1,13 +1,9 @@
-use Rattle.std.proofs.Common.{sym, ap, ◌∙◌, ◌≡◌, subst, arith, length, map, List, ℕ}
-use Rattle.std.specs.Prelude.{zip, Some}
-use Rattle.std.proofs.lemmas.List.Elements.{All-same}
-use Rattle.std.proofs.lemmas.Slice.Zip.{firsts-zip, seconds-zip, length-zip}
-use Rattle.ndarray.specs.Index.{IsRowOrder, row_order}
-use Rattle.ndarray.specs.Grid.{HasCells, cell}
-use Rattle.ndarray.proofs.Cells.{all-cells, along-row_order, HasCells-row_order}
-use Rattle.ndarray.proofs.Lists.{zip-filter_map}
+use Rattle.std.proofs.Common.{sym, ap, ◌∙◌, ◌≡◌, subst}
+use Rattle.std.specs.Prelude.{zip}
+use Rattle.ndarray.specs.Index.{row_order}
+use Rattle.ndarray.specs.Grid.{HasCells}
+use Rattle.ndarray.proofs.Cells.{along-row_order, HasCells-row_order}
 use Rattle.ndarray.proofs.Indexed.{indexed-row_order, indexed-cells, indexed-own, indexed-fits}
-use Rattle.ndarray.proofs.Sizes.{size-le}
 use Rattle.ndarray.proofs.base.array.ArrayBase.indexed_iter.Goals as goal
 
 walked : (g : _) (c : goal.After-new g) → c.new.result ≡ row_order c.args.self.now.lengths

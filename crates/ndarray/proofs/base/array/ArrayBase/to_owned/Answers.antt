@@ -1,7 +1,7 @@
 use Rattle.std.proofs.Common.{◌≡◌, ◌∙◌, ap, arith, length, subst, sym}
 use Rattle.std.specs.List.{AllZip}
 use Rattle.std.proofs.lemmas.List.Elements.{length_all_zip, same_from_all_zip}
-use Rattle.ndarray.specs.Grid.{IsGrid, grid}
+use Rattle.ndarray.specs.Grid.{grid}
 use Rattle.ndarray.specs.Index.{size}
 use Rattle.ndarray.specs.Orders.{cells_in}
 use Rattle.ndarray.specs.declared.base.shape.Order.TheVariants.{RowMajor}

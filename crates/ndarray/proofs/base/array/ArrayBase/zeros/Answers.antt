@@ -1,5 +1,4 @@
 use Rattle.std.proofs.Common.{◌∙◌, ap}
-use Rattle.ndarray.specs.Orders.{cells_in}
 use Rattle.ndarray.proofs.Cells.{cells-alike}
 use Rattle.ndarray.proofs.base.array.ArrayBase.zeros.Goals as goal
 

@@ -1,4 +1,4 @@
-use Rattle.std.proofs.Common.{◌^◌, ◌-◌, ◌∙◌, ap, arith, length, min, take}
+use Rattle.std.proofs.Common.{◌^◌, ◌-◌, ◌∙◌, ap, arith, length, min}
 use Rattle.std.proofs.lemmas.List.{take_all, take_min}
 use Rattle.ndarray.specs.Grid.{line}
 use Rattle.ndarray.specs.base.Storage.{seen_at}

@@ -1,4 +1,4 @@
-use Rattle.std.proofs.Common.{◌^◌, ◌-◌, ◌∙◌, ap, arith, length, min, refl, take}
+use Rattle.std.proofs.Common.{◌^◌, ◌-◌, ◌∙◌, ap, arith, length, min, refl}
 use Rattle.std.specs.Prelude.{slice_get, ⊤}
 use Rattle.std.proofs.lemmas.List.{take_all, take_min}
 use Rattle.ndarray.specs.Grid.{line}
