@@ -165,7 +165,9 @@ where
 
     type IntoIter = IterMut<'a, S::Elem, D>;
 
-    ghost into_iter_gives = { λ array iter. iter ≡ array.now.cells };
+    ghost use Rattle.std.specs.Prelude.{◌<◌, ◌^◌, length};
+
+    ghost into_iter_gives = { λ a it. (it ≡ a.now.cells) × (length it < 2 ^ 63) };
 
     fn into_iter(self) -> IterMut<'a, S::Elem, D> {
         self.iter_mut()
@@ -177,7 +179,9 @@ impl<'a, A: 'a, D: Lengths> IntoIterator for ArrayViewMut<'a, A, D> {
 
     type IntoIter = IterMut<'a, A, D>;
 
-    ghost into_iter_gives = { λ view iter. iter ≡ view.cells };
+    ghost use Rattle.std.specs.Prelude.{◌<◌, ◌^◌, length};
+
+    ghost into_iter_gives = { λ v it. (it ≡ v.cells) × (length it < 2 ^ 63) };
 
     fn into_iter(self) -> IterMut<'a, A, D> {
         IterMut {
