@@ -2,7 +2,7 @@
 //! array.
 
 use crate::tests::shown::shown;
-use ndarray::{Array, ArrayViewMut1, Axis, Ix0, Ix2, IxDyn};
+use ndarray::{Array, ArrayBase, ArrayViewMut1, Axis, DataMut, Dimension, Ix0, Ix2, IxDyn};
 use std::test::Fail;
 
 /// Writes ten times the first cell of a view into its second.
@@ -20,6 +20,15 @@ fn tenfold(view: &mut ArrayViewMut1<'_, i64>) {
 fn begin(view: &mut ArrayViewMut1<'_, i64>, number: i64) {
     if let Some(cell) = view.get_mut(0) {
         *cell = number;
+    }
+}
+
+/// Writes a value into the first cell of each row, whatever keeps the cells.
+fn begin_rows<A: Copy, S: DataMut<Elem = A>, D: Dimension>(array: &mut ArrayBase<S, D>, value: A) {
+    for mut row in array.view_mut().rows_mut() {
+        if let Some(cell) = row.get_mut(0) {
+            *cell = value;
+        }
     }
 }
 
@@ -231,5 +240,21 @@ fn an_axis_without_cells_has_items_to_write_in(rt: HostRuntime) -> Result<(), Fa
         return Err("axis".into());
     }
     assert_eq!(rt; none.axis_iter_mut(Axis(1)).len(), 0);
+    Ok(())
+}
+
+#[test]
+fn rows_of_an_array_and_of_a_view_are_written_alike(rt: HostRuntime) -> Result<(), Fail> {
+    let mut array = Array::from_shape_vec((2, 2), vec![in rt.alloc(); 1i64, 2, 3, 4]?)?;
+    begin_rows(&mut array, 5);
+    assert_eq!(rt;
+        shown(rt.alloc(), &array.view())?.as_str(),
+        "[2, 2]: [5, 2, 5, 4]"
+    );
+    begin_rows(&mut array.view_mut().reversed_axes(), 6);
+    assert_eq!(rt;
+        shown(rt.alloc(), &array.view())?.as_str(),
+        "[2, 2]: [6, 6, 5, 4]"
+    );
     Ok(())
 }
