@@ -66,19 +66,26 @@ module _ (m : Laid) (ys rest : List (List ℕ)) (is : List ℕ) (p : ℕ) (e : y
   pub passed-more : (q : ℕ) → HasPassed (stepping m rest) q ↔ (HasPassed (stepping m ys) q ⊎ (◌≡◌ {A = Option ℕ} (Some p) (Some q)))
   passed-more q = (
     λ w.
-    elim (cases_eq p q) [
-      | inl same ↦ inr (ap (λ x. Some x) same)
-      | inr other ↦ inl (w.0, (w.1.0, w.1.1, λ c.
-        elim (Contains-cases is rest w.0 (subst (λ xs. Contains xs w.0) e c)) [
-          | inl here ↦ other (at ∙ (ap (place_in m) here ∙ w.1.1))
-          | inr later ↦ w.1.2 later
-        ]))
-    ],
+        elim (cases_eq p q) [
+          | inl same ↦ inr (ap (λ x. Some x) same)
+          | inr other ↦ inl (
+            w.0,
+            (
+              w.1.0,
+              w.1.1,
+              λ c.
+                  elim (Contains-cases is rest w.0 (subst (λ xs. Contains xs w.0) e c)) [
+                    | inl here ↦ other (at ∙ (ap (place_in m) here ∙ w.1.1))
+                    | inr later ↦ w.1.2 later
+                  ],
+            ),
+          )
+        ],
     λ s.
-    elim s [
-      | inl before ↦ (before.0, (before.1.0, before.1.1, λ c. before.1.2 (subst (λ xs. Contains xs before.0) (sym e) (Contains-later is rest before.0 c))))
-      | inr here ↦ (let same : p ≡ q = cc in (is, (All-head (InBox m.lengths) is rest now.within, sym at ∙ same, not_again)))
-    ],
+        elim s [
+          | inl before ↦ (before.0, (before.1.0, before.1.1, λ c. before.1.2 (subst (λ xs. Contains xs before.0) (sym e) (Contains-later is rest before.0 c))))
+          | inr here ↦ (let same : p ≡ q = cc in (is, (All-head (InBox m.lengths) is rest now.within, sym at ∙ same, not_again)))
+        ],
   )
 
 -- of a place that has an index list, the walk tells whether it was passed

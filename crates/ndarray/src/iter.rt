@@ -6,6 +6,7 @@ ghost use Rattle.std.specs.Iterator.SizeHint.{IsExactHint, IsWithinCount};
 ghost use Rattle.ndarray.specs.Orders.{HasInOrder};
 ghost use Rattle.ndarray.specs.declared.base.shape.Order.TheVariants.{RowMajor};
 
+pub mod collected;
 pub mod elements;
 pub mod indexed;
 pub mod into_iter;
@@ -13,6 +14,7 @@ pub mod into_iter;
 use crate::base::array::{ArrayBase, ArrayView};
 use crate::base::dimension::{Ix1, Lengths};
 use crate::base::storage::Data;
+pub use crate::iter::collected::{to_vec, to_vec_mapped};
 pub use crate::iter::elements::ElementsBase;
 pub use crate::iter::indexed::IndexedIter;
 pub use crate::iter::into_iter::IntoIter;

@@ -80,16 +80,28 @@ fn drops_each_once<'a, D: Lengths>(
 #[test]
 fn items_come_in_row_order_whatever_the_layout(rt: HostRuntime) -> Result<(), Fail> {
     let rows = Array::from_shape_vec((2, 3), vec![in rt.alloc(); 1i64, 2, 3, 4, 5, 6]?)?;
-    assert_eq!(rt; moved(rt.alloc(), rows)?.as_slice(), [1, 2, 3, 4, 5, 6].as_slice());
+    assert_eq!(rt;
+        moved(rt.alloc(), rows)?.as_slice(),
+        [1, 2, 3, 4, 5, 6].as_slice()
+    );
     let columns = Array::from_shape_vec((2, 3).f(), vec![in rt.alloc(); 1i64, 4, 2, 5, 3, 6]?)?;
-    assert_eq!(rt; moved(rt.alloc(), columns)?.as_slice(), [1, 2, 3, 4, 5, 6].as_slice());
+    assert_eq!(rt;
+        moved(rt.alloc(), columns)?.as_slice(),
+        [1, 2, 3, 4, 5, 6].as_slice()
+    );
     let mut reversed = Array::from_shape_vec((2, 3), vec![in rt.alloc(); 3i64, 2, 1, 6, 5, 4]?)?;
     reversed.invert_axis(Axis(1));
-    assert_eq!(rt; moved(rt.alloc(), reversed)?.as_slice(), [1, 2, 3, 4, 5, 6].as_slice());
+    assert_eq!(rt;
+        moved(rt.alloc(), reversed)?.as_slice(),
+        [1, 2, 3, 4, 5, 6].as_slice()
+    );
     let wide = vec![in rt.alloc(); 1i64, 0, 2, 0, 3, 0, 4, 0, 5, 0, 6, 0]?;
     let mut stepped = Array::from_shape_vec((2, 6), wide)?;
     stepped.slice_axis_inplace(Axis(1), Slice::new(0, None, 2));
-    assert_eq!(rt; moved(rt.alloc(), stepped)?.as_slice(), [1, 2, 3, 4, 5, 6].as_slice());
+    assert_eq!(rt;
+        moved(rt.alloc(), stepped)?.as_slice(),
+        [1, 2, 3, 4, 5, 6].as_slice()
+    );
     let one = Array::from_shape_vec((), vec![in rt.alloc(); 7i64]?)?;
     assert_eq!(rt; moved(rt.alloc(), one)?.as_slice(), [7].as_slice());
     let none = Array::<i64, Ix2>::from_shape_vec((2, 0), Vec::new(rt.alloc()))?;
@@ -166,6 +178,9 @@ fn a_loop_goes_over_an_array_and_over_a_view(rt: HostRuntime) -> Result<(), Fail
     for cell in array {
         seen.push(cell)?;
     }
-    assert_eq!(rt; seen.as_slice(), [1, 2, 3, 4, 1, 3, 2, 4, 1, 2, 3, 4].as_slice());
+    assert_eq!(rt;
+        seen.as_slice(),
+        [1, 2, 3, 4, 1, 3, 2, 4, 1, 2, 3, 4].as_slice()
+    );
     Ok(())
 }

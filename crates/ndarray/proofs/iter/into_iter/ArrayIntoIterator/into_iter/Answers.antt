@@ -22,4 +22,4 @@ returns g c =
     let s = size-le c.args.self.lengths in
     let w = e.whole in
     let m = e.limit in
-    record { into_iter_gives = (same, omega (arith, l, s, w, m)); }
+    record { into_iter_gives = (same, omega (arith, l, s, w, m)) }
