@@ -3,6 +3,7 @@ pub mod Beside
 pub mod Boxes
 pub mod Cells
 pub mod Cloned
+pub mod Collected
 pub mod Cuts
 pub mod Chunked
 pub mod ChunksApart

@@ -1,4 +1,5 @@
 pub mod Broadcast
+pub mod Collected
 pub mod Dimensions
 pub mod Errors
 pub mod Grid

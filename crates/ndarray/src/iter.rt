@@ -7,6 +7,7 @@ ghost use Rattle.ndarray.specs.Orders.{HasInOrder};
 ghost use Rattle.ndarray.specs.declared.base.shape.Order.TheVariants.{RowMajor};
 
 pub mod cells_mut;
+pub mod collected;
 pub mod elements;
 pub mod elements_mut;
 pub mod indexed;
@@ -16,6 +17,7 @@ use crate::base::array::{ArrayBase, ArrayView};
 use crate::base::dimension::{Ix1, Lengths};
 use crate::base::storage::Data;
 pub use crate::iter::cells_mut::{IndexedIterMut, IterMut};
+pub use crate::iter::collected::{to_vec, to_vec_mapped};
 pub use crate::iter::elements::ElementsBase;
 pub use crate::iter::elements_mut::ElementsBaseMut;
 pub use crate::iter::indexed::IndexedIter;

@@ -2,6 +2,7 @@
 
 mod base;
 mod chunks;
+mod collected;
 mod into_iter;
 mod iter;
 mod iter_mut;
