@@ -1,9 +1,8 @@
-use Rattle.std.proofs.Common.{ℕ, length, drop, Option, Some, None, arith, ◌≡◌, ◌<◌, ◌*◌, ◌+◌, ◌-◌, ◌^◌, ◌∙◌, ap, sym, inl, inr, refl, subst, get_or}
+use Rattle.std.proofs.Common.{ℕ, length, drop, Option, Some, None, arith, ◌≡◌, ◌+◌, ◌-◌, ◌∙◌, ap, sym, inl, inr, refl, subst, get_or}
 use Rattle.std.specs.Prelude.{IsTrue}
 use Rattle.std.specs.Option.{is_some, SomeIff}
 use Rattle.std.proofs.lemmas.Bool.{cases_lt}
 use Rattle.ndarray.specs.Index.{size}
-use Rattle.ndarray.specs.order.Steps.{block_in}
 use Rattle.ndarray.specs.declared.base.shape.Order.TheVariants.{RowMajor}
 use Rattle.ndarray.proofs.Sizes.{size-one_of}
 use Rattle.ndarray.proofs.Strides.{Follows, block_in-fits, block-step, place-follows}

@@ -1,4 +1,4 @@
-use Rattle.std.proofs.Common.{arith, ◌≡◌, ◌∙◌, ◌<◌, ap, sym, subst, refl, length, take, drop, []}
+use Rattle.std.proofs.Common.{arith, ◌∙◌, ap, sym, subst, refl, length, take, drop, []}
 use Rattle.std.proofs.lemmas.List.{nil_from_length}
 use Rattle.ndarray.specs.base.Slots.{IsRun}
 use Rattle.ndarray.proofs.Reached.{length-cells_at}
