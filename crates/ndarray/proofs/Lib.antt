@@ -38,6 +38,7 @@ pub mod Reached
 pub mod Readings
 pub mod Refilled
 pub mod RunningSum
+pub mod Runs
 pub mod Selections
 pub mod Sharing
 pub mod Sizes

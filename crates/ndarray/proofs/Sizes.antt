@@ -1,7 +1,7 @@
 -- The size of a box, and the limit on shapes, one axis at a time.
 use Rattle.std.proofs.Common.{◌≡◌, ℕ, ◌+◌, ◌-◌, ◌*◌, ◌<◌, ◌≤◌, ◌⊎◌, inl, inr, ◌^◌, suc, zero, List, [], ◌∷◌, ◌++◌, length, reverse, refl, take, drop, get_or, sym, ◌∙◌, ◌/◌, ◌%◌, ap, arith, set, insert, swap}
 use Rattle.std.proofs.Math.Seq.{take-suc, drop-append_seam}
-use Rattle.std.proofs.Math.Nat.{mul-le-mul_left, mul-lt-mul_of_pos_right, mul-div_cancel, mul_comm, div-lt_iff_lt-mul}
+use Rattle.std.proofs.Math.Nat.{mul-le-mul_left, mul-lt-mul_of_pos_right, mul-div_cancel, mul_comm, div-lt_iff_lt-mul, zero-mul, one-mul, mul-zero, suc-mul}
 use Rattle.std.proofs.lemmas.Bool.{cases_lt}
 use Rattle.std.proofs.lemmas.Nat.{div-add-mod'}
 use Rattle.std.proofs.lemmas.List.{take_all, take-append-drop, length-set, length-drop, length-reverse, reverse-append}
@@ -208,3 +208,15 @@ nonzero-insert_one (suc n ∷ ns) (suc k) = ap (λ x. suc n * x) (nonzero-insert
 pub limit-one : (n : ℕ) → n < 2 ^ 63 → nonzero_size (n ∷ []) < 2 ^ 63
 limit-one zero h = omega arith
 limit-one (suc n) h = omega arith
+
+product_one : (m t : ℕ) → m * t ≡ 1 → (m ≡ 1) × (t ≡ 1)
+product_one zero t e = absurd (omega (arith, zero-mul t, e))
+product_one (suc zero) t e = (refl, sym (one-mul t) ∙ e)
+product_one (suc (suc m)) zero e = absurd (omega (arith, mul-zero (suc (suc m)), e))
+product_one (suc (suc m)) (suc t) e = absurd (omega (arith, suc-mul (suc m) (suc t), suc-mul m (suc t), e))
+
+-- in a box of one index list each axis has length 1
+pub size-one_of : (ns : List ℕ) (k : ℕ) → k < length ns → size ns ≡ 1 → get_or ns k 0 ≡ 1
+size-one_of [] k lt e = absurd (omega arith)
+size-one_of (n ∷ ns) zero lt e = (product_one n (size ns) e).0
+size-one_of (n ∷ ns) (suc k) lt e = size-one_of ns k (omega arith) (product_one n (size ns) e).1

@@ -1,7 +1,8 @@
 -- The strides of a box whose cells lie side by side, and the view that they make.
-use Rattle.std.proofs.Common.{◌≡◌, ◌≢◌, ℕ, ◌+◌, ◌-◌, ◌*◌, ◌<◌, ◌≤◌, ◌^◌, suc, List, [], ◌∷◌, length, map, take, drop, set, get_or, Option, Some, inl, inr, refl, sym, ◌∙◌, ap, arith, subst}
+use Rattle.std.proofs.Common.{◌≡◌, ◌≢◌, ℕ, ◌+◌, ◌-◌, ◌*◌, ◌<◌, ◌≤◌, ◌^◌, suc, ◌⊎◌, List, [], ◌∷◌, length, map, take, drop, set, get_or, Option, Some, inl, inr, refl, sym, ◌∙◌, ap, arith, subst}
 use Rattle.std.specs.Prelude.{slice_get, IsTrue}
 use Rattle.std.specs.Option.{is_some, option_map}
+use Rattle.std.proofs.Math.Nat.{zero-mul}
 use Rattle.std.proofs.lemmas.Bool.{cases_lt}
 use Rattle.std.proofs.lemmas.List.{length-map, length-take-le, get_or-set_same, get_or-set_other}
 use Rattle.ndarray.specs.Index.{InBox, size}
@@ -16,7 +17,7 @@ use Rattle.ndarray.specs.declared.base.shape.Order.TheVariants.{RowMajor, Column
 use Rattle.std.proofs.lemmas.Option.{slice_get-get_or, slice_get-map}
 use Rattle.ndarray.proofs.Lists.{same_from_slice_get, slice_get-Some, slice_get-take, filled-slice, filter_map-from_map}
 use Rattle.ndarray.proofs.Sizes.{size-take_fits, size-drop_fits, size-le}
-use Rattle.ndarray.proofs.Orders.{length-box_in, rank_in-lt, box_in-back}
+use Rattle.ndarray.proofs.Orders.{length-box_in, rank-lt, rank_in-lt, box_in-back}
 use Rattle.ndarray.proofs.Walks.{axis_in-lt, block_in-more}
 use Rattle.ndarray.proofs.NestedBoxes.{nested-strides}
 use Rattle.ndarray.proofs.Reached.{cell-at, grid_at-same}
@@ -46,7 +47,11 @@ strides-more o n p k b bs cs f lt ek l ec eb so_far q h =
           ∙ (get_or-set_same bs (axis_in o n p) b 0 (let a = axis_in-lt o n p lt in omega arith) ∙ (eb ∙ ap f (sym e))))
     ]
 
-row-dot : (ns bs is : List ℕ) → length bs ≡ length ns → ((k : ℕ) → k < length ns → get_or bs k 0 ≡ size (drop (suc k) ns)) → InBox ns is → dot bs is ≡ rank ns is
+-- the axis that varies q-th fastest in row order has length 1, or the stride that it has where cells lie side by side
+abbrev pub Follows : (ns bs : List ℕ) (q : ℕ) → Type 0
+Follows ns bs q = (get_or ns (axis_in RowMajor (length ns) q) 0 ≡ 1) ⊎ (get_or bs (axis_in RowMajor (length ns) q) 0 ≡ block_in RowMajor ns q)
+
+row-dot : (ns bs is : List ℕ) → length bs ≡ length ns → ((k : ℕ) → k < length ns → (get_or ns k 0 ≡ 1) ⊎ (get_or bs k 0 ≡ size (drop (suc k) ns))) → InBox ns is → dot bs is ≡ rank ns is
 unfolding dot rank
 row-dot [] [] is l h b = refl
 row-dot [] (s ∷ bs) is l h b = absurd (omega arith)
@@ -54,7 +59,30 @@ row-dot (n ∷ ns) [] is l h b = absurd (omega arith)
 row-dot (n ∷ ns) (s ∷ bs) [] l h b = absurd b
 row-dot (n ∷ ns) (s ∷ bs) (i ∷ is) l h b =
     let ih = row-dot ns bs is (omega arith) (λ k lt. h (suc k) (omega arith)) b.1 in
-    let e : i * s ≡ i * size ns = ap (λ x. i * x) (h 0 (omega arith)) in
+    let e : i * s ≡ i * size ns = elim (h 0 (omega arith)) [
+      | inl one ↦ (let z : i ≡ 0 = omega (arith, one, b.0) in ap (λ x. x * s) z ∙ (zero-mul s ∙ sym (ap (λ x. x * size ns) z ∙ zero-mul (size ns))))
+      | inr same ↦ ap (λ x. i * x) same
+    ] in
+    omega arith
+
+dot-follows : (ns bs is : List ℕ) → length bs ≡ length ns → ((q : ℕ) → q < length ns → Follows ns bs q) → InBox ns is → dot bs is ≡ rank ns is
+dot-follows ns bs is l h b =
+    row-dot ns bs is l
+    (λ k lt.
+    let q : length ns - 1 - (length ns - 1 - k) ≡ k = omega arith in
+    let q2 : length ns - (length ns - 1 - k) ≡ suc k = omega arith in
+    elim (h (length ns - 1 - k) (omega arith)) [
+      | inl one ↦ inl (ap (λ x. get_or ns x 0) (sym q) ∙ one)
+      | inr same ↦ inr (ap (λ x. get_or bs x 0) (sym q) ∙ (same ∙ ap (λ x. size (drop x ns)) q2))
+    ])
+    b
+
+-- where no place comes before the start, cells that lie side by side are counted from there
+pub place-follows : (ns bs : List ℕ) (start : ℕ) → length bs ≡ length ns → ((q : ℕ) → q < length ns → Follows ns bs q) → start + size ns ≤ 2 ^ 64 → (is : List ℕ) → InBox ns is → place start bs is ≡ start + rank ns is
+unfolding place
+place-follows ns bs start l h room is b =
+    let d = dot-follows ns bs is l h b in
+    let lt = rank-lt ns is b in
     omega arith
 
 column-dot : (c : ℕ) (ns bs is : List ℕ) → length bs ≡ length ns → ((k : ℕ) → k < length ns → get_or bs k 0 ≡ c * size (take k ns)) → InBox ns is → dot bs is ≡ c * column_rank ns is
@@ -69,13 +97,7 @@ column-dot c (n ∷ ns) (s ∷ bs) (i ∷ is) l h b =
     omega arith
 
 pub dot-strides : (o : Order) (ns bs is : List ℕ) → AreStridesOf o ns bs → InBox ns is → dot bs is ≡ rank_in o ns is
-dot-strides RowMajor ns bs is h b =
-    row-dot ns bs is h.as_many
-    (λ k lt.
-    let q : length ns - 1 - (length ns - 1 - k) ≡ k = omega arith in
-    let q2 : length ns - (length ns - 1 - k) ≡ suc k = omega arith in
-    ap (λ x. get_or bs x 0) (sym q) ∙ (h.each (length ns - 1 - k) (omega arith) ∙ ap (λ x. size (drop x ns)) q2))
-    b
+dot-strides RowMajor ns bs is h b = dot-follows ns bs is h.as_many (λ q lt. inr (h.each q lt)) b
 dot-strides ColumnMajor ns bs is h b =
     column-dot 1 ns bs is h.as_many (λ k lt. h.each k lt ∙ omega arith) b ∙ omega arith
 

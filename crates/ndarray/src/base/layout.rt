@@ -1,11 +1,12 @@
 //! Inside `base`: where the cells of an array lie in its storage.
 
-ghost use Rattle.std.specs.Prelude.{◌≡◌, ◌<◌, ◌≤◌, ◌+◌, ◌*◌, ◌%◌, ◌^◌, ℕ, length, insert, remove, reverse, slice_index, slice_set, swap, MatchOption};
-ghost use Rattle.ndarray.specs.Index.{InBox};
+ghost use Rattle.std.specs.Prelude.{◌≡◌, ◌<◌, ◌≤◌, ◌+◌, ◌*◌, ◌%◌, ◌^◌, ℕ, List, IsTrue, length, insert, remove, reverse, slice_index, slice_set, swap, MatchOption};
+ghost use Rattle.ndarray.specs.Index.{InBox, size};
 ghost use Rattle.ndarray.specs.Limits.{IsWithinLimit};
 ghost use Rattle.ndarray.specs.Broadcast.{BroadcastsTo};
 ghost use Rattle.ndarray.specs.base.Places.{place};
 ghost use Rattle.ndarray.specs.base.Strides.{AreStridesOf, StretchedBy};
+ghost use Rattle.ndarray.specs.order.Steps.{rank};
 
 use crate::base::axis::Axis;
 use crate::base::dimension::{Dimension, Lengths, RemoveAxis};
@@ -52,6 +53,31 @@ impl<D: Lengths> Layout<D> {
             at = at.wrapping_add(index.axis(k).wrapping_mul(self.strides.axis(k)));
         }
         at
+    }
+
+    /// Whether the cells lie side by side in row order, the first one at the start. An axis of length 1
+    /// may have any stride.
+    ///
+    /// The caller owes a box that is not empty.
+    pub(crate) fn is_row_major(&self) -> bool
+        requires as_many { length (D.numbers self.now.strides) ≡ length (D.numbers self.now.dim) }
+        requires limit { IsWithinLimit (D.numbers self.now.dim) }
+        requires some { 0 < size (D.numbers self.now.dim) }
+        ensures places { IsTrue result → (is : List ℕ) → InBox (D.numbers self.now.dim) is → place self.now.start (D.numbers self.now.strides) is ≡ self.now.start + rank (D.numbers self.now.dim) is }
+        ensures one { size (D.numbers self.now.dim) ≡ 1 → IsTrue result }
+    {
+        let ndim = self.dim.ndim();
+        let mut block: usize = 1;
+        for p in 0..ndim {
+            let k = ndim - 1 - p;
+            let len = self.dim.axis(k);
+            if len != 1 && self.strides.axis(k) != block {
+                return false;
+            }
+            block *= len;
+        }
+        // Places are counted modulo 2^64, and none may come before the start.
+        self.start.checked_add(block - 1).is_some()
     }
 
     /// The same once more.

@@ -1,6 +1,6 @@
 //! Views to write in.
 
-ghost use Rattle.std.specs.Prelude.{◌≡◌, [], ◌∷◌, length, slice_get, ⊤};
+ghost use Rattle.std.specs.Prelude.{◌≡◌, [], ◌∷◌, length, slice_get, IsOk, IfOk, IfErr, ⊤};
 ghost use Rattle.std.specs.Borrow.{sem};
 ghost use Rattle.ndarray.specs.Grid.{IsGrid, line};
 ghost use Rattle.ndarray.specs.base.Places.{grid_at, places_at, Reaches};
@@ -60,5 +60,32 @@ impl<S: DataMut, D: Lengths> ArrayBase<S, D> {
         ensures whole { IsGrid result }
     {
         S::lend(self)
+    }
+}
+
+impl<'a, A, D: Lengths> ArrayViewMut<'a, A, D> {
+    /// The cells as a slice, for as long as the view's elements were lent, where they lie side by side in
+    /// row order; else the view as it is. A view of no cells is an empty slice.
+    ///
+    /// ```
+    /// if let Ok(cells) = array.view_mut().try_into_slice() {
+    ///     cells.reverse();
+    /// }
+    /// ```
+    pub fn try_into_slice(self) -> Result<&'a mut [A], Self>
+        ensures cells { IfOk result (λ s. s.now ≡ self.entry.cells) }
+        ensures one { length self.entry.cells ≡ 1 → IsOk result }
+        ensures empty { length self.entry.cells ≡ 0 → IsOk result }
+        ensures back { IfErr result (λ v. v ≡ self.entry) }
+    {
+        let ArrayBase { storage, layout } = self;
+        let len = layout.dim.size();
+        if len == 0 {
+            return Ok(storage.into_slice(0, 0));
+        }
+        if !layout.is_row_major() {
+            return Err(ArrayBase { storage, layout });
+        }
+        Ok(storage.into_slice(layout.start, len))
     }
 }

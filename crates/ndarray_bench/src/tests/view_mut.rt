@@ -126,3 +126,87 @@ fn a_view_of_an_array_by_from(rt: HostRuntime) -> Result<(), Fail> {
     assert_eq!(rt; shown(rt.alloc(), &view)?.as_str(), "[1, 2]: [6, 6]");
     Ok(())
 }
+
+#[test]
+fn cells_side_by_side_in_row_order_are_a_slice(rt: HostRuntime) -> Result<(), Fail> {
+    let mut array = Array::from_shape_vec((2, 3), vec![in rt.alloc(); 1i64, 2, 3, 4, 5, 6]?)?;
+    match array.view_mut().try_into_slice() {
+        Ok(cells) => {
+            assert_eq!(rt; &*cells, [1, 2, 3, 4, 5, 6].as_slice());
+            cells[4] = 9;
+        }
+        Err(_) => assert!(rt; false),
+    }
+    assert_eq!(rt;
+        shown(rt.alloc(), &array.view())?.as_str(),
+        "[2, 3]: [1, 2, 3, 4, 9, 6]"
+    );
+    let row = array.index_axis_mut(Axis(0), 1);
+    match row.try_into_slice() {
+        Ok(cells) => {
+            assert_eq!(rt; &*cells, [4, 9, 6].as_slice());
+            cells[0] = 7;
+        }
+        Err(_) => assert!(rt; false),
+    }
+    assert_eq!(rt;
+        shown(rt.alloc(), &array.view())?.as_str(),
+        "[2, 3]: [1, 2, 3, 7, 9, 6]"
+    );
+    let column = array.index_axis_mut(Axis(1), 1);
+    assert!(rt; column.try_into_slice().is_err());
+    Ok(())
+}
+
+#[test]
+fn a_view_in_column_order_is_given_back(rt: HostRuntime) -> Result<(), Fail> {
+    let items = vec![in rt.alloc(); 1i64, 4, 2, 5, 3, 6]?;
+    let mut array = Array::from_shape_vec((2, 3).f(), items)?;
+    match array.view_mut().try_into_slice() {
+        Ok(_) => assert!(rt; false),
+        Err(mut view) => {
+            assert_eq!(rt;
+                shown(rt.alloc(), &view.view())?.as_str(),
+                "[2, 3]: [1, 2, 3, 4, 5, 6]"
+            );
+            if let Some(cell) = view.get_mut((1, 0)) {
+                *cell = 8;
+            }
+        }
+    }
+    assert_eq!(rt;
+        shown(rt.alloc(), &array.view())?.as_str(),
+        "[2, 3]: [1, 2, 3, 8, 5, 6]"
+    );
+    match array.view_mut().reversed_axes().try_into_slice() {
+        Ok(cells) => assert_eq!(rt; &*cells, [1, 8, 2, 5, 3, 6].as_slice()),
+        Err(_) => assert!(rt; false),
+    }
+    Ok(())
+}
+
+#[test]
+fn views_of_one_cell_and_of_none_are_slices(rt: HostRuntime) -> Result<(), Fail> {
+    let mut array = Array::from_shape_vec((2, 3), vec![in rt.alloc(); 1i64, 2, 3, 4, 5, 6]?)?;
+    let mut column = array.slice_axis_mut(Axis(1), Slice::new(2, None, -3));
+    let one = column.slice_axis_mut(Axis(0), Slice::new(1, None, 1));
+    assert_eq!(rt; shown(rt.alloc(), &one.view())?.as_str(), "[1, 1]: [6]");
+    match one.try_into_slice() {
+        Ok(cells) => {
+            assert_eq!(rt; &*cells, [6].as_slice());
+            cells[0] = 0;
+        }
+        Err(_) => assert!(rt; false),
+    }
+    drop(column);
+    assert_eq!(rt;
+        shown(rt.alloc(), &array.view())?.as_str(),
+        "[2, 3]: [1, 2, 3, 4, 5, 0]"
+    );
+    let none = array.slice_axis_mut(Axis(0), Slice::new(2, None, 1));
+    match none.try_into_slice() {
+        Ok(cells) => assert_eq!(rt; cells.len(), 0),
+        Err(_) => assert!(rt; false),
+    }
+    Ok(())
+}
