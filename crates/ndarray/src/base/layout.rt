@@ -64,6 +64,7 @@ impl<D: Lengths> Layout<D> {
         requires limit { IsWithinLimit (D.numbers self.now.dim) }
         requires some { 0 < size (D.numbers self.now.dim) }
         ensures places { IsTrue result → (is : List ℕ) → InBox (D.numbers self.now.dim) is → place self.now.start (D.numbers self.now.strides) is ≡ self.now.start + rank (D.numbers self.now.dim) is }
+        ensures only { ((is : List ℕ) → InBox (D.numbers self.now.dim) is → place self.now.start (D.numbers self.now.strides) is ≡ self.now.start + rank (D.numbers self.now.dim) is) → IsTrue result }
         ensures one { size (D.numbers self.now.dim) ≡ 1 → IsTrue result }
     {
         let ndim = self.dim.ndim();
