@@ -16,13 +16,16 @@ returns-then-axis-block-clause-one g c = λ e.
     absurd (c.if-len-ne1.true (c.axis-len.ensures ∙ l))
 
 pub returns-then-axis-block-clause-places : goal.returns-then-axis-block-clause-places
-returns-then-axis-block-clause-places g c = (λ y. absurd (cc), λ beside.
-    let ns = g.D.Lengths.numbers c.args.self.now.dim in
-    let bs = g.D.Lengths.numbers c.args.self.now.strides in
-    let k = c.ndim-ndim.result - 1 - c.loop-p.p in
-    let next : suc k ≡ length ns - c.loop-p.p = omega arith in
-    let same = stride-follows ns bs c.args.self.now.start c.requires.as_many c.requires.some beside k (omega arith) (λ e. c.if-len-ne1.true (c.axis-len.ensures ∙ e)) (omega (arith, c.axis.ensures, c.axis.type_inv)) in
-    absurd (c.if-axis-block.true (c.axis.ensures ∙ (same ∙ (ap (λ j. size (drop j ns)) next ∙ sym c.loop-p.invariant.block)))))
+returns-then-axis-block-clause-places g c = (
+  λ y. absurd (cc),
+  λ beside.
+      let ns = g.D.Lengths.numbers c.args.self.now.dim in
+      let bs = g.D.Lengths.numbers c.args.self.now.strides in
+      let k = c.ndim-ndim.result - 1 - c.loop-p.p in
+      let next : suc k ≡ length ns - c.loop-p.p = omega arith in
+      let same = stride-follows ns bs c.args.self.now.start c.requires.as_many c.requires.some beside k (omega arith) (λ e. c.if-len-ne1.true (c.axis-len.ensures ∙ e)) (omega (arith, c.axis.ensures, c.axis.type_inv)) in
+      absurd (c.if-axis-block.true (c.axis.ensures ∙ (same ∙ (ap (λ j. size (drop j ns)) next ∙ sym c.loop-p.invariant.block)))),
+)
 
 pub overflow_mul-block : goal.overflow_mul-block
 overflow_mul-block g c =
@@ -63,8 +66,9 @@ returns-clause-places g c =
     let bs = g.D.Lengths.numbers c.args.self.now.strides in
     let start = c.args.self.now.start in
     let none : length ns - c.loop-p.p ≡ 0 = omega arith in
-    let all : c.loop-p.block ≡ size ns = c.loop-p.invariant.block ∙ ap (λ k. size (drop k ns)) none in
-    (λ y. let room = within c.checked_add.result _ c.checked_add.ensures (subst IsTrue c.is_some.ensures y) in
-        place-follows ns bs start c.requires.as_many (λ q lt. c.loop-p.invariant.each q (omega arith)) (omega (arith, room, all)),
-     λ beside. let fits = last-fits ns bs start c.requires.as_many c.requires.some beside in
-        subst IsTrue (sym c.is_some.ensures) (found c.checked_add.result _ c.checked_add.ensures (omega (arith, fits, all))))
+    let all : c.loop-p.block ≡ size ns = c.loop-p.invariant.block ∙ ap (λ k. size (drop k ns)) none in (
+      λ y. let room = within c.checked_add.result _ c.checked_add.ensures (subst IsTrue c.is_some.ensures y) in
+          place-follows ns bs start c.requires.as_many (λ q lt. c.loop-p.invariant.each q (omega arith)) (omega (arith, room, all)),
+      λ beside. let fits = last-fits ns bs start c.requires.as_many c.requires.some beside in
+          subst IsTrue (sym c.is_some.ensures) (found c.checked_add.result _ c.checked_add.ensures (omega (arith, fits, all))),
+    )
