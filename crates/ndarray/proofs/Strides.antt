@@ -1,11 +1,11 @@
 -- The strides of a box whose cells lie side by side, and the view that they make.
-use Rattle.std.proofs.Common.{◌≡◌, ◌≢◌, ℕ, ◌+◌, ◌-◌, ◌*◌, ◌<◌, ◌≤◌, ◌^◌, suc, ◌⊎◌, List, [], ◌∷◌, length, map, take, drop, set, get_or, Option, Some, inl, inr, refl, sym, ◌∙◌, ap, arith, subst}
+use Rattle.std.proofs.Common.{◌≡◌, ◌≢◌, ℕ, ◌+◌, ◌-◌, ◌*◌, ◌<◌, ◌≤◌, ◌^◌, zero, suc, ◌⊎◌, List, [], ◌∷◌, length, map, take, drop, set, get_or, Option, Some, inl, inr, refl, sym, ◌∙◌, ap, arith, subst}
 use Rattle.std.specs.Prelude.{slice_get, IsTrue}
 use Rattle.std.specs.Option.{is_some, option_map}
-use Rattle.std.proofs.Math.Nat.{zero-mul}
+use Rattle.std.proofs.Math.Nat.{zero-mul, mul-zero}
 use Rattle.std.proofs.lemmas.Bool.{cases_lt}
 use Rattle.std.proofs.lemmas.List.{length-map, length-take-le, get_or-set_same, get_or-set_other}
-use Rattle.ndarray.specs.Index.{InBox, size}
+use Rattle.ndarray.specs.Index.{InBox, size, row_order}
 use Rattle.ndarray.specs.Limits.{nonzero_size}
 use Rattle.ndarray.specs.Grid.{Grid, cell}
 use Rattle.ndarray.specs.Orders.{box_in, cells_in}
@@ -17,7 +17,7 @@ use Rattle.ndarray.specs.declared.base.shape.Order.TheVariants.{RowMajor, Column
 use Rattle.std.proofs.lemmas.Option.{slice_get-get_or, slice_get-map}
 use Rattle.ndarray.proofs.Lists.{same_from_slice_get, slice_get-Some, slice_get-take, filled-slice, filter_map-from_map}
 use Rattle.ndarray.proofs.Sizes.{size-take_fits, size-drop_fits, size-le}
-use Rattle.ndarray.proofs.Orders.{length-box_in, rank-lt, rank_in-lt, box_in-back}
+use Rattle.ndarray.proofs.Orders.{length-box_in, rank-lt, rank_in-lt, row_order-back, box_in-back}
 use Rattle.ndarray.proofs.Walks.{axis_in-lt, block_in-more}
 use Rattle.ndarray.proofs.NestedBoxes.{nested-strides}
 use Rattle.ndarray.proofs.Reached.{cell-at, grid_at-same}
@@ -84,6 +84,53 @@ place-follows ns bs start l h room is b =
     let d = dot-follows ns bs is l h b in
     let lt = rank-lt ns is b in
     omega arith
+
+-- ---- where the cells lie side by side, the strides follow
+
+parts-positive : (n t : ℕ) → 0 < n * t → (0 < n) × (0 < t)
+parts-positive zero t h = absurd (omega (arith, h, zero-mul t))
+parts-positive (suc n) zero h = absurd (omega (arith, h, mul-zero (suc n)))
+parts-positive (suc n) (suc t) h = (omega arith, omega arith)
+
+first-index : (ns bs : List ℕ) → length bs ≡ length ns → 0 < size ns → (is : List ℕ) × (InBox ns is × ((dot bs is ≡ 0) × (rank ns is ≡ 0)))
+unfolding dot rank
+first-index [] [] l some = ([], (tt, (refl, refl)))
+first-index [] (b ∷ bs) l some = absurd (omega arith)
+first-index (n ∷ ns) [] l some = absurd (omega arith)
+first-index (n ∷ ns) (b ∷ bs) l some =
+    let pos = parts-positive n (size ns) some in
+    let rest = first-index ns bs (omega arith) pos.1 in
+    (0 ∷ rest.0, ((pos.0, rest.1.0), (omega (arith, rest.1.1.0), omega (arith, rest.1.1.1))))
+
+-- the index list that is 1 at one axis and 0 at all others
+index-beside : (ns bs : List ℕ) (k : ℕ) → length bs ≡ length ns → 0 < size ns → k < length ns → get_or ns k 0 ≢ 1
+    → (is : List ℕ) × (InBox ns is × ((dot bs is ≡ get_or bs k 0) × (rank ns is ≡ size (drop (suc k) ns))))
+unfolding dot rank
+index-beside [] bs k l some lt ne = absurd (omega arith)
+index-beside (n ∷ ns) [] k l some lt ne = absurd (omega arith)
+index-beside (n ∷ ns) (b ∷ bs) zero l some lt ne =
+    let pos = parts-positive n (size ns) some in
+    let rest = first-index ns bs (omega arith) pos.1 in
+    (1 ∷ rest.0, ((omega (arith, ne, pos.0), rest.1.0), (omega (arith, rest.1.1.0), omega (arith, rest.1.1.1))))
+index-beside (n ∷ ns) (b ∷ bs) (suc k) l some lt ne =
+    let pos = parts-positive n (size ns) some in
+    let rest = index-beside ns bs k (omega arith) pos.1 (omega arith) ne in
+    (0 ∷ rest.0, ((pos.0, rest.1.0), (omega (arith, rest.1.1.0), omega (arith, rest.1.1.1))))
+
+module _ (ns bs : List ℕ) (start : ℕ) (l : length bs ≡ length ns) (some : 0 < size ns) (beside : (is : List ℕ) → InBox ns is → place start bs is ≡ start + rank ns is) where
+  pub stride-follows : (k : ℕ) → k < length ns → get_or ns k 0 ≢ 1 → get_or bs k 0 < 2 ^ 64 → get_or bs k 0 ≡ size (drop (suc k) ns)
+  unfolding place
+  stride-follows k lt ne fits =
+      let u = index-beside ns bs k l some lt ne in
+      let h = beside u.0 u.1.0 in
+      omega (arith, h, u.1.1.0, u.1.1.1)
+
+  pub last-fits : start + (size ns - 1) < 2 ^ 64
+  unfolding place
+  last-fits =
+      let back = row_order-back ns (size ns - 1) [] (omega arith) in
+      let h = beside (get_or (row_order ns) (size ns - 1) []) back.0 in
+      omega (arith, h, back.1)
 
 column-dot : (c : ℕ) (ns bs is : List ℕ) → length bs ≡ length ns → ((k : ℕ) → k < length ns → get_or bs k 0 ≡ c * size (take k ns)) → InBox ns is → dot bs is ≡ c * column_rank ns is
 unfolding dot column_rank

@@ -1,6 +1,6 @@
 //! Inside `base`: where the cells of an array lie in its storage.
 
-ghost use Rattle.std.specs.Prelude.{◌≡◌, ◌<◌, ◌≤◌, ◌+◌, ◌*◌, ◌%◌, ◌^◌, ℕ, List, IsTrue, length, insert, remove, reverse, slice_index, slice_set, swap, MatchOption};
+ghost use Rattle.std.specs.Prelude.{◌≡◌, ◌<◌, ◌≤◌, ◌+◌, ◌*◌, ◌%◌, ◌^◌, ◌↔◌, ℕ, List, IsTrue, length, insert, remove, reverse, slice_index, slice_set, swap, MatchOption};
 ghost use Rattle.ndarray.specs.Index.{InBox, size};
 ghost use Rattle.ndarray.specs.Limits.{IsWithinLimit};
 ghost use Rattle.ndarray.specs.Broadcast.{BroadcastsTo};
@@ -63,7 +63,7 @@ impl<D: Lengths> Layout<D> {
         requires as_many { length (D.numbers self.now.strides) ≡ length (D.numbers self.now.dim) }
         requires limit { IsWithinLimit (D.numbers self.now.dim) }
         requires some { 0 < size (D.numbers self.now.dim) }
-        ensures places { IsTrue result → (is : List ℕ) → InBox (D.numbers self.now.dim) is → place self.now.start (D.numbers self.now.strides) is ≡ self.now.start + rank (D.numbers self.now.dim) is }
+        ensures places { IsTrue result ↔ ((is : List ℕ) → InBox (D.numbers self.now.dim) is → place self.now.start (D.numbers self.now.strides) is ≡ self.now.start + rank (D.numbers self.now.dim) is) }
         ensures one { size (D.numbers self.now.dim) ≡ 1 → IsTrue result }
     {
         let ndim = self.dim.ndim();

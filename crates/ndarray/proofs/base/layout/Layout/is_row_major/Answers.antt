@@ -1,11 +1,11 @@
-use Rattle.std.proofs.Common.{ℕ, length, drop, Option, Some, None, arith, ◌≡◌, ◌+◌, ◌-◌, ◌∙◌, ap, sym, inl, inr, refl, subst, get_or}
+use Rattle.std.proofs.Common.{ℕ, suc, length, drop, Option, Some, None, arith, ◌≡◌, ◌+◌, ◌-◌, ◌∙◌, ap, sym, inl, inr, refl, subst, get_or}
 use Rattle.std.specs.Prelude.{IsTrue}
 use Rattle.std.specs.Option.{is_some, SomeIff}
 use Rattle.std.proofs.lemmas.Bool.{cases_lt}
 use Rattle.ndarray.specs.Index.{size}
 use Rattle.ndarray.specs.declared.base.shape.Order.TheVariants.{RowMajor}
 use Rattle.ndarray.proofs.Sizes.{size-one_of}
-use Rattle.ndarray.proofs.Strides.{Follows, block_in-fits, block-step, place-follows}
+use Rattle.ndarray.proofs.Strides.{Follows, block_in-fits, block-step, last-fits, place-follows, stride-follows}
 use Rattle.ndarray.proofs.base.layout.Layout.is_row_major.Goals as goal
 use Rattle.ndarray.proofs.base.layout.Layout.is_row_major.Goals.{else-len-ne1-via-then-len-ne1+else-axis-block, else-len-ne1-via-else-len-ne1}
 
@@ -14,6 +14,18 @@ returns-then-axis-block-clause-one g c = λ e.
     let k = c.ndim-ndim.result - 1 - c.loop-p.p in
     let l = size-one_of (g.D.Lengths.numbers c.args.self.now.dim) k (omega arith) e in
     absurd (c.if-len-ne1.true (c.axis-len.ensures ∙ l))
+
+pub returns-then-axis-block-clause-places : goal.returns-then-axis-block-clause-places
+returns-then-axis-block-clause-places g c = (
+  λ y. absurd (cc),
+  λ beside.
+      let ns = g.D.Lengths.numbers c.args.self.now.dim in
+      let bs = g.D.Lengths.numbers c.args.self.now.strides in
+      let k = c.ndim-ndim.result - 1 - c.loop-p.p in
+      let next : suc k ≡ length ns - c.loop-p.p = omega arith in
+      let same = stride-follows ns bs c.args.self.now.start c.requires.as_many c.requires.some beside k (omega arith) (λ e. c.if-len-ne1.true (c.axis-len.ensures ∙ e)) (omega (arith, c.axis.ensures, c.axis.type_inv)) in
+      absurd (c.if-axis-block.true (c.axis.ensures ∙ (same ∙ (ap (λ j. size (drop j ns)) next ∙ sym c.loop-p.invariant.block)))),
+)
 
 pub overflow_mul-block : goal.overflow_mul-block
 overflow_mul-block g c =
@@ -44,11 +56,19 @@ within : {P : Type 0} (sum : Option ℕ) (v : ℕ) → SomeIff sum P v → IsTru
 within None v h y = absurd (cc)
 within (Some x) v h y = h.0
 
+found : {P : Type 0} (sum : Option ℕ) (v : ℕ) → SomeIff sum P v → P → IsTrue (is_some sum)
+found None v h p = absurd (h p)
+found (Some x) v h p = refl
+
 pub returns-clause-places : goal.returns-clause-places
-returns-clause-places g c = λ y.
+returns-clause-places g c =
     let ns = g.D.Lengths.numbers c.args.self.now.dim in
     let bs = g.D.Lengths.numbers c.args.self.now.strides in
+    let start = c.args.self.now.start in
     let none : length ns - c.loop-p.p ≡ 0 = omega arith in
-    let all : c.loop-p.block ≡ size ns = c.loop-p.invariant.block ∙ ap (λ k. size (drop k ns)) none in
-    let room = within c.checked_add.result _ c.checked_add.ensures (subst IsTrue c.is_some.ensures y) in
-    place-follows ns bs c.args.self.now.start c.requires.as_many (λ q lt. c.loop-p.invariant.each q (omega arith)) (omega (arith, room, all))
+    let all : c.loop-p.block ≡ size ns = c.loop-p.invariant.block ∙ ap (λ k. size (drop k ns)) none in (
+      λ y. let room = within c.checked_add.result _ c.checked_add.ensures (subst IsTrue c.is_some.ensures y) in
+          place-follows ns bs start c.requires.as_many (λ q lt. c.loop-p.invariant.each q (omega arith)) (omega (arith, room, all)),
+      λ beside. let fits = last-fits ns bs start c.requires.as_many c.requires.some beside in
+          subst IsTrue (sym c.is_some.ensures) (found c.checked_add.result _ c.checked_add.ensures (omega (arith, fits, all))),
+    )

@@ -27,9 +27,9 @@ pub into_slice-requires-2 : goal.into_slice-requires-2
 into_slice-requires-2 g c =
     let a = c.self.inside in
     subst (IsRun a.storage.slots a.layout.start) (sym c.size-len.ensures)
-    (IsRun-cells a.storage.slots (g.D.Lengths.numbers a.layout.dim) a.layout.start (g.D.Lengths.numbers a.layout.strides) c.self.invariant (c.if-not-is_row_major.ensures.places refl) (omega (arith, c.size-len.ensures)))
+    (IsRun-cells a.storage.slots (g.D.Lengths.numbers a.layout.dim) a.layout.start (g.D.Lengths.numbers a.layout.strides) c.self.invariant (c.if-not-is_row_major.ensures.places.0 refl) (omega (arith, c.size-len.ensures)))
 
 pub returns-clause-cells : goal.returns-clause-cells
 returns-clause-cells g c =
     let a = c.self.inside in
-    same-run _ _ (sym c.into_slice-2.ensures.value ∙ (ap (λ n. take n (drop a.layout.start a.storage.slots)) c.size-len.ensures ∙ run-cells a.storage.slots (g.D.Lengths.numbers a.layout.dim) a.layout.start (g.D.Lengths.numbers a.layout.strides) c.self.invariant (c.if-not-is_row_major.ensures.places refl) (omega (arith, c.size-len.ensures)))) ∙ ap (λ v. v.cells) c.self.view_is
+    same-run _ _ (sym c.into_slice-2.ensures.value ∙ (ap (λ n. take n (drop a.layout.start a.storage.slots)) c.size-len.ensures ∙ run-cells a.storage.slots (g.D.Lengths.numbers a.layout.dim) a.layout.start (g.D.Lengths.numbers a.layout.strides) c.self.invariant (c.if-not-is_row_major.ensures.places.0 refl) (omega (arith, c.size-len.ensures)))) ∙ ap (λ v. v.cells) c.self.view_is
