@@ -6,6 +6,15 @@ use ndarray::{Array, ArrayViewMut1, Axis, Ix0, Ix1, Ix2, IxDyn, ShapeBuilder, Sl
 use std::mem;
 use std::test::Fail;
 
+/// Writes 1, 2, 3 .. into the cells in row order.
+fn number(array: &mut Array<i64, Ix2>) {
+    let mut last = 0i64;
+    for cell in array.iter_mut() {
+        last = last.wrapping_add(1);
+        *cell = last;
+    }
+}
+
 #[test]
 fn each_cell_is_written_in_row_order(rt: HostRuntime) -> Result<(), Fail> {
     let mut rows = Array::<i64, Ix2>::zeros(rt.alloc(), (2, 3))?;
@@ -49,7 +58,7 @@ fn index_lists_are_written_where_they_are(rt: HostRuntime) -> Result<(), Fail> {
     let mut reversed = array.view_mut();
     reversed.invert_axis(Axis(0));
     for ((i, j), cell) in reversed.indexed_iter_mut() {
-        *cell = 10 * i64::try_from(i)? + i64::try_from(j)?;
+        *cell = i64::try_from(i)?.wrapping_mul(10).wrapping_add(i64::try_from(j)?);
     }
     drop(reversed);
     assert_eq!(rt;
@@ -80,9 +89,9 @@ fn both_ends_of_a_step_are_written_and_the_rest_stays(rt: HostRuntime) -> Result
 fn the_ends_meet_once_and_stay_ended(rt: HostRuntime) -> Result<(), Fail> {
     let mut numbers = [1i64, 2, 3];
     let mut cells = ElementsBaseMut::new(ArrayViewMut1::from(numbers.as_mut_slice()));
-    *cells.next_back().ok_or("3")? += 10;
-    *cells.next().ok_or("1")? += 10;
-    *cells.next_back().ok_or("2")? += 10;
+    *cells.next_back().ok_or("3")? = 13;
+    *cells.next().ok_or("1")? = 11;
+    *cells.next_back().ok_or("2")? = 12;
     assert!(rt; cells.next().is_none());
     assert!(rt; cells.next_back().is_none());
     assert!(rt; cells.next().is_none());
@@ -108,12 +117,12 @@ fn no_axes_one_cell_and_empty_axes_none(rt: HostRuntime) -> Result<(), Fail> {
 fn a_loop_over_an_array_to_write_in(rt: HostRuntime) -> Result<(), Fail> {
     let mut array = Array::from_elem(rt.alloc(), (2, 2), 1i64)?;
     for cell in &mut array {
-        *cell += 1;
+        *cell = cell.wrapping_add(1);
     }
     let mut view = array.view_mut();
     view.slice_axis_inplace(Axis(1), Slice::new(1, None, 1));
     for cell in view {
-        *cell *= 10;
+        *cell = cell.wrapping_mul(10);
     }
     assert_eq!(rt;
         shown(rt.alloc(), &array.view())?.as_str(),
@@ -132,8 +141,10 @@ fn steps_of_an_iterator_to_write(rt: HostRuntime) -> Result<(), Fail> {
     assert_eq!(rt; array.iter_mut().count(), 5);
     assert_eq!(rt; array.iter_mut().position(|x| *x == 30), Some(2));
     assert_eq!(rt;
-        array.iter_mut().rfold(0, |sum, x| sum * 2 + *x),
-        50 * 16 + 40 * 8 + 30 * 4 + 20 * 2 + 1
+        array
+            .iter_mut()
+            .rfold(0i64, |sum, x| sum.wrapping_mul(2).wrapping_add(*x)),
+        1281
     );
     assert_eq!(rt;
         shown(rt.alloc(), &array.view())?.as_str(),

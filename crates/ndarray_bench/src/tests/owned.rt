@@ -134,7 +134,7 @@ fn what_is_written_is_the_cell_there_and_all_others_stay(rt: HostRuntime) -> Res
     let mut columns = Array::<i64, Ix2>::zeros(rt.alloc(), (2, 3).f())?;
     columns.invert_axis(Axis(1));
     if let Some(cell) = columns.get_mut((0, 1)) {
-        *cell += 5;
+        *cell = 5;
     }
     if let Some(cell) = columns.get_mut((1, 2)) {
         *cell = 8;

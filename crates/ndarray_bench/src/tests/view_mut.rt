@@ -135,24 +135,30 @@ fn cells_side_by_side_in_row_order_are_a_slice(rt: HostRuntime) -> Result<(), Fa
             assert_eq!(rt; &*cells, [1, 2, 3, 4, 5, 6].as_slice());
             cells[4] = 9;
         }
-        Err(_) => assert!(rt; false),
+        Err(_view) => assert!(rt; false),
     }
     assert_eq!(rt;
         shown(rt.alloc(), &array.view())?.as_str(),
         "[2, 3]: [1, 2, 3, 4, 9, 6]"
     );
+    if !array.axis_ok(Axis(0)) || array.len_of(Axis(0)) != 2 {
+        return Err("rows".into());
+    }
     let row = array.index_axis_mut(Axis(0), 1);
     match row.try_into_slice() {
         Ok(cells) => {
             assert_eq!(rt; &*cells, [4, 9, 6].as_slice());
             cells[0] = 7;
         }
-        Err(_) => assert!(rt; false),
+        Err(_view) => assert!(rt; false),
     }
     assert_eq!(rt;
         shown(rt.alloc(), &array.view())?.as_str(),
         "[2, 3]: [1, 2, 3, 7, 9, 6]"
     );
+    if !array.axis_ok(Axis(1)) || array.len_of(Axis(1)) != 3 {
+        return Err("columns".into());
+    }
     let column = array.index_axis_mut(Axis(1), 1);
     assert!(rt; column.try_into_slice().is_err());
     Ok(())
@@ -163,7 +169,7 @@ fn a_view_in_column_order_is_given_back(rt: HostRuntime) -> Result<(), Fail> {
     let items = vec![in rt.alloc(); 1i64, 4, 2, 5, 3, 6]?;
     let mut array = Array::from_shape_vec((2, 3).f(), items)?;
     match array.view_mut().try_into_slice() {
-        Ok(_) => assert!(rt; false),
+        Ok(_cells) => assert!(rt; false),
         Err(mut view) => {
             assert_eq!(rt;
                 shown(rt.alloc(), &view.view())?.as_str(),
@@ -180,7 +186,7 @@ fn a_view_in_column_order_is_given_back(rt: HostRuntime) -> Result<(), Fail> {
     );
     match array.view_mut().reversed_axes().try_into_slice() {
         Ok(cells) => assert_eq!(rt; &*cells, [1, 8, 2, 5, 3, 6].as_slice()),
-        Err(_) => assert!(rt; false),
+        Err(_view) => assert!(rt; false),
     }
     Ok(())
 }
@@ -196,17 +202,21 @@ fn views_of_one_cell_and_of_none_are_slices(rt: HostRuntime) -> Result<(), Fail>
             assert_eq!(rt; &*cells, [6].as_slice());
             cells[0] = 0;
         }
-        Err(_) => assert!(rt; false),
+        Err(_view) => assert!(rt; false),
     }
     drop(column);
     assert_eq!(rt;
         shown(rt.alloc(), &array.view())?.as_str(),
         "[2, 3]: [1, 2, 3, 4, 5, 0]"
     );
-    let none = array.slice_axis_mut(Axis(0), Slice::new(2, None, 1));
+    let none = Slice::new(2, None, 1);
+    if !array.slice_ok(Axis(0), &none) {
+        return Err("none".into());
+    }
+    let none = array.slice_axis_mut(Axis(0), none);
     match none.try_into_slice() {
         Ok(cells) => assert_eq!(rt; cells.len(), 0),
-        Err(_) => assert!(rt; false),
+        Err(_view) => assert!(rt; false),
     }
     Ok(())
 }
