@@ -8,7 +8,7 @@ use Rattle.std.proofs.lemmas.List.{get_or_append_left, length-append, length-map
 use Rattle.ndarray.specs.Index.{InBox, row_order, size, IsBefore}
 use Rattle.ndarray.specs.Grid.{Grid, grid, beside, cell, IsGrid, HasCells, tabulate, tabulated, IsKnownByCells, arranged}
 use Rattle.ndarray.specs.order.Steps.{rank, rank_in}
-use Rattle.ndarray.proofs.Lists.{same_from_slice_get, length-filter_map_all, slice_get-filter_map_all, slice_get-Some, filter_map-same, map-from_filter_map, get_or-append-last, map-same, filter_map-take_all, filter_map-drop_all, replicate-is}
+use Rattle.ndarray.proofs.Lists.{same_from_slice_get, length-filter_map_all, slice_get-filter_map_all, slice_get-Some, filter_map-same, filter_map-full, map-from_filter_map, get_or-append-last, map-same, filter_map-take_all, filter_map-drop_all, replicate-is}
 use Rattle.ndarray.proofs.Orders.{length-row_order, row_order-is, row_order-at, row_order-back, rank-lt, rank_in-lt, box_in-at, box_in-is, box_in-within, length-box_in, IsBefore-not_itself}
 use Rattle.ndarray.specs.Orders.{box_in, cells_in, HasInOrder}
 use Rattle.ndarray.specs.declared.base.shape.Order.{Order}
@@ -76,6 +76,9 @@ HasCells-last g ys rest is e h =
 
 pub HasCells-row_order : {A : Type 0} (g : Grid A) → IsGrid g → HasCells g (row_order g.lengths)
 HasCells-row_order g w = record { whole = w; within = (row_order-is g.lengths).within }
+
+pub HasCells-box_in : {A : Type 0} (o : Order) (g : Grid A) → IsGrid g → HasCells g (box_in o g.lengths)
+HasCells-box_in o g w = record { whole = w; within = box_in-within o g.lengths }
 
 pub tabulate-is : {A : Type 0} (g : Grid A) (ns : List ℕ) (f : List ℕ → Option A) → IsGrid g → g.lengths ≡ ns → ((is : List ℕ) → InBox g.lengths is → cell g is ≡ f is) → g ≡ tabulate ns f
 unfolding tabulated
@@ -153,3 +156,21 @@ pub tabulate-same : {A : Type 0} (ns ms : List ℕ) (f h : List ℕ → Option A
 unfolding tabulated
 tabulate-same ns ms f h e same =
     ap (grid ns) (filter_map-same f h (InBox ns) (row_order ns) same (row_order-is ns).within) ∙ ap (λ ks. tabulate ks h) e
+
+-- where a function names a cell at each index list, the array has it there
+pub tabulate-cell : {A : Type 0} (ns : List ℕ) (f : List ℕ → Option A) (is : List ℕ) → IsGrid (tabulate ns f) → InBox ns is → cell (tabulate ns f) is ≡ f is
+unfolding tabulated
+tabulate-cell {A} ns f is whole b =
+    let l = length-row_order ns in
+    let lt = rank-lt ns is b in
+    let e = filter_map-full f (row_order ns) (whole ∙ sym l) in
+    cell-within (tabulate ns f) whole is b
+    ∙ named (slice_get (filter_map f (row_order ns)) (rank ns is)) (f is)
+    (sym (ap (option_map f) (slice_get-get_or (row_order ns) (rank ns is) [] (omega arith) ∙ ap (λ js. Some js) (row_order-at ns is [] b)))
+    ∙ sym (slice_get-map f (row_order ns) (rank ns is))
+    ∙ ap (λ ys. slice_get ys (rank ns is)) e
+    ∙ slice_get-map (λ y. Some y) (filter_map f (row_order ns)) (rank ns is))
+  where
+    named : (o v : Option A) → Some v ≡ option_map (λ y. Some y) o → o ≡ v
+    named None v e = absurd (cc)
+    named (Some y) v e = cc

@@ -9,7 +9,8 @@ use Rattle.ndarray.specs.Index.{InBox, row_order, IsBefore}
 use Rattle.ndarray.specs.Subviews.{axis_chunk}
 use Rattle.ndarray.specs.base.Chunks.{chunk_len, chunk_spot, chunk_spots, chunks_along}
 use Rattle.ndarray.specs.base.Places.{Reaches, Rearranges, grid_at}
-use Rattle.ndarray.specs.base.Portions.{Spot, Shares, grids_at}
+use Rattle.ndarray.specs.base.Portions.{Shares, grids_at}
+use Rattle.ndarray.specs.base.Spots.{Spot}
 use Rattle.ndarray.proofs.Chunked.{chunk-begins}
 use Rattle.ndarray.proofs.Cuts.{IsCut-part, rearranges-cut, cuts-apart}
 use Rattle.ndarray.proofs.Images.{grid-seen}

@@ -106,3 +106,15 @@ cuts-apart ns k lt len len' at at' differ is js bi bj e =
     let ei : get_or (set is k (at (get_or is k 0))) k 0 ≡ at (get_or is k 0) = get_or-set_same is k (at (get_or is k 0)) 0 (omega arith) in
     let ej : get_or (set js k (at' (get_or js k 0))) k 0 ≡ at' (get_or js k 0) = get_or-set_same js k (at' (get_or js k 0)) 0 (omega arith) in
     differ (get_or is k 0) (get_or js k 0) (omega arith) (omega arith) (sym ei ∙ (ap (λ xs. get_or xs k 0) e ∙ ej))
+
+-- no two index lists of the part that begins at `from` are the same index list of the whole
+pub part-once : (ns : List ℕ) (k : ℕ) → k < length ns → (len from : ℕ) (is js : List ℕ) → InBox (set ns k len) is → InBox (set ns k len) js → set is k (from + get_or is k 0) ≡ set js k (from + get_or js k 0) → is ≡ js
+part-once ns k lt len from is js bi bj e =
+    let li = InBox-length (set ns k len) is bi in
+    let lj = InBox-length (set ns k len) js bj in
+    let ln = length-set ns k len in
+    let ei : get_or (set is k (from + get_or is k 0)) k 0 ≡ from + get_or is k 0 = get_or-set_same is k (from + get_or is k 0) 0 (omega arith) in
+    let ej : get_or (set js k (from + get_or js k 0)) k 0 ≡ from + get_or js k 0 = get_or-set_same js k (from + get_or js k 0) 0 (omega arith) in
+    let same : get_or is k 0 ≡ get_or js k 0 = let m = ap (λ xs. get_or xs k 0) e in omega arith in
+    let back = λ (xs : List ℕ). set-set xs k (from + get_or xs k 0) (get_or xs k 0) ∙ set-get_or xs k 0 in
+    sym (back is) ∙ (ap (λ xs. set xs k (get_or is k 0)) e ∙ (ap (set (set js k (from + get_or js k 0)) k) same ∙ back js))

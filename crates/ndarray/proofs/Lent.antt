@@ -1,17 +1,22 @@
 -- Cells that are lent one after another: the next one, the last one, and all cells of an array.
-use Rattle.std.proofs.Common.{◌≡◌, ◌≢◌, ℕ, suc, ◌<◌, List, [], ◌∷◌, ◌++◌, length, zip, get_or, Option, Some, refl, sym, ◌∙◌, ap, arith, subst}
+use Rattle.std.proofs.Common.{◌≡◌, ◌≢◌, ℕ, suc, ◌<◌, List, [], ◌∷◌, ◌++◌, length, reverse, zip, get_or, Option, Some, refl, sym, ◌∙◌, ap, arith, subst}
 use Rattle.std.specs.Prelude.{All, IsTrue, ⊤}
 use Rattle.std.specs.Option.{is_some}
 use Rattle.std.proofs.lemmas.List.{get_or_append_left, length-append}
 use Rattle.std.proofs.lemmas.List.Elements.{All-tail, filter_map-append}
-use Rattle.ndarray.specs.Index.{row_order, IsBefore}
-use Rattle.ndarray.specs.base.Places.{place, Reaches}
+use Rattle.ndarray.specs.Grid.{cell}
+use Rattle.ndarray.specs.Index.{InBox, row_order, column_order, IsOrderOf}
+use Rattle.ndarray.specs.Orders.{box_in, cells_in}
+use Rattle.ndarray.specs.base.Places.{place, Reaches, grid_at}
+use Rattle.ndarray.specs.declared.base.shape.Order.{Order}
+use Rattle.ndarray.specs.declared.base.shape.Order.TheVariants.{RowMajor, ColumnMajor}
 use Rattle.ndarray.specs.places.Lent.{along, AreLent}
 use Rattle.ndarray.proofs.Boxes.{InBox-length}
 use Rattle.ndarray.proofs.Lists.{some-of, filter_map-same, length-filter_map_all, get_or-append-last}
 use Rattle.ndarray.proofs.NestedPlaces.{Reaches-apart}
-use Rattle.ndarray.proofs.Orders.{row_order-is, IsBefore-not_itself}
+use Rattle.ndarray.proofs.Orders.{row_order-is, column_order-is, box_in-within, IsBefore-not_itself}
 use Rattle.ndarray.proofs.Pairs.{AllPairs-tail}
+use Rattle.ndarray.proofs.Reached.{cell-at}
 
 zip-push : {X Y : Type 0} (xs : List X) (ys : List Y) (x : X) (y : Y) → length xs ≡ length ys → zip (xs ++ x ∷ []) (ys ++ y ∷ []) ≡ zip xs ys ++ (x, y) ∷ []
 zip-push [] [] x y l = refl
@@ -19,15 +24,21 @@ zip-push [] (z ∷ ys) x y l = absurd (omega arith)
 zip-push (z ∷ xs) [] x y l = absurd (omega arith)
 zip-push (z ∷ xs) (v ∷ ys) x y l = ap (λ ps. (z, v) ∷ ps) (zip-push xs ys x y (omega arith))
 
--- all cells of an array, in row order
-pub AreLent-all : {A : Type 0} (at : ℕ → Option A) (ns : List ℕ) (start : ℕ) (bs : List ℕ) → Reaches ⊤ at ns start bs → AreLent at start bs (row_order ns)
-AreLent-all at ns start bs h =
-    let o = row_order-is ns in
-    record {
-      as_many = λ k d lt. let l = InBox-length ns _ (o.within k d lt) in let m = h.as_many in omega arith;
-      held = λ k d lt. h.inside _ (o.within k d lt);
-      once = λ i j d lt lj e. IsBefore-not_itself _ (subst (IsBefore (get_or (row_order ns) i d)) (sym (Reaches-apart at ns start bs h tt _ _ (o.within i d (omega arith)) (o.within j d lj) e)) (o.rising i j d lt lj));
-    }
+module _ {A : Type 0} (at : ℕ → Option A) (ns : List ℕ) (start : ℕ) (bs : List ℕ) (h : Reaches ⊤ at ns start bs) where
+  AreLent-order : {before : List ℕ → List ℕ → Type 0} (never : (is : List ℕ) → before is is → ⊥) (xs : List (List ℕ)) → IsOrderOf before ns xs → AreLent at start bs xs
+  AreLent-order {before} never xs o = record {
+    as_many = λ k d lt. let l = InBox-length ns _ (o.within k d lt) in let m = h.as_many in omega arith;
+    held = λ k d lt. h.inside _ (o.within k d lt);
+    once = λ i j d lt lj e. never _ (subst (before (get_or xs i d)) (sym (Reaches-apart at ns start bs h tt _ _ (o.within i d (omega arith)) (o.within j d lj) e)) (o.rising i j d lt lj));
+  }
+
+  -- all cells of an array, in an order
+  pub AreLent-all : (o : Order) → AreLent at start bs (box_in o ns)
+  AreLent-all RowMajor = AreLent-order IsBefore-not_itself (row_order ns) (row_order-is ns)
+  AreLent-all ColumnMajor = AreLent-order (λ is. IsBefore-not_itself (reverse is)) (column_order ns) (column_order-is ns)
+
+  pub along-all : (o : Order) → along at start bs (box_in o ns) ≡ cells_in o (grid_at at ns start bs)
+  along-all o = filter_map-same (λ is. at (place start bs is)) (cell (grid_at at ns start bs)) (InBox ns) (box_in o ns) (λ is b. sym (cell-at at ns start bs h is b)) (box_in-within o ns)
 
 module _ {A : Type 0} (at : ℕ → Option A) (start : ℕ) (bs : List ℕ) where
   -- as many cells as index lists

@@ -90,6 +90,24 @@ map-from_filter_map f (x ∷ xs) h =
     let rest = map-from_filter_map f xs (λ k d lt. h (suc k) d (omega arith)) in
     rw here.1 (ap (λ ys. Some here.0 ∷ ys) rest)
 
+length-filter_map : {X Y : Type 0} (f : X → Option Y) (xs : List X) → length (filter_map f xs) ≤ length xs
+length-filter_map f [] = omega arith
+length-filter_map {X} {Y} f (x ∷ xs) = at (f x) (length-filter_map f xs)
+  where
+    at : (o : Option Y) → length (filter_map f xs) ≤ length xs → length (cons_option o (filter_map f xs)) ≤ suc (length xs)
+    at None s = omega arith
+    at (Some y) s = omega arith
+
+-- where nothing was left out
+pub filter_map-full : {X Y : Type 0} (f : X → Option Y) (xs : List X) → length (filter_map f xs) ≡ length xs → map f xs ≡ map Some (filter_map f xs)
+filter_map-full f [] e = refl
+filter_map-full {X} {Y} f (x ∷ xs) e = at (f x) e (filter_map-full f xs)
+  where
+    at : (o : Option Y) → length (cons_option o (filter_map f xs)) ≡ suc (length xs)
+        → (length (filter_map f xs) ≡ length xs → map f xs ≡ map Some (filter_map f xs)) → o ∷ map f xs ≡ map Some (cons_option o (filter_map f xs))
+    at None k rest = absurd (let s = length-filter_map f xs in omega arith)
+    at (Some y) k rest = ap (λ zs. Some y ∷ zs) (rest (omega arith))
+
 -- the first, and the last, of what is to come
 pub get_or-append-last : {X : Type 0} (xs : List X) (x d : X) → get_or (xs ++ x ∷ []) (length xs) d ≡ x
 get_or-append-last xs x d = get_or_at xs x [] d (length xs) refl

@@ -1,5 +1,5 @@
 -- The pieces of an array at the positions of a box: what each of them reaches, and which array it is.
-use Rattle.std.proofs.Common.{◌≡◌, ℕ, ◌+◌, ◌*◌, ◌%◌, ◌<◌, ◌^◌, ◌⊎◌, inl, inr, zero, suc, List, [], ◌∷◌, length, get_or, refl, sym, ◌∙◌, ap, arith, subst, Option}
+use Rattle.std.proofs.Common.{◌≡◌, ℕ, ◌+◌, ◌*◌, ◌%◌, ◌<◌, ◌^◌, ◌⊎◌, inl, inr, zero, suc, List, [], ◌∷◌, length, get_or, refl, sym, ◌∙◌, ap, arith, subst, Option, Some}
 use Rattle.std.specs.Prelude.{insert, remove}
 use Rattle.std.proofs.Math.Nat.{add-mod-mod}
 use Rattle.ndarray.specs.Index.{InBox}
@@ -8,7 +8,7 @@ use Rattle.ndarray.specs.Grid.{Grid, cell, tabulate, arranged}
 use Rattle.ndarray.specs.Subviews.{lanes_of}
 use Rattle.ndarray.specs.base.Places.{dot, place, Reaches, Rearranges, grid_at}
 use Rattle.ndarray.specs.base.Tiles.{ReachTiles, tiles_at}
-use Rattle.ndarray.proofs.Cells.{arranged-same}
+use Rattle.ndarray.proofs.Cells.{arranged-cell, arranged-same, arranged-whole, tabulate-is}
 use Rattle.ndarray.proofs.Images.{Reaches-rearranged, grid-seen}
 use Rattle.std.proofs.Math.Nat.{mod-add-mod}
 use Rattle.std.proofs.lemmas.List.Edits.{length-remove}
@@ -35,6 +35,28 @@ module _ {ns : List ℕ} {start : ℕ} {bs ps steps ms cs : List ℕ} {f : List 
   pieces-seen at at' g qs ls e h v eq el =
       arranged-same ps qs (λ p. grid_at at' ms (place start steps p) cs) (λ p. tabulate ls (λ js. cell g (f p js))) eq
       (λ p b. grid-seen (r.each p b) at at' g ls e h v el)
+
+-- ---- the pieces at some of the positions
+
+-- positions alone, whatever lies there
+pub positions-reach : (ps : List ℕ) (start : ℕ) (steps : List ℕ) → length steps ≡ length ps → IsWithinLimit ps → Reaches {A = ℕ} ⊥ (λ _. Some 0) ps start steps
+positions-reach ps start steps l limit = record { as_many = l; limit = limit; inside = λ is b. refl; nested = λ no. absurd no }
+
+module _ {ps : List ℕ} {start : ℕ} {steps ps' : List ℕ} {start' : ℕ} {steps' : List ℕ} {f : List ℕ → List ℕ} (r : Rearranges ⊥ ps start steps ps' start' steps' f) {A : Type 0} (at : ℕ → Option A) (ns bs : List ℕ) where
+  pub some-reach : ReachTiles at ps start steps ns bs → ReachTiles at ps' start' steps' ns bs
+  some-reach h = record {
+    as_many = r.as_many;
+    limit = r.limit;
+    each = λ p b. subst (λ q. Reaches ⊥ at ns q bs) (sym (r.same p b)) (h.each (f p) (r.image p b));
+  }
+
+  pub some-seen : (g : Grid (Grid A)) (ls : List ℕ) → tiles_at at ps start steps ns bs ≡ g → ps' ≡ ls → tiles_at at ps' start' steps' ns bs ≡ tabulate ls (λ js. cell g (f js))
+  some-seen g ls v el =
+      tabulate-is (tiles_at at ps' start' steps' ns bs) ls (λ js. cell g (f js)) (arranged-whole ps' (λ p. grid_at at ns (place start' steps' p) bs)) el
+      (λ js b.
+      arranged-cell ps' (λ p. grid_at at ns (place start' steps' p) bs) js b
+      ∙ (ap (λ q. Some (grid_at at ns q bs)) (r.same js b)
+      ∙ (sym (arranged-cell ps (λ p. grid_at at ns (place start steps p) bs) (f js) (r.image js b)) ∙ ap (λ y. cell y (f js)) v)))
 
 -- ---- items along an axis
 

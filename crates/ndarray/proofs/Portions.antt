@@ -8,7 +8,8 @@ use Rattle.std.proofs.lemmas.List.Folds.{list_any_at, list_any_none}
 use Rattle.ndarray.specs.Index.{InBox, row_order}
 use Rattle.ndarray.specs.Grid.{grid}
 use Rattle.ndarray.specs.base.Places.{place, Reaches, Rearranges, cells_at, grid_at}
-use Rattle.ndarray.specs.base.Portions.{Spot, is_in, is_among, mask_from, portion, AreApart, Shares, grids_at}
+use Rattle.ndarray.specs.base.Portions.{is_in, is_among, mask_from, portion, AreApart, Shares, grids_at}
+use Rattle.ndarray.specs.base.Spots.{Spot}
 use Rattle.ndarray.specs.base.Slots.{held_at, kept, others}
 use Rattle.ndarray.specs.order.Steps.{rank}
 use Rattle.ndarray.proofs.Images.{Reaches-rearranged}
@@ -163,10 +164,10 @@ module _ {A : Type 0} (cs : List (Option A)) (s : Spot) where
   pub other-seen : (xs : List Spot) → SharesBoth (held_at cs) xs (s ∷ []) → grid_at (held_at (others (portion xs (length cs)) cs)) s.lengths s.start s.strides ≡ grid_at (held_at cs) s.lengths s.start s.strides
   other-seen xs h = grid_at-same_at _ _ s (others-same cs xs (s ∷ []) h 0 s (omega arith))
 
-apart-back : (s t : Spot) → AreApart s t → AreApart t s
+pub apart-back : (s t : Spot) → AreApart s t → AreApart t s
 apart-back s t h js is bj bi e = h is js bi bj (sym e)
 
-apart-moved : (s t s' t' : Spot) → s ≡ s' → t ≡ t' → AreApart s t → AreApart s' t'
+pub apart-moved : (s t s' t' : Spot) → s ≡ s' → t ≡ t' → AreApart s t → AreApart s' t'
 apart-moved s t s' t' es et h = subst (λ x. AreApart x t') es (subst (AreApart s) et h)
 
 pub SharesBoth-back : {A : Type 0} (at : ℕ → Option A) (xs ys : List Spot) → SharesBoth at xs ys → SharesBoth at ys xs

@@ -8,7 +8,6 @@ use Rattle.ndarray.specs.Index.{row_order}
 use Rattle.ndarray.specs.Grid.{Grid, grid}
 use Rattle.ndarray.specs.base.Parts.{cells_from}
 use Rattle.ndarray.specs.base.Places.{place, Reaches, cells_at, grid_at, places_at}
-use Rattle.ndarray.specs.base.Slots.{held_at}
 use Rattle.ndarray.proofs.Lists.{some-of}
 use Rattle.ndarray.proofs.Reached.{all-some}
 
@@ -19,12 +18,6 @@ refilled-at (w ∷ ws) [] n p x l h = cc
 refilled-at (w ∷ ws) (y ∷ ys) zero p x l h = absurd (omega arith)
 refilled-at (w ∷ ws) (y ∷ ys) (suc n) zero x l h = refl
 refilled-at (w ∷ ws) (y ∷ ys) (suc n) (suc p) x l h = refilled-at ws ys n p x (omega arith) h
-
--- the places of a slice all hold their elements
-pub held-slice : {X : Type 0} (cs : List (Option X)) (xs : List X) → cs ≡ map Some xs → (p : ℕ) → held_at cs p ≡ slice_get xs p
-held-slice cs [] e p = rw e refl
-held-slice cs (x ∷ xs) e zero = rw e refl
-held-slice cs (x ∷ xs) e (suc p) = rw e (held-slice (map Some xs) xs refl p)
 
 cells-refilled : {A : Type 0} (at after : ℕ → Option A) (ws : List A) (f : List ℕ → ℕ) (iss : List (List ℕ)) → ((p : ℕ) (x : A) → at p ≡ Some x → after p ≡ Some (get_or ws p x)) → All (λ is. (x : A) × (at (f is) ≡ Some x)) iss → filter_map (λ is. after (f is)) iss ≡ cells_from (map f iss) (filter_map (λ is. at (f is)) iss) ws
 cells-refilled at after ws f [] e h = refl

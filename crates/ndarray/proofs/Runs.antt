@@ -7,15 +7,11 @@ use Rattle.std.proofs.lemmas.Option.{slice_get-get_or, slice_get-map}
 use Rattle.ndarray.specs.Index.{InBox, size, row_order}
 use Rattle.ndarray.specs.order.Steps.{rank}
 use Rattle.ndarray.specs.base.Places.{place, cells_at, Reaches}
-use Rattle.ndarray.specs.base.Slots.{held_at, somes, IsRun}
+use Rattle.ndarray.specs.base.Slots.{held_at, IsRun}
 use Rattle.ndarray.proofs.Lists.{same_from_slice_get, slice_get-take}
 use Rattle.ndarray.proofs.Orders.{row_order-back, length-row_order}
 use Rattle.ndarray.proofs.Reached.{all-some, length-cells_at, slice_get-cells_at}
-use Rattle.ndarray.proofs.Slots.{filled_within, somes_all}
-
--- a list of values is known by the places that they fill
-pub same-run : {X : Type 0} (xs ys : List X) → map Some xs ≡ map Some ys → xs ≡ ys
-same-run xs ys e = sym (somes_all xs) ∙ (ap somes e ∙ somes_all ys)
+use Rattle.ndarray.proofs.Slots.{filled_within}
 
 module _ {A one : Type 0} (cs : List (Option A)) (ns : List ℕ) (start : ℕ) (bs : List ℕ) (h : Reaches one (held_at cs) ns start bs)
     (beside : (is : List ℕ) → InBox ns is → place start bs is ≡ start + rank ns is) where

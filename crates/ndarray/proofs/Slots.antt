@@ -1,6 +1,7 @@
 -- The places of a slice that are held, and those of its parts.
-use Rattle.std.proofs.Common.{◌≡◌, ◌≢◌, IsTrue, ℕ, zero, suc, ◌<◌, Bool, true, false, List, [], ◌∷◌, Option, Some, None, map, get_or, refl, ap, ◌∙◌, ◌++◌, length, take, drop, arith}
+use Rattle.std.proofs.Common.{◌≡◌, ◌≢◌, IsTrue, ℕ, zero, suc, ◌<◌, Bool, true, false, List, [], ◌∷◌, Option, Some, None, map, get_or, refl, sym, ap, ◌∙◌, ◌++◌, length, take, drop, arith}
 use Rattle.std.specs.Option.{is_some}
+use Rattle.std.specs.Prelude.{slice_get}
 use lib.ListN.{set}
 use Rattle.ndarray.specs.base.Slots.{somes, put_in, held_at, only_at, kept, others}
 
@@ -39,6 +40,16 @@ given_or (Some x) d = x
 pub somes_all : {X : Type 0} (xs : List X) → somes (map Some xs) ≡ xs
 somes_all [] = refl
 somes_all (x ∷ xs) = ap (λ ys. x ∷ ys) (somes_all xs)
+
+-- a list of values is known by the places that they fill
+pub same-run : {X : Type 0} (xs ys : List X) → map Some xs ≡ map Some ys → xs ≡ ys
+same-run xs ys e = sym (somes_all xs) ∙ (ap somes e ∙ somes_all ys)
+
+-- the places of a slice all hold their elements
+pub held-slice : {X : Type 0} (cs : List (Option X)) (xs : List X) → cs ≡ map Some xs → (p : ℕ) → held_at cs p ≡ slice_get xs p
+held-slice cs [] e p = rw e refl
+held-slice cs (x ∷ xs) e zero = rw e refl
+held-slice cs (x ∷ xs) e (suc p) = rw e (held-slice (map Some xs) xs refl p)
 
 pub somes-put_in : {X : Type 0} (cs : List (Option X)) (i n : ℕ) (ws : List X) → length ws ≡ n → somes (put_in cs i ws) ≡ somes (take i cs) ++ (ws ++ somes (drop n (drop i cs)))
 somes-put_in cs i n ws e =
@@ -93,6 +104,11 @@ pub kept-only : {X : Type 0} (cs : List (Option X)) (i : ℕ) → held_at (kept 
 kept-only [] i = refl
 kept-only (c ∷ cs) zero = refl
 kept-only (c ∷ cs) (suc i) = kept-only cs i
+
+pub others-itself : {X : Type 0} (cs : List (Option X)) (i : ℕ) → held_at (others (only_at i) cs) i ≡ None
+others-itself [] i = refl
+others-itself (c ∷ cs) zero = refl
+others-itself (c ∷ cs) (suc i) = others-itself cs i
 
 pub others-only : {X : Type 0} (cs : List (Option X)) (i p : ℕ) → p ≢ i → held_at (others (only_at i) cs) p ≡ held_at cs p
 others-only [] i p h = refl

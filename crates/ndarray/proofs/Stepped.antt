@@ -7,7 +7,8 @@ use Rattle.std.proofs.lemmas.List.Elements.{All-head, All-tail, All-contains, Al
 use Rattle.std.proofs.lemmas.Option.{slice_get_within}
 use Rattle.ndarray.specs.Index.{InBox, IsBefore, row_order}
 use Rattle.ndarray.specs.Grid.{Grid, cell, IsGrid}
-use Rattle.ndarray.specs.base.PlaceMap.{Laid, place_in, LiesApart}
+use Rattle.ndarray.specs.base.PlaceMap.{LiesApart}
+use Rattle.ndarray.specs.base.Spots.{Spot, place_in}
 use Rattle.ndarray.specs.places.Steps.{stepping, HasPassed, StepsStand}
 use Rattle.ndarray.proofs.Boxes.{InBox-some}
 use Rattle.ndarray.proofs.Cells.{along-row_order, cell-Some}
@@ -17,7 +18,7 @@ use Rattle.ndarray.proofs.Orders.{row_order-is, IsBefore-not_itself}
 use Rattle.ndarray.proofs.Pairs.{Contains-cases, Contains-first, Contains-later, AllPairs-head, AllPairs-tail}
 
 -- no two index lists have one place
-pub lies-alone : (m : Laid) → LiesApart m → (is js : List ℕ) → InBox m.lengths is → InBox m.lengths js → place_in m is ≡ place_in m js → is ≡ js
+pub lies-alone : (m : Spot) → LiesApart m → (is js : List ℕ) → InBox m.lengths is → InBox m.lengths js → place_in m is ≡ place_in m js → is ≡ js
 lies-alone m h is js bi bj = nested-distinct m.lengths m.start m.strides is js h.as_many (h.nested (InBox-some m.lengths is bi)) bi bj
 
 -- what holds of the value that there is
@@ -39,11 +40,11 @@ stands-first ns = record {
 }
 
 -- none was passed then
-pub none-passed : (m : Laid) (p : ℕ) → HasPassed (stepping m (row_order m.lengths)) p → ⊥
+pub none-passed : (m : Spot) (p : ℕ) → HasPassed (stepping m (row_order m.lengths)) p → ⊥
 none-passed m p h = h.1.2 ((row_order-is m.lengths).whole h.0 h.1.0)
 
 -- the first index list is passed
-module _ (m : Laid) (ys rest : List (List ℕ)) (is : List ℕ) (p : ℕ) (e : ys ≡ is ∷ rest) (h : StepsStand m.lengths ys) (at : p ≡ place_in m is) (alone : (js : List ℕ) → InBox m.lengths js → place_in m js ≡ p → js ≡ is) where
+module _ (m : Spot) (ys rest : List (List ℕ)) (is : List ℕ) (p : ℕ) (e : ys ≡ is ∷ rest) (h : StepsStand m.lengths ys) (at : p ≡ place_in m is) (alone : (js : List ℕ) → InBox m.lengths js → place_in m js ≡ p → js ≡ is) where
   now : StepsStand m.lengths (is ∷ rest)
   now = subst (StepsStand m.lengths) e h
 
@@ -89,7 +90,7 @@ module _ (m : Laid) (ys rest : List (List ℕ)) (is : List ℕ) (p : ℕ) (e : y
   )
 
 -- of a place that has an index list, the walk tells whether it was passed
-pub passed-tells : (m : Laid) (ys : List (List ℕ)) (is : List ℕ) (p : ℕ) (ahead : Bool) → InBox m.lengths is → place_in m is ≡ p → ((js : List ℕ) → InBox m.lengths js → place_in m js ≡ p → js ≡ is) → (IsTrue ahead ↔ Contains ys is) → IsTrue (not ahead) ↔ HasPassed (stepping m ys) p
+pub passed-tells : (m : Spot) (ys : List (List ℕ)) (is : List ℕ) (p : ℕ) (ahead : Bool) → InBox m.lengths is → place_in m is ≡ p → ((js : List ℕ) → InBox m.lengths js → place_in m js ≡ p → js ≡ is) → (IsTrue ahead ↔ Contains ys is) → IsTrue (not ahead) ↔ HasPassed (stepping m ys) p
 passed-tells m ys is p true b e alone tells = (λ f. absurd (let no : false ≡ true = f in cc), λ h. absurd (h.1.2 (subst (Contains ys) (sym (alone h.0 h.1.0 h.1.1)) (tells.0 refl))))
 passed-tells m ys is p false b e alone tells = (λ t. (is, (b, e, λ c. let no : false ≡ true = tells.1 c in cc)), λ h. refl)
 
@@ -99,7 +100,7 @@ found-mapped at f [] = refl
 found-mapped at f (y ∷ ys) = ap (cons_option (at (f y))) (found-mapped at f ys)
 
 -- along the places in row order lie the array's cells
-pub cells-along : {A : Type 0} (g : Grid A) (xs : List A) (m : Laid) → IsGrid g → m.lengths ≡ g.lengths → ((is : List ℕ) → InBox g.lengths is → slice_get xs (place_in m is) ≡ cell g is) → filter_map (slice_get xs) (map (place_in m) (row_order m.lengths)) ≡ g.cells
+pub cells-along : {A : Type 0} (g : Grid A) (xs : List A) (m : Spot) → IsGrid g → m.lengths ≡ g.lengths → ((is : List ℕ) → InBox g.lengths is → slice_get xs (place_in m is) ≡ cell g is) → filter_map (slice_get xs) (map (place_in m) (row_order m.lengths)) ≡ g.cells
 cells-along g xs m whole e same =
     ap (λ ns. filter_map (slice_get xs) (map (place_in m) (row_order ns))) e
     ∙ (found-mapped (slice_get xs) (place_in m) (row_order g.lengths)
@@ -107,7 +108,7 @@ cells-along g xs m whole e same =
     ∙ along-row_order g whole))
 
 -- and each of these places is one of the list
-pub places-within : {A : Type 0} (g : Grid A) (xs : List A) (m : Laid) → IsGrid g → m.lengths ≡ g.lengths → ((is : List ℕ) → InBox g.lengths is → slice_get xs (place_in m is) ≡ cell g is) → All (λ p. p < length xs) (map (place_in m) (row_order m.lengths))
+pub places-within : {A : Type 0} (g : Grid A) (xs : List A) (m : Spot) → IsGrid g → m.lengths ≡ g.lengths → ((is : List ℕ) → InBox g.lengths is → slice_get xs (place_in m is) ≡ cell g is) → All (λ p. p < length xs) (map (place_in m) (row_order m.lengths))
 places-within g xs m whole e same =
     All-map (λ p. p < length xs) (place_in m) (row_order m.lengths)
     (λ k d lt.

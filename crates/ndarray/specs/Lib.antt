@@ -1,11 +1,15 @@
 pub mod Broadcast
+pub mod Calls
 pub mod Collected
 pub mod Dimensions
 pub mod Errors
+pub mod FoldWhiles
 pub mod Grid
 pub mod Index
 pub mod Limits
 pub mod Orders
+pub mod Producers
+pub mod Runs
 pub mod Slices
 pub mod Subviews
 pub mod Sums

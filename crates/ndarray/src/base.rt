@@ -7,6 +7,8 @@ pub mod dim_max;
 pub mod dimension;
 pub mod error;
 pub(crate) mod filling;
+pub mod index_lists;
+pub mod indices;
 pub mod into_dimension;
 pub(crate) mod layout;
 pub mod lines;

@@ -15,6 +15,7 @@ pub mod into_iter;
 
 use crate::base::array::{ArrayBase, ArrayView};
 use crate::base::dimension::{Ix1, Lengths};
+pub use crate::base::index_lists::Indices;
 use crate::base::storage::Data;
 pub use crate::iter::cells_mut::{IndexedIterMut, IterMut};
 pub use crate::iter::collected::{to_vec, to_vec_mapped};

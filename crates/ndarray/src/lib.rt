@@ -1,9 +1,11 @@
 //! Arrays of any number of axes: walks, views and sums whose results are proved to depend on the
 //! lengths and the cells of an array alone, whatever its memory layout.
 //!
-//! A contract sees an array as its lengths and its cells (`specs/Grid.antt`). Reading views are made
-//! over slices by `ArrayView::from_shape`, turned by `t`, `invert_axis` and `broadcast`, walked by
-//! `iter` and added up by `sum`. The names are those of Rust's crate `ndarray` 0.17.2.
+//! A contract sees an array as its lengths and its cells (`specs/Grid.antt`). Arrays that own their
+//! cells are made by `from_shape_vec`, `zeros` and the like, views over slices by
+//! `ArrayView::from_shape`. Views of them are turned, cut and broadcast without a copy. Cells are walked
+//! by `iter`, subviews by `rows`, `axis_iter`, `windows` and the like, several arrays together by `Zip`, to
+//! read or to write, and added up by `sum`. The names are those of Rust's crate `ndarray` 0.17.2.
 #![tactic(auto)]
 
 pub mod base;
@@ -13,6 +15,7 @@ pub mod owning;
 pub(crate) mod places;
 pub mod reduce;
 pub mod subviews;
+pub mod zip;
 
 pub use crate::base::array::{
     Array, ArrayBase, ArrayView, ArrayView1, ArrayViewMut, ArrayViewMut1, CowArray,
@@ -23,8 +26,10 @@ pub use crate::base::dimension::{
     Dim, Dimension, Ix0, Ix1, Ix2, Ix3, Ix4, Ix5, Ix6, IxDyn, Lengths, RemoveAxis,
 };
 pub use crate::base::error::{ErrorKind, ShapeError};
+pub use crate::base::indices::indices;
 pub use crate::base::into_dimension::IntoDimension;
 pub use crate::base::shape::{Shape, ShapeBuilder};
 pub use crate::base::slice::Slice;
 pub use crate::base::storage::{CowRepr, Data, DataMut, DataOwned, OwnedRepr, ViewRepr};
 pub use crate::reduce::values::{SumElem, Valued};
+pub use crate::zip::{FoldWhile, IntoBroadcast, IntoNdProducer, NdProducer, Shaped, Zip};

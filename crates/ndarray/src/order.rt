@@ -1,6 +1,6 @@
 //! The two orders of a box, and the walk over its index lists.
 
-ghost use Rattle.std.specs.Prelude.{◌≡◌, List, ℕ, ◌+◌, ◌<◌, ◌≤◌, length, take, drop, ⊤, ◌↔◌, Contains, IfSome, IsPermutation, IsTrue};
+ghost use Rattle.std.specs.Prelude.{◌≡◌, List, ℕ, ◌+◌, ◌<◌, ◌≤◌, ◌^◌, length, take, drop, ⊤, ◌↔◌, Contains, IfSome, IsPermutation, IsTrue};
 ghost use Rattle.std.specs.Iterator.{YieldsFirstBy, YieldsLastBy, UpTo, item_count};
 ghost use Rattle.std.specs.Iterator.SizeHint.{IsExactHint, IsWithinCount};
 ghost use Rattle.ndarray.specs.Index.{InBox, size, IsRowOrder};
@@ -98,6 +98,14 @@ impl<D: Lengths> Walk<D> {
     /// How many index lists are still to come.
     pub fn len(&self) -> usize
         ensures { result ≡ length self.now }
+    {
+        self.left
+    }
+
+    /// The same, which the limit on shapes bounds.
+    pub(crate) fn bounded_len(&self) -> usize
+        ensures value { result ≡ length self.now }
+        ensures fits { result < 2 ^ 63 }
     {
         self.left
     }

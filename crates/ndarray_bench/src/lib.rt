@@ -4,3 +4,4 @@
 pub mod refusing;
 #[cfg(test)]
 mod tests;
+pub mod walked;

@@ -1,8 +1,11 @@
 //! The worked rows and vectors of the library's calls, by the module that has them.
 
+mod arities;
+mod assigned;
 mod base;
 mod chunks;
 mod collected;
+mod generic;
 mod into_iter;
 mod iter;
 mod iter_mut;
@@ -10,6 +13,7 @@ mod lanes;
 mod layouts;
 mod order;
 mod owned;
+mod producers;
 mod reduce;
 mod refusing;
 mod shown;
@@ -18,3 +22,4 @@ mod subviews;
 mod view_mut;
 mod windows;
 mod writing;
+mod zip;

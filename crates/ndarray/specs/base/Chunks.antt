@@ -4,7 +4,7 @@ use Rattle.std.specs.Int.{div_ceil}
 use Rattle.ndarray.specs.Index.{InBox}
 use Rattle.ndarray.specs.Grid.{Grid}
 use Rattle.ndarray.specs.Subviews.{axis_chunk}
-use Rattle.ndarray.specs.base.Portions.{Spot, spot}
+use Rattle.ndarray.specs.base.Spots.{Spot, spot}
 
 -- the chunks of the positions that are left
 abbrev pub chunks_along : {A : Type 0} → Grid A → ℕ → ℕ → List (List ℕ) → List (Grid A)

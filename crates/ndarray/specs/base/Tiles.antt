@@ -1,10 +1,11 @@
 -- Inside `subviews`: equal pieces of an array, one at each position of a box.
-use Rattle.std.specs.Prelude.{◌≡◌, ℕ, ◌*◌, ◌%◌, ◌^◌, ◌<◌, ◌⊎◌, List, length, map, slice_index, Option, All}
+use Rattle.std.specs.Prelude.{◌≡◌, ℕ, ◌*◌, ◌%◌, ◌^◌, ◌<◌, ◌⊎◌, List, length, map, replicate, slice_index, slice_set, Option, All}
 use Rattle.ndarray.specs.Index.{InBox, row_order}
 use Rattle.ndarray.specs.Limits.{IsWithinLimit}
-use Rattle.ndarray.specs.Grid.{Grid, arranged}
+use Rattle.ndarray.specs.Grid.{Grid, IsGrid, arranged}
 use Rattle.ndarray.specs.base.Places.{place, Reaches, grid_at}
-use Rattle.ndarray.specs.base.Portions.{Spot, spot, Shares}
+use Rattle.ndarray.specs.base.Portions.{Shares}
+use Rattle.ndarray.specs.base.Spots.{Spot, spot}
 
 -- at each position of the box of ps, the array of lengths ns that begins where the position lies
 abbrev pub tiles_at : {A : Type 0} → (ℕ → Option A) → List ℕ → ℕ → List ℕ → List ℕ → List ℕ → Grid (Grid A)
@@ -44,3 +45,9 @@ pub record ShareTiles {A : Type 0} (at : ℕ → Option A) (ps : List ℕ) (star
 pub record TilesStand (ps steps : List ℕ) (left : List (List ℕ)) : Type 0 where
   pub as_many : length steps ≡ length ps
   pub within : All (InBox ps) left
+
+-- pieces along one axis: on each other axis there is one position
+pub record AreAlong {B : Type 0} (axis : ℕ) (g : Grid B) : Type 0 where
+  pub whole : IsGrid g
+  pub below : axis < length g.lengths
+  pub alone : g.lengths ≡ slice_set (replicate (length g.lengths) 1) axis (slice_index g.lengths axis)

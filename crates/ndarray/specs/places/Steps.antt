@@ -1,23 +1,23 @@
 -- The places of an array's cells, passed one after another.
 use Rattle.std.specs.Prelude.{◌≡◌, ◌≢◌, ℕ, List, map, All, AllPairs, Contains}
 use Rattle.ndarray.specs.Index.{InBox}
-use Rattle.ndarray.specs.base.PlaceMap.{Laid, place_in}
+use Rattle.ndarray.specs.base.Spots.{Spot, place_in}
 
 -- how the cells lie, and the index lists that are still to come
 pub record Stepping : Type 0 where
-  pub laid : Laid
+  pub spot : Spot
   pub ahead : List (List ℕ)
 
-abbrev pub stepping : Laid → List (List ℕ) → Stepping
-stepping m ys = record { laid = m; ahead = ys }
+abbrev pub stepping : Spot → List (List ℕ) → Stepping
+stepping m ys = record { spot = m; ahead = ys }
 
 -- the places that are still to come
 abbrev pub places_ahead : Stepping → List ℕ
-places_ahead s = map (place_in s.laid) s.ahead
+places_ahead s = map (place_in s.spot) s.ahead
 
 -- the place has an index list, which is no longer to come
 abbrev pub HasPassed : Stepping → ℕ → Type 0
-HasPassed s p = (is : List ℕ) × (InBox s.laid.lengths is × (place_in s.laid is ≡ p) × (Contains s.ahead is → ⊥))
+HasPassed s p = (is : List ℕ) × (InBox s.spot.lengths is × (place_in s.spot is ≡ p) × (Contains s.ahead is → ⊥))
 
 -- the index lists to come are in the box, and none comes twice
 pub record StepsStand (ns : List ℕ) (ys : List (List ℕ)) : Type 0 where

@@ -1,6 +1,6 @@
 //! Arrays and views, and what they mean: their lengths and their cells.
 
-ghost use Rattle.std.specs.Prelude.{◌≡◌, List, ℕ, ◌<◌, ◌^◌, length, slice_index, ◌↔◌, IsSome, Some};
+ghost use Rattle.std.specs.Prelude.{◌≡◌, List, ℕ, ◌<◌, ◌^◌, length, slice_index, ◌↔◌, IsSome, Some, ⊤};
 ghost use Rattle.std.specs.Option.{option_copied, option_copied_mut};
 ghost use Rattle.std.specs.Borrow.{sem};
 ghost use Rattle.ndarray.specs.Index.{InBox, size};
@@ -14,6 +14,7 @@ use crate::base::into_dimension::IntoDimension;
 use crate::base::layout::Layout;
 use crate::base::region::{Life, RegionRepr};
 use crate::base::storage::{CowRepr, Data, DataMut, OwnedRepr, ViewRepr};
+use std::alloc::AllocError;
 use std::marker::Model;
 
 /// An array of any number of axes, over a storage `S` and with lengths of the type `D`.
@@ -189,5 +190,15 @@ impl<'a, A, D: Lengths> ArrayView<'a, A, D> {
         ensures { cell self.now (D.numbers index.now) ≡ Some result.now }
     {
         self.storage.get(self.layout.place(index))
+    }
+}
+
+impl<'a, A, D: Lengths> Clone for ArrayView<'a, A, D> {
+    ghost is_clone = { λ s r. r ≡ s };
+
+    ghost is_infallible = { λ _. ⊤ };
+
+    fn clone(&self) -> Result<ArrayView<'a, A, D>, AllocError> {
+        Ok(self.again())
     }
 }

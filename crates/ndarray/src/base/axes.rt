@@ -73,6 +73,7 @@ impl<S: Data, D: Lengths> ArrayBase<S, D> {
     pub fn into_dimensionality<E: Dimension>(self) -> Result<ArrayBase<S, E>, ShapeError>
         ensures accepts { IsOk result ↔ E.has_axes (length self.lengths) }
         ensures value { IfOk result (λ a. a ≡ self) }
+        ensures whole { IfOk result IsGrid }
         ensures kind { IfErr result (λ e. e ≡ refusal IncompatibleShape) }
     {
         if !E::may_have(self.layout.dim.ndim()) {

@@ -1,7 +1,7 @@
 //! Views of one axis over whole slices, and views of arrays, by `From`.
 
 ghost use Rattle.std.specs.Prelude.{◌≡◌, ◌∷◌, [], ◌<◌, ◌-◌, ◌^◌, length, min, slice_get, take};
-ghost use Rattle.ndarray.specs.Grid.{IsGrid, line};
+ghost use Rattle.ndarray.specs.Grid.{IsGrid, IsKnownByCells, line};
 
 use crate::base::array::{ArrayBase, ArrayView, ArrayView1, ArrayViewMut1};
 use crate::base::dimension::{Ix1, Lengths};
@@ -56,6 +56,7 @@ impl<'a, S: Data, D: Lengths> From<&'a ArrayBase<S, D>> for ArrayView<'a, S::Ele
     fn from(array: &'a ArrayBase<S, D>) -> Self
         ensures same { result ≡ array.now }
         ensures whole { IsGrid result }
+        ensures known { IsKnownByCells result }
     {
         array.view()
     }

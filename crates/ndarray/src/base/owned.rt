@@ -128,7 +128,8 @@ impl<A: Zero + Drop, S: DataOwned<Elem = A>, D: Dimension> ArrayBase<S, D> {
 impl<'a, A: Drop, D: Lengths> From<ArrayView<'a, A, D>> for CowArray<'a, A, D> {
     /// The array with the view's lengths and cells, which it borrows.
     fn from(view: ArrayView<'a, A, D>) -> Self
-        ensures { result ≡ view.entry }
+        ensures same { result ≡ view.entry }
+        ensures whole { IsGrid result }
     {
         let ArrayBase { storage, layout } = view;
         ArrayBase {
@@ -141,7 +142,8 @@ impl<'a, A: Drop, D: Lengths> From<ArrayView<'a, A, D>> for CowArray<'a, A, D> {
 impl<'a, A: Drop, D: Lengths> From<Array<A, D>> for CowArray<'a, A, D> {
     /// The array with the array's lengths and cells, which it owns.
     fn from(array: Array<A, D>) -> Self
-        ensures { result ≡ array }
+        ensures same { result ≡ array }
+        ensures whole { IsGrid result }
     {
         let ArrayBase { storage, layout } = array;
         ArrayBase {

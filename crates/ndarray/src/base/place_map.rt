@@ -6,7 +6,7 @@ ghost use Rattle.ndarray.specs.Index.{InBox, size};
 ghost use Rattle.ndarray.specs.Limits.{IsWithinLimit};
 ghost use Rattle.ndarray.specs.base.Places.{place};
 ghost use Rattle.ndarray.specs.base.Nested.{magnitude, reach, total, turned, sunk, AreNested};
-ghost use Rattle.ndarray.specs.base.PlaceMap.{place_in};
+ghost use Rattle.ndarray.specs.base.Spots.{place_in};
 ghost use Rattle.ndarray.specs.base.Slots.{held_at};
 
 use crate::base::array::{Array, ArrayBase, ArrayViewMut};
@@ -119,13 +119,14 @@ pub struct PlaceMap<D: Lengths> {
 }
 
 impl<D: Lengths> Model for PlaceMap<D> {
-    ghost use Rattle.ndarray.specs.base.PlaceMap.{Laid, laid, LiesApart};
+    ghost use Rattle.ndarray.specs.base.PlaceMap.{LiesApart};
+    ghost use Rattle.ndarray.specs.base.Spots.{Spot, spot};
 
-    ghost Value = { Laid };
+    ghost Value = { Spot };
 
-    ghost view = { λ m. laid (D.numbers m.layout.dim) m.layout.start (D.numbers m.layout.strides) };
+    ghost view = { λ m. spot (D.numbers m.layout.dim) m.layout.start (D.numbers m.layout.strides) };
 
-    ghost invariant = { λ m. LiesApart (laid (D.numbers m.layout.dim) m.layout.start (D.numbers m.layout.strides)) };
+    ghost invariant = { λ m. LiesApart (spot (D.numbers m.layout.dim) m.layout.start (D.numbers m.layout.strides)) };
 }
 
 impl<D: Lengths> PlaceMap<D> {

@@ -3,7 +3,7 @@
 //! A region is split by places, and its parts live side by side. Raw pointers stay inside `of`,
 //! `into_slice`, `get_mut`, `shared` and `Reading::slice`.
 
-ghost use Rattle.std.specs.Prelude.{◌≡◌, ◌≢◌, ℕ, Bool, List, Option, Some, map, take, drop};
+ghost use Rattle.std.specs.Prelude.{◌≡◌, ◌≢◌, ℕ, Bool, List, Option, Some, None, map, take, drop};
 ghost use Rattle.std.specs.Borrow.{sem};
 ghost use base.Fml.{GName, ffalse};
 ghost use Rattle.ndarray.specs.base.Slots.{held_at, kept, others, IsFilled, IsRun};
@@ -83,6 +83,7 @@ impl<'a, A> RegionRepr<Life<'a>, A> {
     pub(crate) fn take(&mut self, place: usize) -> &'a mut A
         requires { IsFilled self.old.slots place }
         ensures value { held_at self.old.slots place ≡ Some result.now }
+        ensures gone { held_at self.new.slots place ≡ None }
         ensures rest { (p : ℕ) → p ≢ place → held_at self.new.slots p ≡ held_at self.old.slots p }
     {
         let whole = replace(self, RegionRepr::of(&mut []));

@@ -66,11 +66,13 @@ impl<S: Data, D: Lengths> ArrayBase<S, D> {
         ensures value { IfSome result (λ v. v ≡ broadcast_to self.now (E.written_numbers dim)) }
         ensures whole { IfSome result IsGrid }
     {
-        self.broadcast_to(dim.into_dimension())
+        self.view().broadcast_to(dim.into_dimension())
     }
+}
 
-    /// The same, at a dimension.
-    fn broadcast_to<E: Lengths>(&self, dim: E) -> Option<ArrayView<'_, S::Elem, E>>
+impl<'a, A, D: Lengths> ArrayView<'a, A, D> {
+    /// The same of a view, at a dimension.
+    pub(crate) fn broadcast_to<E: Lengths>(&self, dim: E) -> Option<ArrayView<'a, A, E>>
         ensures answers { IsSome result ↔ (BroadcastsTo self.now.lengths (E.numbers dim) × IsWithinLimit (E.numbers dim)) }
         ensures value { IfSome result (λ v. v ≡ broadcast_to self.now (E.numbers dim)) }
         ensures whole { IfSome result IsGrid }
@@ -82,7 +84,7 @@ impl<S: Data, D: Lengths> ArrayBase<S, D> {
             return None;
         };
         Some(ArrayBase {
-            storage: self.storage.seen(),
+            storage: self.storage,
             layout: Layout {
                 start: self.layout.start,
                 dim,

@@ -77,6 +77,7 @@ impl<'a, A, D: Lengths> ArrayViewMut<'a, A, D> {
         ensures one { length self.entry.cells ≡ 1 → IsOk result }
         ensures empty { length self.entry.cells ≡ 0 → IsOk result }
         ensures back { IfErr result (λ v. v ≡ self.entry) }
+        ensures whole { IsGrid self.entry }
     {
         let ArrayBase { storage, layout } = self;
         let len = layout.dim.size();

@@ -53,7 +53,7 @@ impl<S: DataMut, D: Lengths> ArrayBase<S, D> {
     }
 }
 
-impl<'a, A: 'a, D: Lengths> Iterator for IterMut<'a, A, D> {
+impl<'a, A, D: Lengths> Iterator for IterMut<'a, A, D> {
     type Item = &'a mut A;
 
     ghost next_gives = { YieldsFirstMut (λ rest. rest) };
@@ -73,13 +73,13 @@ impl<'a, A: 'a, D: Lengths> Iterator for IterMut<'a, A, D> {
     }
 }
 
-impl<'a, A: 'a, D: Lengths> ExactSizeIterator for IterMut<'a, A, D> {
+impl<'a, A, D: Lengths> ExactSizeIterator for IterMut<'a, A, D> {
     fn len(&self) -> usize {
         self.elements.len()
     }
 }
 
-impl<'a, A: 'a> DoubleEndedIterator for IterMut<'a, A, Ix1> {
+impl<'a, A> DoubleEndedIterator for IterMut<'a, A, Ix1> {
     ghost next_back_gives = { YieldsLastMut (λ rest. rest) };
 
     fn next_back(&mut self) -> Option<&'a mut A> {
@@ -127,7 +127,7 @@ impl<S: DataMut, D: Dimension> ArrayBase<S, D> {
     }
 }
 
-impl<'a, A: 'a, D: Dimension> Iterator for IndexedIterMut<'a, A, D> {
+impl<'a, A, D: Dimension> Iterator for IndexedIterMut<'a, A, D> {
     type Item = (D::Pattern, &'a mut A);
 
     ghost next_gives = { YieldsFirstBy (λ item. (D.pattern_numbers item.0, item.1.now)) (λ rest. rest) };
@@ -151,7 +151,7 @@ impl<'a, A: 'a, D: Dimension> Iterator for IndexedIterMut<'a, A, D> {
     }
 }
 
-impl<'a, A: 'a, D: Dimension> ExactSizeIterator for IndexedIterMut<'a, A, D> {
+impl<'a, A, D: Dimension> ExactSizeIterator for IndexedIterMut<'a, A, D> {
     fn len(&self) -> usize {
         self.places.len()
     }

@@ -3,7 +3,8 @@
 ghost use Rattle.std.specs.Prelude.{◌≡◌, ◌<◌, ◌^◌, length, ⊤, IfSome};
 ghost use Rattle.std.specs.Iterator.{YieldsFirstRef, YieldsLastRef, UpTo, item_count};
 ghost use Rattle.std.specs.Iterator.SizeHint.{IsExactHint, IsWithinCount};
-ghost use Rattle.ndarray.specs.Orders.{HasInOrder};
+ghost use Rattle.ndarray.specs.Grid.{IsGrid};
+ghost use Rattle.ndarray.specs.Orders.{HasInOrder, cells_in};
 ghost use Rattle.ndarray.specs.declared.base.shape.Order.TheVariants.{RowMajor};
 
 use crate::base::array::ArrayView;
@@ -40,7 +41,17 @@ impl<'a, A, D: Lengths> ElementsBase<'a, A, D> {
         ensures cells { result ≡ v.entry.cells }
         ensures fits { length result < 2 ^ 63 }
     {
-        let walk = Walk::new(v.raw_dim(), Order::RowMajor);
+        ElementsBase::in_order(v, Order::RowMajor)
+    }
+
+    /// The cells of a view in an order.
+    pub(crate) fn in_order(v: ArrayView<'a, A, D>, order: Order) -> Self
+        ensures described { HasInOrder order v.entry result }
+        ensures cells { result ≡ cells_in order v.entry }
+        ensures fits { length result < 2 ^ 63 }
+        ensures whole { IsGrid v.entry }
+    {
+        let walk = Walk::new(v.raw_dim(), order);
         ElementsBase { view: v, walk }
     }
 }

@@ -3,11 +3,13 @@
 ghost use Rattle.std.specs.Prelude.{◌≡◌, ◌<◌, ◌^◌, length, IfSome};
 ghost use Rattle.std.specs.Iterator.{YieldsFirstMut, YieldsLastMut, UpTo, item_count};
 ghost use Rattle.std.specs.Iterator.SizeHint.{IsExactHint, IsWithinCount};
-ghost use Rattle.ndarray.specs.Orders.{HasInOrder};
+ghost use Rattle.ndarray.specs.Grid.{IsGrid};
+ghost use Rattle.ndarray.specs.Orders.{HasInOrder, cells_in};
 ghost use Rattle.ndarray.specs.declared.base.shape.Order.TheVariants.{RowMajor};
 
 use crate::base::array::ArrayViewMut;
 use crate::base::dimension::{Ix1, Lengths};
+use crate::order::Order;
 use crate::places::lent::Places;
 use std::iter::ExactSizeIterator;
 use std::marker::Model;
@@ -37,13 +39,23 @@ impl<'a, A, D: Lengths> ElementsBaseMut<'a, A, D> {
         ensures cells { result ≡ v.entry.cells }
         ensures fits { length result < 2 ^ 63 }
     {
+        ElementsBaseMut::in_order(v, Order::RowMajor)
+    }
+
+    /// The cells of a view in an order.
+    pub(crate) fn in_order(v: ArrayViewMut<'a, A, D>, order: Order) -> Self
+        ensures described { HasInOrder order v.entry result }
+        ensures cells { result ≡ cells_in order v.entry }
+        ensures fits { length result < 2 ^ 63 }
+        ensures whole { IsGrid v.entry }
+    {
         ElementsBaseMut {
-            places: Places::new(v),
+            places: Places::in_order(v, order),
         }
     }
 }
 
-impl<'a, A: 'a, D: Lengths> Iterator for ElementsBaseMut<'a, A, D> {
+impl<'a, A, D: Lengths> Iterator for ElementsBaseMut<'a, A, D> {
     type Item = &'a mut A;
 
     ghost next_gives = { YieldsFirstMut (λ rest. rest) };
@@ -67,13 +79,13 @@ impl<'a, A: 'a, D: Lengths> Iterator for ElementsBaseMut<'a, A, D> {
     }
 }
 
-impl<'a, A: 'a, D: Lengths> ExactSizeIterator for ElementsBaseMut<'a, A, D> {
+impl<'a, A, D: Lengths> ExactSizeIterator for ElementsBaseMut<'a, A, D> {
     fn len(&self) -> usize {
         self.places.len()
     }
 }
 
-impl<'a, A: 'a> DoubleEndedIterator for ElementsBaseMut<'a, A, Ix1> {
+impl<'a, A> DoubleEndedIterator for ElementsBaseMut<'a, A, Ix1> {
     ghost next_back_gives = { YieldsLastMut (λ rest. rest) };
 
     fn next_back(&mut self) -> Option<&'a mut A> {

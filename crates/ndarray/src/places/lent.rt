@@ -5,13 +5,14 @@ ghost use Rattle.std.specs.Iterator.{YieldsFirstBy, YieldsLastBy};
 ghost use Rattle.ndarray.specs.Grid.{IsGrid};
 ghost use Rattle.ndarray.specs.Index.{row_order};
 ghost use Rattle.ndarray.specs.Limits.{IsWithinLimit};
+ghost use Rattle.ndarray.specs.Orders.{box_in, cells_in};
 
 use crate::base::array::{ArrayBase, ArrayViewMut};
 use crate::base::dimension::{Ix1, Lengths};
 use crate::base::layout::Layout;
 use crate::base::region::{Life, RegionRepr};
 use crate::order::{Order, Walk};
-use std::marker::Model;
+use std::marker::{Model, PhantomData};
 
 /// A region, how cells lie in it, and the walk over the index lists that are still to come. A clause
 /// sees these index lists, each beside its cell.
@@ -20,6 +21,8 @@ pub struct Places<'a, A, D: Lengths> {
     region: RegionRepr<Life<'a>, A>,
     layout: Layout<D>,
     walk: Walk<D>,
+    // the lifetime of what it lends, so that `A: 'a` follows from the type
+    lends: PhantomData<&'a mut A>,
 }
 
 impl<'a, A, D: Lengths> Model for Places<'a, A, D> {
@@ -41,12 +44,22 @@ impl<'a, A, D: Lengths> Places<'a, A, D> {
         ensures whole { IsGrid view.entry }
         ensures limit { IsWithinLimit view.entry.lengths }
     {
+        Places::in_order(view, Order::RowMajor)
+    }
+
+    /// The cells of a view in an order.
+    pub(crate) fn in_order(view: ArrayViewMut<'a, A, D>, order: Order) -> Self
+        ensures list { result ≡ zip (box_in order view.entry.lengths) (cells_in order view.entry) }
+        ensures whole { IsGrid view.entry }
+        ensures limit { IsWithinLimit view.entry.lengths }
+    {
         let ArrayBase { storage, layout } = view;
-        let walk = Walk::new(layout.dim.copied(), Order::RowMajor);
+        let walk = Walk::new(layout.dim.copied(), order);
         Places {
             region: storage,
             layout,
             walk,
+            lends: PhantomData,
         }
     }
 

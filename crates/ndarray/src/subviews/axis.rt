@@ -22,7 +22,7 @@ use std::marker::Model;
 /// An iterator takes no memory, and each item is made by arithmetic on the one axis.
 #[derive(Drop)]
 pub struct AxisIter<'a, A, D: Lengths> {
-    items: TilesIter<'a, A, Ix1, D>,
+    pub(crate) items: TilesIter<'a, A, Ix1, D>,
 }
 
 impl<'a, A, D: Lengths> Model for AxisIter<'a, A, D> {

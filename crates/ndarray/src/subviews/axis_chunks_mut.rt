@@ -6,7 +6,7 @@ ghost use Rattle.std.specs.Iterator.{UpTo, YieldsFirst, YieldsLast, item_count};
 ghost use Rattle.std.specs.Iterator.SizeHint.{IsExactHint, IsWithinCount};
 ghost use Rattle.ndarray.specs.Subviews.{axis_chunks};
 ghost use Rattle.ndarray.specs.base.Chunks.{chunk_spot};
-ghost use Rattle.ndarray.specs.base.Portions.{spot};
+ghost use Rattle.ndarray.specs.base.Spots.{spot};
 
 use crate::base::array::{ArrayBase, ArrayViewMut};
 use crate::base::axis::Axis;
@@ -16,7 +16,7 @@ use crate::base::storage::DataMut;
 use crate::order::{Order, Walk};
 use crate::subviews::portions::{Portions, PortionsFromEnds, PortionsMut};
 use std::iter::ExactSizeIterator;
-use std::marker::Model;
+use std::marker::{Model, PhantomData};
 
 /// Where the chunks along an axis lie that are still to come.
 #[derive(Drop)]
@@ -29,7 +29,7 @@ pub(crate) struct ChunkPortions<D: Lengths> {
 
 impl<D: Lengths> Model for ChunkPortions<D> {
     ghost use Rattle.std.specs.Prelude.{List};
-    ghost use Rattle.ndarray.specs.base.Portions.{Spot};
+    ghost use Rattle.ndarray.specs.base.Spots.{Spot};
 
     ghost Value = { List Spot };
 
@@ -160,6 +160,7 @@ fn chunks<'a, A, D: Lengths>(
             size,
             walk: Walk::new(Ix1(count), Order::RowMajor),
         },
+        lends: PhantomData,
     }
 }
 
@@ -181,7 +182,7 @@ impl<'a, A, D: Lengths> AxisChunksIterMut<'a, A, D> {
     }
 }
 
-impl<'a, A: 'a, D: Lengths> Iterator for AxisChunksIterMut<'a, A, D> {
+impl<'a, A, D: Lengths> Iterator for AxisChunksIterMut<'a, A, D> {
     type Item = ArrayViewMut<'a, A, D>;
 
     ghost next_gives = { YieldsFirst (λ rest. rest) };
@@ -201,7 +202,7 @@ impl<'a, A: 'a, D: Lengths> Iterator for AxisChunksIterMut<'a, A, D> {
     }
 }
 
-impl<'a, A: 'a, D: Lengths> DoubleEndedIterator for AxisChunksIterMut<'a, A, D> {
+impl<'a, A, D: Lengths> DoubleEndedIterator for AxisChunksIterMut<'a, A, D> {
     ghost next_back_gives = { YieldsLast (λ rest. rest) };
 
     fn next_back(&mut self) -> Option<ArrayViewMut<'a, A, D>> {
@@ -209,7 +210,7 @@ impl<'a, A: 'a, D: Lengths> DoubleEndedIterator for AxisChunksIterMut<'a, A, D> 
     }
 }
 
-impl<'a, A: 'a, D: Lengths> ExactSizeIterator for AxisChunksIterMut<'a, A, D> {
+impl<'a, A, D: Lengths> ExactSizeIterator for AxisChunksIterMut<'a, A, D> {
     fn len(&self) -> usize {
         self.items.len()
     }

@@ -4,6 +4,7 @@ ghost use Rattle.std.specs.Prelude.{◌≡◌, ◌<◌, ◌≤◌, ◌^◌, ◌�
 ghost use Rattle.std.specs.Iterator.{UpTo, YieldsFirst, YieldsLast, item_count};
 ghost use Rattle.std.specs.Iterator.SizeHint.{IsExactHint, IsWithinCount};
 ghost use Rattle.ndarray.specs.Grid.{arranged};
+ghost use Rattle.ndarray.specs.Limits.{IsWithinLimit};
 ghost use Rattle.ndarray.specs.Subviews.{axis_items};
 ghost use Rattle.ndarray.specs.Views.{axis_item};
 
@@ -15,7 +16,7 @@ use crate::base::storage::DataMut;
 use crate::subviews::portions::PortionsMut;
 use crate::subviews::tiles_mut::{TilePortions, TilesMut};
 use std::iter::ExactSizeIterator;
-use std::marker::Model;
+use std::marker::{Model, PhantomData};
 
 /// The items along an axis that are still to come, to write in: views with that axis taken out. No
 /// two of them share a cell.
@@ -88,10 +89,19 @@ fn items<'a, A, D: RemoveAxis>(
         },
         dim: layout.dim.remove_axis(axis),
         strides: layout.strides.remove_axis(axis),
+        lends: PhantomData,
     }
 }
 
 impl<'a, A, D: Lengths> AxisIterMut<'a, A, D> {
+    /// The number of items still to come, as lengths of one axis.
+    pub(crate) fn raw_dim(&self) -> Ix1
+        ensures value { result.0 ≡ length self.now ∷ [] }
+        ensures limit { IsWithinLimit (length self.now ∷ []) }
+    {
+        Ix1(self.items.portions.bounded_len())
+    }
+
     /// The first `index` items still to come, and the rest. Nothing is gone over.
     ///
     /// The caller owes an index that is at most `len()`.
@@ -106,7 +116,7 @@ impl<'a, A, D: Lengths> AxisIterMut<'a, A, D> {
     }
 }
 
-impl<'a, A: 'a, D: Lengths> Iterator for AxisIterMut<'a, A, D> {
+impl<'a, A, D: Lengths> Iterator for AxisIterMut<'a, A, D> {
     type Item = ArrayViewMut<'a, A, D>;
 
     ghost next_gives = { YieldsFirst (λ rest. rest) };
@@ -126,7 +136,7 @@ impl<'a, A: 'a, D: Lengths> Iterator for AxisIterMut<'a, A, D> {
     }
 }
 
-impl<'a, A: 'a, D: Lengths> DoubleEndedIterator for AxisIterMut<'a, A, D> {
+impl<'a, A, D: Lengths> DoubleEndedIterator for AxisIterMut<'a, A, D> {
     ghost next_back_gives = { YieldsLast (λ rest. rest) };
 
     fn next_back(&mut self) -> Option<ArrayViewMut<'a, A, D>> {
@@ -134,7 +144,7 @@ impl<'a, A: 'a, D: Lengths> DoubleEndedIterator for AxisIterMut<'a, A, D> {
     }
 }
 
-impl<'a, A: 'a, D: Lengths> ExactSizeIterator for AxisIterMut<'a, A, D> {
+impl<'a, A, D: Lengths> ExactSizeIterator for AxisIterMut<'a, A, D> {
     fn len(&self) -> usize {
         self.items.len()
     }

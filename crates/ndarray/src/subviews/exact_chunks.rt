@@ -17,7 +17,7 @@ use std::marker::Model;
 /// The whole chunks of an array, in row order of their positions.
 #[derive(Drop)]
 pub struct ExactChunks<'a, A, D: Lengths> {
-    tiles: Tiles<'a, A, D, D>,
+    pub(crate) tiles: Tiles<'a, A, D, D>,
 }
 
 impl<'a, A, D: Lengths> Model for ExactChunks<'a, A, D> {
@@ -86,10 +86,11 @@ impl<'a, A, D: Lengths> IntoIterator for ExactChunks<'a, A, D> {
     }
 }
 
-/// The whole chunks that are still to come, in row order of their positions.
+/// The whole chunks that are still to come, in row order of their positions, or in the order that
+/// `run` was asked for.
 #[derive(Drop)]
 pub struct ExactChunksIter<'a, A, D: Lengths> {
-    items: TilesIter<'a, A, D, D>,
+    pub(crate) items: TilesIter<'a, A, D, D>,
 }
 
 impl<'a, A, D: Lengths> Model for ExactChunksIter<'a, A, D> {

@@ -12,13 +12,13 @@ use crate::base::storage::DataMut;
 use crate::subviews::portions::PortionsMut;
 use crate::subviews::positions::window_positions;
 use crate::subviews::tiles_mut::{TilePortions, TilesMut};
-use std::marker::Model;
+use std::marker::{Model, PhantomData};
 
 /// The whole chunks of an array, to write in, in row order of their positions. No two of them share
 /// a cell.
 #[derive(Drop)]
 pub struct ExactChunksMut<'a, A, D: Lengths> {
-    tiles: TilesMut<'a, A, D, D>,
+    pub(crate) tiles: TilesMut<'a, A, D, D>,
 }
 
 impl<'a, A, D: Lengths> Model for ExactChunksMut<'a, A, D> {
@@ -67,10 +67,11 @@ fn tiles<'a, A, D: Lengths>(view: ArrayViewMut<'a, A, D>, chunk: D) -> TilesMut<
         positions: window_positions(&layout, &chunk, &chunk),
         dim: chunk,
         strides: layout.strides,
+        lends: PhantomData,
     }
 }
 
-impl<'a, A: 'a, D: Lengths> IntoIterator for ExactChunksMut<'a, A, D> {
+impl<'a, A, D: Lengths> IntoIterator for ExactChunksMut<'a, A, D> {
     ghost use Rattle.std.specs.Prelude.{◌<◌, ◌^◌, length};
 
     type Item = ArrayViewMut<'a, A, D>;
@@ -89,7 +90,7 @@ impl<'a, A: 'a, D: Lengths> IntoIterator for ExactChunksMut<'a, A, D> {
 /// The whole chunks that are still to come, to write in, in row order of their positions.
 #[derive(Drop)]
 pub struct ExactChunksIterMut<'a, A, D: Lengths> {
-    items: PortionsMut<'a, A, TilePortions<D, D>>,
+    pub(crate) items: PortionsMut<'a, A, TilePortions<D, D>>,
 }
 
 impl<'a, A, D: Lengths> Model for ExactChunksIterMut<'a, A, D> {
@@ -101,7 +102,7 @@ impl<'a, A, D: Lengths> Model for ExactChunksIterMut<'a, A, D> {
     ghost view = { λ s. s.items };
 }
 
-impl<'a, A: 'a, D: Lengths> Iterator for ExactChunksIterMut<'a, A, D> {
+impl<'a, A, D: Lengths> Iterator for ExactChunksIterMut<'a, A, D> {
     type Item = ArrayViewMut<'a, A, D>;
 
     ghost next_gives = { YieldsFirst (λ rest. rest) };

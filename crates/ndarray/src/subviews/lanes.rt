@@ -19,7 +19,7 @@ use std::marker::Model;
 /// dimension is `D`.
 #[derive(Drop)]
 pub struct Lanes<'a, A, D: Lengths> {
-    tiles: Tiles<'a, A, D, Ix1>,
+    pub(crate) tiles: Tiles<'a, A, D, Ix1>,
 }
 
 impl<'a, A, D: Lengths> Model for Lanes<'a, A, D> {
@@ -115,10 +115,11 @@ impl<'a, A, D: Lengths> IntoIterator for Lanes<'a, A, D> {
     }
 }
 
-/// The lanes that are still to come, in row order of their index lists.
+/// The lanes that are still to come, in row order of their index lists, or in the order that `run`
+/// was asked for.
 #[derive(Drop)]
 pub struct LanesIter<'a, A, D: Lengths> {
-    items: TilesIter<'a, A, D, Ix1>,
+    pub(crate) items: TilesIter<'a, A, D, Ix1>,
 }
 
 impl<'a, A, D: Lengths> Model for LanesIter<'a, A, D> {

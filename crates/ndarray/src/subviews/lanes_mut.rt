@@ -13,13 +13,13 @@ use crate::base::storage::DataMut;
 use crate::subviews::portions::PortionsMut;
 use crate::subviews::tiles_mut::{TilePortions, TilesMut};
 use std::iter::ExactSizeIterator;
-use std::marker::Model;
+use std::marker::{Model, PhantomData};
 
 /// The lanes along an axis, to write in: views of that one axis, one for each index list of the
 /// other axes, whose dimension is `D`. No two of them share a cell.
 #[derive(Drop)]
 pub struct LanesMut<'a, A, D: Lengths> {
-    tiles: TilesMut<'a, A, D, Ix1>,
+    pub(crate) tiles: TilesMut<'a, A, D, Ix1>,
 }
 
 impl<'a, A, D: Lengths> Model for LanesMut<'a, A, D> {
@@ -91,10 +91,11 @@ fn tiles<'a, A, D: Dimension>(
         },
         dim: Ix1(len),
         strides: Ix1(stride),
+        lends: PhantomData,
     }
 }
 
-impl<'a, A: 'a, D: Lengths> IntoIterator for LanesMut<'a, A, D> {
+impl<'a, A, D: Lengths> IntoIterator for LanesMut<'a, A, D> {
     ghost use Rattle.std.specs.Prelude.{◌<◌, ◌^◌, length};
 
     type Item = ArrayViewMut<'a, A, Ix1>;
@@ -113,7 +114,7 @@ impl<'a, A: 'a, D: Lengths> IntoIterator for LanesMut<'a, A, D> {
 /// The lanes that are still to come, to write in, in row order of their index lists.
 #[derive(Drop)]
 pub struct LanesIterMut<'a, A, D: Lengths> {
-    items: PortionsMut<'a, A, TilePortions<D, Ix1>>,
+    pub(crate) items: PortionsMut<'a, A, TilePortions<D, Ix1>>,
 }
 
 impl<'a, A, D: Lengths> Model for LanesIterMut<'a, A, D> {
@@ -125,7 +126,7 @@ impl<'a, A, D: Lengths> Model for LanesIterMut<'a, A, D> {
     ghost view = { λ s. s.items };
 }
 
-impl<'a, A: 'a, D: Lengths> Iterator for LanesIterMut<'a, A, D> {
+impl<'a, A, D: Lengths> Iterator for LanesIterMut<'a, A, D> {
     type Item = ArrayViewMut<'a, A, Ix1>;
 
     ghost next_gives = { YieldsFirst (λ rest. rest) };
@@ -145,7 +146,7 @@ impl<'a, A: 'a, D: Lengths> Iterator for LanesIterMut<'a, A, D> {
     }
 }
 
-impl<'a, A: 'a> DoubleEndedIterator for LanesIterMut<'a, A, Ix1> {
+impl<'a, A> DoubleEndedIterator for LanesIterMut<'a, A, Ix1> {
     ghost next_back_gives = { YieldsLast (λ rest. rest) };
 
     fn next_back(&mut self) -> Option<ArrayViewMut<'a, A, Ix1>> {
@@ -153,7 +154,7 @@ impl<'a, A: 'a> DoubleEndedIterator for LanesIterMut<'a, A, Ix1> {
     }
 }
 
-impl<'a, A: 'a, D: Lengths> ExactSizeIterator for LanesIterMut<'a, A, D> {
+impl<'a, A, D: Lengths> ExactSizeIterator for LanesIterMut<'a, A, D> {
     fn len(&self) -> usize {
         self.items.len()
     }

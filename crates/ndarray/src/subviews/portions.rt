@@ -4,14 +4,14 @@
 ghost use Rattle.std.specs.Prelude.{◌≡◌, ◌≤◌, ◌++◌, List, [], ◌∷◌, length, take, drop, MatchOption, IfSome};
 ghost use Rattle.std.specs.Iterator.{UpTo, YieldsFirst, YieldsLast, item_count};
 ghost use Rattle.std.specs.Iterator.SizeHint.{IsExactHint, IsWithinCount};
-ghost use Rattle.ndarray.specs.base.Portions.{Spot, spot};
+ghost use Rattle.ndarray.specs.base.Spots.{Spot, spot};
 
 use crate::base::array::{ArrayBase, ArrayViewMut};
 use crate::base::dimension::Lengths;
 use crate::base::layout::Layout;
 use crate::base::region::{Life, RegionRepr};
 use std::iter::ExactSizeIterator;
-use std::marker::Model;
+use std::marker::{Model, PhantomData};
 use std::mem::replace;
 
 /// Where sub-views lie that are still to come.
@@ -49,6 +49,8 @@ pub(crate) trait PortionsFromEnds: Portions {
 pub(crate) struct PortionsMut<'a, A, T: Portions> {
     pub(super) region: RegionRepr<Life<'a>, A>,
     pub(super) portions: T,
+    // the lifetime of what it lends, so that `A: 'a` follows from the type
+    pub(super) lends: PhantomData<&'a mut A>,
 }
 
 impl<'a, A, T: Portions> Model for PortionsMut<'a, A, T> {
@@ -65,7 +67,7 @@ impl<'a, A, T: Portions> Model for PortionsMut<'a, A, T> {
     ghost invariant = { λ s. Shares (held_at s.region.slots) (T.spots s.portions) };
 }
 
-impl<'a, A: 'a, T: Portions> Iterator for PortionsMut<'a, A, T> {
+impl<'a, A, T: Portions> Iterator for PortionsMut<'a, A, T> {
     type Item = ArrayViewMut<'a, A, T::Dim>;
 
     ghost next_gives = { YieldsFirst (λ rest. rest) };
@@ -92,13 +94,13 @@ impl<'a, A: 'a, T: Portions> Iterator for PortionsMut<'a, A, T> {
     }
 }
 
-impl<'a, A: 'a, T: Portions> ExactSizeIterator for PortionsMut<'a, A, T> {
+impl<'a, A, T: Portions> ExactSizeIterator for PortionsMut<'a, A, T> {
     fn len(&self) -> usize {
         self.portions.len()
     }
 }
 
-impl<'a, A: 'a, T: PortionsFromEnds> DoubleEndedIterator for PortionsMut<'a, A, T> {
+impl<'a, A, T: PortionsFromEnds> DoubleEndedIterator for PortionsMut<'a, A, T> {
     ghost next_back_gives = { YieldsLast (λ rest. rest) };
 
     fn next_back(&mut self) -> Option<ArrayViewMut<'a, A, T::Dim>> {
@@ -122,6 +124,7 @@ impl<'a, A, T: PortionsFromEnds> PortionsMut<'a, A, T> {
         let PortionsMut {
             region,
             mut portions,
+            lends: _,
         } = self;
         let first = portions.take_first(index);
         let (here, others) = region.split(&first);
@@ -129,10 +132,12 @@ impl<'a, A, T: PortionsFromEnds> PortionsMut<'a, A, T> {
             PortionsMut {
                 region: here,
                 portions: first,
+                lends: PhantomData,
             },
             PortionsMut {
                 region: others,
                 portions,
+                lends: PhantomData,
             },
         )
     }

@@ -1,14 +1,17 @@
 //! Inside `subviews`: equal pieces of an array, one at each position of a box, and the iterator over
 //! them. All subviews but axis chunks are such pieces.
 
-ghost use Rattle.std.specs.Prelude.{◌≡◌, ◌+◌, ◌^◌, ◌≤◌, ◌<◌, length, take, drop, Some, ⊤, IfSome};
+ghost use Rattle.std.specs.Prelude.{◌≡◌, ◌+◌, ◌^◌, ◌≤◌, ◌<◌, length, slice_index, take, drop, Some, ⊤, IfSome};
 ghost use Rattle.std.specs.Iterator.{UpTo, YieldsFirst, YieldsLast, item_count};
 ghost use Rattle.std.specs.Iterator.SizeHint.{IsExactHint, IsWithinCount};
 ghost use Rattle.ndarray.specs.Index.{InBox};
 ghost use Rattle.ndarray.specs.Grid.{IsGrid, cell};
 ghost use Rattle.ndarray.specs.Limits.{IsWithinLimit};
+ghost use Rattle.ndarray.specs.Orders.{cells_in};
+ghost use Rattle.ndarray.specs.Views.{axis_part};
 
 use crate::base::array::{ArrayBase, ArrayView};
+use crate::base::axis::Axis;
 use crate::base::dimension::{Ix1, Lengths};
 use crate::base::layout::Layout;
 use crate::base::storage::ViewRepr;
@@ -78,17 +81,54 @@ impl<'a, A, P: Lengths, D: Lengths> Tiles<'a, A, P, D> {
         }
     }
 
+    /// The pieces at the first `index` positions of an axis, and the rest.
+    pub(crate) fn split_at(self, axis: Axis, index: usize) -> (Self, Self)
+        requires axis { axis.0 < length self.lengths }
+        requires within { index ≤ slice_index self.lengths axis.0 }
+        ensures first { result.0 ≡ axis_part self.entry axis.0 0 index }
+        ensures second { result.1 ≡ axis_part self.entry axis.0 index (slice_index self.entry.lengths axis.0) }
+        ensures first_whole { IsGrid result.0 }
+        ensures second_whole { IsGrid result.1 }
+    {
+        let len = self.positions.dim.axis(axis.0);
+        (
+            self.part(axis.0, 0, index),
+            self.part(axis.0, index, len - index),
+        )
+    }
+
+    /// The pieces at the `len` positions of an axis from `from` on.
+    pub(crate) fn part(&self, axis: usize, from: usize, len: usize) -> Self
+        requires axis { axis < length self.now.lengths }
+        requires within { from + len ≤ slice_index self.now.lengths axis }
+        ensures value { result ≡ axis_part self.now axis from (from + len) }
+        ensures whole { IsGrid result }
+    {
+        let mut part = self.again();
+        part.positions.cut(axis, from, len, 1);
+        part
+    }
+
     /// The pieces in row order of their positions.
     pub(crate) fn into_iter(self) -> TilesIter<'a, A, P, D>
         ensures items { result ≡ self.entry.cells }
         ensures fits { length result < 2 ^ 63 }
     {
-        let walk = Walk::new(self.raw_dim(), Order::RowMajor);
+        self.run(Order::RowMajor)
+    }
+
+    /// The pieces in an order of their positions.
+    pub(crate) fn run(self, order: Order) -> TilesIter<'a, A, P, D>
+        ensures items { result ≡ cells_in order self.entry }
+        ensures fits { length result < 2 ^ 63 }
+        ensures whole { IsGrid self.entry }
+    {
+        let walk = Walk::new(self.raw_dim(), order);
         TilesIter { tiles: self, walk }
     }
 }
 
-/// The pieces that are still to come, in row order of their positions.
+/// The pieces that are still to come.
 #[derive(Drop)]
 pub(crate) struct TilesIter<'a, A, P: Lengths, D: Lengths> {
     tiles: Tiles<'a, A, P, D>,
@@ -104,6 +144,16 @@ impl<'a, A, P: Lengths, D: Lengths> Model for TilesIter<'a, A, P, D> {
     ghost view = { λ s. filter_map (cell s.tiles) s.walk };
 
     ghost invariant = { λ s. HasCells s.tiles s.walk };
+}
+
+impl<'a, A, P: Lengths, D: Lengths> TilesIter<'a, A, P, D> {
+    /// How many pieces are still to come, which the limit on shapes bounds.
+    pub(crate) fn bounded_len(&self) -> usize
+        ensures value { result ≡ length self.now }
+        ensures fits { result < 2 ^ 63 }
+    {
+        self.walk.bounded_len()
+    }
 }
 
 impl<'a, A, P: Lengths, D: Lengths> Iterator for TilesIter<'a, A, P, D> {

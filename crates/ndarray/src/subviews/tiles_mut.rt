@@ -1,13 +1,18 @@
 //! Inside `subviews`: equal pieces of an array to write in, one at each position of a box.
 
-ghost use Rattle.std.specs.Prelude.{◌≡◌, ◌^◌, ◌<◌, length};
+ghost use Rattle.std.specs.Prelude.{◌≡◌, ◌^◌, ◌<◌, ◌≤◌, length, slice_index};
+ghost use Rattle.ndarray.specs.Grid.{IsGrid};
+ghost use Rattle.ndarray.specs.Limits.{IsWithinLimit};
+ghost use Rattle.ndarray.specs.Orders.{cells_in};
+ghost use Rattle.ndarray.specs.Views.{axis_part};
 
+use crate::base::axis::Axis;
 use crate::base::dimension::{Ix1, Lengths};
 use crate::base::layout::Layout;
 use crate::base::region::{Life, RegionRepr};
 use crate::order::{Order, Walk};
 use crate::subviews::portions::{Portions, PortionsFromEnds, PortionsMut};
-use std::marker::Model;
+use std::marker::{Model, PhantomData};
 
 /// Equal pieces of an array to write in, one at each position of a box: an array of arrays.
 #[derive(Drop)]
@@ -18,6 +23,8 @@ pub(crate) struct TilesMut<'a, A, P: Lengths, D: Lengths> {
     // the lengths and the strides of each piece
     pub(crate) dim: D,
     pub(crate) strides: D,
+    // the lifetime of what it lends, so that `A: 'a` follows from the type
+    pub(crate) lends: PhantomData<&'a mut A>,
 }
 
 impl<'a, A, P: Lengths, D: Lengths> Model for TilesMut<'a, A, P, D> {
@@ -33,6 +40,14 @@ impl<'a, A, P: Lengths, D: Lengths> Model for TilesMut<'a, A, P, D> {
     ghost invariant = { λ t. ShareTiles (held_at t.region.slots) (P.numbers t.positions.dim) t.positions.start (P.numbers t.positions.strides) (D.numbers t.dim) (D.numbers t.strides) };
 }
 
+/// Where equal pieces lie, all of which go into one part.
+#[derive(Drop)]
+struct TilePart<P, D> {
+    positions: Layout<P>,
+    dim: D,
+    strides: D,
+}
+
 /// Where equal pieces lie that are still to come.
 #[derive(Drop)]
 pub(crate) struct TilePortions<P: Lengths, D: Lengths> {
@@ -44,7 +59,7 @@ pub(crate) struct TilePortions<P: Lengths, D: Lengths> {
 
 impl<P: Lengths, D: Lengths> Model for TilePortions<P, D> {
     ghost use Rattle.std.specs.Prelude.{List};
-    ghost use Rattle.ndarray.specs.base.Portions.{Spot};
+    ghost use Rattle.ndarray.specs.base.Spots.{Spot};
 
     ghost Value = { List Spot };
 
@@ -56,18 +71,81 @@ impl<P: Lengths, D: Lengths> Model for TilePortions<P, D> {
 }
 
 impl<'a, A, P: Lengths, D: Lengths> TilesMut<'a, A, P, D> {
-    /// The pieces in row order of their positions.
-    pub(crate) fn into_iter(self) -> PortionsMut<'a, A, TilePortions<P, D>>
-        ensures items { result ≡ self.entry.cells }
-        ensures fits { length result < 2 ^ 63 }
+    /// The numbers of positions.
+    pub(crate) fn raw_dim(&self) -> P
+        ensures lengths { P.numbers result ≡ self.now.lengths }
+        ensures limit { IsWithinLimit self.now.lengths }
+    {
+        self.positions.dim.copied()
+    }
+
+    /// The pieces at the first `index` positions of an axis, and the rest. No cell is in both.
+    pub(crate) fn split_at(self, axis: Axis, index: usize) -> (Self, Self)
+        requires axis { axis.0 < length self.lengths }
+        requires within { index ≤ slice_index self.lengths axis.0 }
+        ensures first { result.0 ≡ axis_part self.entry axis.0 0 index }
+        ensures second { result.1 ≡ axis_part self.entry axis.0 index (slice_index self.entry.lengths axis.0) }
+        ensures first_whole { IsGrid result.0 }
+        ensures second_whole { IsGrid result.1 }
     {
         let TilesMut {
             region,
             positions,
             dim,
             strides,
+            lends: _,
         } = self;
-        let walk = Walk::new(positions.dim.copied(), Order::RowMajor);
+        let len = positions.dim.axis(axis.0);
+        let mut low = positions.copied();
+        low.cut(axis.0, 0, index, 1);
+        let mut high = positions;
+        high.cut(axis.0, index, len - index, 1);
+        let part = TilePart {
+            positions: low,
+            dim: dim.copied(),
+            strides: strides.copied(),
+        };
+        let (here, rest) = region.split(&part);
+        (
+            TilesMut {
+                region: here,
+                positions: part.positions,
+                dim: part.dim,
+                strides: part.strides,
+                lends: PhantomData,
+            },
+            TilesMut {
+                region: rest,
+                positions: high,
+                dim,
+                strides,
+                lends: PhantomData,
+            },
+        )
+    }
+
+    /// The pieces in row order of their positions.
+    pub(crate) fn into_iter(self) -> PortionsMut<'a, A, TilePortions<P, D>>
+        ensures items { result ≡ self.entry.cells }
+        ensures fits { length result < 2 ^ 63 }
+    {
+        self.run(Order::RowMajor)
+    }
+
+    /// The pieces in an order of their positions.
+    pub(crate) fn run(self, order: Order) -> PortionsMut<'a, A, TilePortions<P, D>>
+        ensures items { result ≡ cells_in order self.entry }
+        ensures fits { length result < 2 ^ 63 }
+        ensures whole { IsGrid self.entry }
+    {
+        let TilesMut {
+            region,
+            positions,
+            dim,
+            strides,
+            lends,
+        } = self;
+        let walk = Walk::new(positions.dim.copied(), order);
         PortionsMut {
             region,
             portions: TilePortions {
@@ -76,7 +154,18 @@ impl<'a, A, P: Lengths, D: Lengths> TilesMut<'a, A, P, D> {
                 strides,
                 walk,
             },
+            lends,
         }
+    }
+}
+
+impl<P: Lengths, D: Lengths> TilePortions<P, D> {
+    /// How many pieces are still to come, which the limit on shapes bounds.
+    pub(super) fn bounded_len(&self) -> usize
+        ensures value { result ≡ length self.now }
+        ensures fits { result < 2 ^ 63 }
+    {
+        self.walk.bounded_len()
     }
 }
 

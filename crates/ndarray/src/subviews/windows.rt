@@ -18,7 +18,7 @@ use std::marker::Model;
 /// The windows of an array, in row order of their positions.
 #[derive(Drop)]
 pub struct Windows<'a, A, D: Lengths> {
-    tiles: Tiles<'a, A, D, D>,
+    pub(crate) tiles: Tiles<'a, A, D, D>,
 }
 
 impl<'a, A, D: Lengths> Model for Windows<'a, A, D> {
@@ -33,16 +33,20 @@ impl<'a, A, D: Lengths> Model for Windows<'a, A, D> {
 /// the whole length.
 #[derive(Drop)]
 pub struct AxisWindows<'a, A, D: Lengths> {
-    // on each other axis there is one position
-    tiles: Tiles<'a, A, D, D>,
+    // on each axis but this one there is one position
+    pub(crate) axis: usize,
+    pub(crate) tiles: Tiles<'a, A, D, D>,
 }
 
 impl<'a, A, D: Lengths> Model for AxisWindows<'a, A, D> {
     ghost use Rattle.ndarray.specs.Grid.{Grid, line};
+    ghost use Rattle.ndarray.specs.base.Tiles.{AreAlong};
 
     ghost Value = { Grid (Grid A) };
 
     ghost view = { λ s. line s.tiles.cells };
+
+    ghost invariant = { λ s. AreAlong s.axis s.tiles };
 }
 
 impl<S: Data, D: Dimension> ArrayBase<S, D> {
@@ -119,6 +123,7 @@ impl<S: Data, D: Lengths> ArrayBase<S, D> {
         let mut steps = ones(&self.layout.dim);
         steps.set_axis(axis.0, step);
         AxisWindows {
+            axis: axis.0,
             tiles: self.pieces(lengths, &steps),
         }
     }
@@ -168,10 +173,11 @@ impl<'a, A, D: Lengths> IntoIterator for AxisWindows<'a, A, D> {
     }
 }
 
-/// The windows that are still to come, in row order of their positions.
+/// The windows that are still to come, in row order of their positions, or in the order that `run`
+/// was asked for.
 #[derive(Drop)]
 pub struct WindowsIter<'a, A, D: Lengths> {
-    items: TilesIter<'a, A, D, D>,
+    pub(crate) items: TilesIter<'a, A, D, D>,
 }
 
 impl<'a, A, D: Lengths> Model for WindowsIter<'a, A, D> {

@@ -25,7 +25,7 @@ fn begin(view: &mut ArrayViewMut1<'_, i64>, number: i64) {
 
 /// Writes a value into the first cell of each row, whatever keeps the cells.
 fn begin_rows<A: Copy, S: DataMut<Elem = A>, D: Dimension>(array: &mut ArrayBase<S, D>, value: A) {
-    for mut row in array.view_mut().rows_mut() {
+    for mut row in array.rows_mut() {
         if let Some(cell) = row.get_mut(0) {
             *cell = value;
         }

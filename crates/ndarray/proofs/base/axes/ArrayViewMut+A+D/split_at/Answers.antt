@@ -2,7 +2,7 @@ use Rattle.std.proofs.Common.{List, ◌^◌, ◌≡◌, ◌<◌, ◌≤◌, ◌+
 use Rattle.std.specs.Prelude.{⊤}
 use Rattle.ndarray.specs.Index.{InBox}
 use Rattle.ndarray.specs.base.Places.{Rearranges}
-use Rattle.ndarray.specs.base.Portions.{Spot, spot}
+use Rattle.ndarray.specs.base.Spots.{Spot, spot}
 use Rattle.ndarray.specs.base.Slots.{held_at}
 use Rattle.ndarray.proofs.Cuts.{IsCut-part, rearranges-cut, cuts-apart}
 use Rattle.ndarray.proofs.Images.{grid-seen}

@@ -1,5 +1,5 @@
 use Rattle.std.proofs.Common.{◌∙◌}
-use Rattle.ndarray.proofs.Slots.{kept-only, others-only}
+use Rattle.ndarray.proofs.Slots.{kept-only, others-itself, others-only}
 use Rattle.ndarray.proofs.base.region.RegionRepr+Life+A.take.Goals as goal
 
 pub into_mut-requires : goal.into_mut-requires
@@ -10,3 +10,6 @@ returns-clause-value g c = rw (← kept-only c.args.self.now.slots c.args.place,
 
 pub returns-clause-rest : goal.returns-clause-rest
 returns-clause-rest g c = λ p other. rw (c.split-one.ensures.second, c.replace-whole.ensures.value) (others-only c.args.self.now.slots c.args.place p other)
+
+pub returns-clause-gone : goal.returns-clause-gone
+returns-clause-gone g c = rw (c.split-one.ensures.second, c.replace-whole.ensures.value) (others-itself c.args.self.now.slots c.args.place)

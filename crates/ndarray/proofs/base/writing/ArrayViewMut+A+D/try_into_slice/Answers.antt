@@ -1,8 +1,10 @@
 use Rattle.std.proofs.Common.{arith, ◌∙◌, ap, sym, subst, refl, length, take, drop, []}
 use Rattle.std.proofs.lemmas.List.{nil_from_length}
+use Rattle.ndarray.specs.Grid.{IsGrid}
 use Rattle.ndarray.specs.base.Slots.{IsRun}
 use Rattle.ndarray.proofs.Reached.{length-cells_at}
-use Rattle.ndarray.proofs.Runs.{IsRun-cells, run-cells, same-run}
+use Rattle.ndarray.proofs.Runs.{IsRun-cells, run-cells}
+use Rattle.ndarray.proofs.Slots.{same-run}
 use Rattle.ndarray.proofs.base.writing.ArrayViewMut+A+D.try_into_slice.Goals as goal
 
 pub returns-then-len-eq0-clause-cells : goal.returns-then-len-eq0-clause-cells
@@ -33,3 +35,12 @@ pub returns-clause-cells : goal.returns-clause-cells
 returns-clause-cells g c =
     let a = c.self.inside in
     same-run _ _ (sym c.into_slice-2.ensures.value ∙ (ap (λ n. take n (drop a.layout.start a.storage.slots)) c.size-len.ensures ∙ run-cells a.storage.slots (g.D.Lengths.numbers a.layout.dim) a.layout.start (g.D.Lengths.numbers a.layout.strides) c.self.invariant (c.if-not-is_row_major.ensures.places.0 refl) (omega (arith, c.size-len.ensures)))) ∙ ap (λ v. v.cells) c.self.view_is
+
+pub returns-then-len-eq0-clause-whole : goal.returns-then-len-eq0-clause-whole
+returns-then-len-eq0-clause-whole g c = subst IsGrid c.self.view_is (length-cells_at _ _ _ _ c.self.invariant)
+
+pub returns-then-not-is_row_major-clause-whole : goal.returns-then-not-is_row_major-clause-whole
+returns-then-not-is_row_major-clause-whole g c = subst IsGrid c.self.view_is (length-cells_at _ _ _ _ c.self.invariant)
+
+pub returns-clause-whole : goal.returns-clause-whole
+returns-clause-whole g c = subst IsGrid c.self.view_is (length-cells_at _ _ _ _ c.self.invariant)

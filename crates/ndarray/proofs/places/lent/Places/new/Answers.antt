@@ -1,31 +1,7 @@
-use Rattle.std.proofs.Common.{◌≡◌, zip, ap, ◌∙◌, subst, sym}
+use Rattle.std.proofs.Common.{zip, ap, ◌∙◌}
 use Rattle.ndarray.specs.Index.{row_order}
-use Rattle.ndarray.specs.base.Places.{cells_at}
-use Rattle.ndarray.specs.base.Slots.{held_at}
-use Rattle.ndarray.specs.places.Lent.{along, AreLent}
-use Rattle.ndarray.specs.Grid.{IsGrid}
-use Rattle.ndarray.specs.Limits.{IsWithinLimit}
-use Rattle.ndarray.proofs.Lent.{AreLent-all}
-use Rattle.ndarray.proofs.Reached.{length-cells_at}
+use Rattle.ndarray.proofs.Cells.{along-row_order}
 use Rattle.ndarray.proofs.places.lent.Places.new.Goals as goal
 
-walked : (g : _) (c : goal.After-new-walk g) → c.new-walk.result ≡ row_order (g.D.Lengths.numbers c.view.inside.layout.dim)
-walked g c = c.new-walk.ensures.list ∙ ap row_order c.copied.ensures
-
-pub invariant_of-result : goal.invariant_of-result
-invariant_of-result g c =
-    let a = c.view.inside in
-    subst (AreLent (held_at a.storage.slots) a.layout.start (g.D.Lengths.numbers a.layout.strides)) (sym (walked g c)) (AreLent-all (held_at a.storage.slots) (g.D.Lengths.numbers a.layout.dim) a.layout.start (g.D.Lengths.numbers a.layout.strides) c.view.invariant)
-
 pub returns-clause-list : goal.returns-clause-list
-unfolding cells_at
-returns-clause-list g c =
-    let a = c.view.inside in
-    ap (λ iss. zip iss (along (held_at a.storage.slots) a.layout.start (g.D.Lengths.numbers a.layout.strides) iss)) (walked g c)
-    ∙ ap (λ v. zip (row_order v.lengths) v.cells) c.view.view_is
-
-pub returns-clause-whole : goal.returns-clause-whole
-returns-clause-whole g c = subst IsGrid c.view.view_is (length-cells_at _ _ _ _ c.view.invariant)
-
-pub returns-clause-limit : goal.returns-clause-limit
-returns-clause-limit g c = subst (λ v. IsWithinLimit v.lengths) c.view.view_is c.view.invariant.limit
+returns-clause-list g c = c.in_order.ensures.list ∙ ap (zip (row_order c.args.view.lengths)) (along-row_order c.args.view c.in_order.ensures.whole)

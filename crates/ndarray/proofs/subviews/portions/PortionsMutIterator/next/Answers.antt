@@ -1,5 +1,6 @@
 use Rattle.std.proofs.Common.{List, [], ◌∷◌, sym, ◌∙◌, ap, subst}
-use Rattle.ndarray.specs.base.Portions.{Spot, spot, Shares, grids_at}
+use Rattle.ndarray.specs.base.Portions.{Shares, grids_at}
+use Rattle.ndarray.specs.base.Spots.{Spot, spot}
 use Rattle.ndarray.specs.base.Slots.{held_at}
 use Rattle.ndarray.proofs.Portions.{SharesBoth, SharesBoth-parts, Shares-others, one-reaches, one-seen, grids-others}
 use Rattle.ndarray.proofs.subviews.portions.PortionsMutIterator.next.Goals as goal

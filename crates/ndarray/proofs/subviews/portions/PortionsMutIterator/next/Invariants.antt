@@ -1,5 +1,6 @@
 use Rattle.std.proofs.Common.{[], ◌∷◌, length}
-use Rattle.ndarray.specs.base.Portions.{portion, spot}
+use Rattle.ndarray.specs.base.Portions.{portion}
+use Rattle.ndarray.specs.base.Spots.{spot}
 use Rattle.ndarray.proofs.subviews.portions.PortionsMutIterator.next.Given as goal
 
 abbrev pub ghost-split : goal.ghost-split

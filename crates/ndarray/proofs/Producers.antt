@@ -1,0 +1,83 @@
+-- What producers give: the items of two together, and those of a list.
+use Rattle.std.proofs.Common.{◌≡◌, ℕ, ◌+◌, ◌-◌, ap, List, [], ◌∷◌, Option, Some, refl, sym, subst, ◌∙◌, inl, inr}
+use Rattle.std.specs.Iterator.{YieldsFirstBy}
+use Rattle.std.specs.Iterator.Adapters.{zip_steps, zip_first, zip_second}
+use Rattle.std.specs.declared.iter.Zip.{Zip}
+use Rattle.std.specs.Prelude.{filter_map, slice_set, slice_index}
+use Rattle.ndarray.specs.Index.{InBox}
+use Rattle.ndarray.specs.Grid.{Grid, IsGrid, HasCells, cell}
+use Rattle.ndarray.specs.Orders.{box_in, cells_in}
+use Rattle.ndarray.specs.Producers.{Gives, GivesFrom, IsPart, both}
+use Rattle.ndarray.specs.Views.{axis_part}
+use Rattle.ndarray.specs.declared.base.shape.Order.{Order}
+use Rattle.ndarray.proofs.Cells.{cell-Some, along-first, HasCells-first, HasCells-box_in, tabulate-cell}
+
+module _ {S T A B : Type 0} (next : S → Option A → S → Type 0) (others : T → Option B → T → Type 0) (shows : List ℕ → A → Type 0) (shown : List ℕ → B → Type 0) where
+  pairs : (is : List (List ℕ)) (z : Zip S T)
+      → GivesFrom next shows (zip_first z) is → GivesFrom others shown (zip_second z) is
+      → GivesFrom (zip_steps next others) (both shows shown) z is
+  pairs [] z v w = λ t j st. v t.0 (zip_first j) st.0
+  pairs (i ∷ is) z v w = (
+    (λ j n. elim n [ inl h ↦ v.0 h.0 h.1 | inr h ↦ w.0 h.0 h.1 ]),
+    (λ t j st. let a = v.1 t.0 (zip_first j) st.0 in let b = w.1 t.1 (zip_second j) st.1 in ((a.0, b.0), pairs is j a.1 b.1)),
+  )
+
+  -- two runs over the same index lists, side by side
+  pub Gives-both : {is is' : List (List ℕ)} (s : S) (t : T) (z : Zip S T) → zip_first z ≡ s → zip_second z ≡ t → is ≡ is'
+      → Gives next shows s is → Gives others shown t is' → Gives (zip_steps next others) (both shows shown) z is
+  Gives-both {is} s t z e f k v w = record {
+    from =
+        pairs is z (subst (λ a. GivesFrom next shows a is) (sym e) v.from)
+        (subst (λ b. GivesFrom others shown b is) (sym f) (subst (λ l. GivesFrom others shown t l) (sym k) w.from));
+  }
+
+module _ {A B : Type 0} (view : A → B) (shows : List ℕ → A → Type 0) where
+  -- an item that reads as the value beside an index list may stand there
+  abbrev pub Stands : List (List ℕ) → List B → Type 0
+  Stands [] [] = Unit {0}
+  Stands [] (b ∷ bs) = ⊥
+  Stands (i ∷ is) [] = ⊥
+  Stands (i ∷ is) (b ∷ bs) = ((x : A) → view x ≡ b → shows i x) × Stands is bs
+
+-- an iterator that takes the first of a list
+module _ {S A B : Type 0} (view : A → B) (rest : S → List B) (shows : List ℕ → A → Type 0) where
+  from_list : (is : List (List ℕ)) (bs : List B) (s : S) → rest s ≡ bs → Stands view shows is bs → GivesFrom (YieldsFirstBy view rest) shows s is
+  from_list [] [] s e m = λ x j st. let k : [] ≡ view x ∷ rest j = sym e ∙ st in cc
+  from_list [] (b ∷ bs) s e m = absurd m
+  from_list (i ∷ is) [] s e m = absurd m
+  from_list (i ∷ is) (b ∷ bs) s e m = (
+    (λ j n. let k : b ∷ bs ≡ [] = sym e ∙ n.0 in cc),
+    (λ x j st. let k : b ∷ bs ≡ view x ∷ rest j = sym e ∙ st in
+        let h : view x ≡ b = cc in let t : rest j ≡ bs = cc in
+        (m.0 x h, from_list is bs j t m.1)),
+  )
+
+  -- it gives what stands beside each index list
+  pub Gives-list : {is : List (List ℕ)} (bs : List B) {s : S} → rest s ≡ bs → Stands view shows is bs → Gives (YieldsFirstBy view rest) shows s is
+  Gives-list bs e m = record { from = from_list _ bs _ e m }
+
+module _ {A B : Type 0} (view : A → B) (g : Grid B) where
+  cells-stand : (ys : List (List ℕ)) → HasCells g ys → Stands view (λ i x. cell g i ≡ Some (view x)) ys (filter_map (cell g) ys)
+  cells-stand [] h = tt
+  cells-stand (i ∷ ys) h =
+      let f = HasCells-first g (i ∷ ys) ys i refl h in
+      let (b, e) = cell-Some g h.whole i f.0 in
+      subst (Stands view (λ i x. cell g i ≡ Some (view x)) (i ∷ ys)) (sym (along-first g (i ∷ ys) ys i b refl e)) ((λ x k. e ∙ ap Some (sym k)), cells-stand ys f.1)
+
+  -- the cells of an array in an order are given beside their index lists
+  pub Gives-cells : {S : Type 0} (rest : S → List B) (o : Order) {s : S} → IsGrid g → rest s ≡ cells_in o g
+      → Gives (YieldsFirstBy view rest) (λ i x. cell g i ≡ Some (view x)) s (box_in o g.lengths)
+  Gives-cells rest o whole e = Gives-list view rest _ (cells_in o g) e (cells-stand (box_in o g.lengths) (HasCells-box_in o g whole))
+
+  -- a part along an axis
+  pub IsPart-axis_part : (h : Grid B) (axis from to : ℕ) → IsGrid h → h ≡ axis_part g axis from to
+      → IsPart axis from to g.lengths (λ i x. cell g i ≡ Some (view x)) h.lengths (λ i x. cell h i ≡ Some (view x))
+  IsPart-axis_part h axis from to whole e =
+      record {
+        lengths = ap (λ k. k.lengths) e;
+        items = λ js b x.
+            let ns = slice_set g.lengths axis (to - from) in
+            let c : cell h js ≡ cell g (slice_set js axis (from + slice_index js axis)) =
+            ap (λ k. cell k js) e ∙ tabulate-cell ns _ js (subst IsGrid e whole) (subst (λ k. InBox k.lengths js) e b) in
+            ((λ k. sym c ∙ k), (λ k. c ∙ k));
+      }

@@ -1,0 +1,29 @@
+use Rattle.std.proofs.Common.{sym, ap, ◌∙◌, ◌≡◌, subst, filter_map, arith, length}
+use Rattle.ndarray.specs.Grid.{HasCells, cell}
+use Rattle.ndarray.specs.Orders.{HasInOrder, box_in}
+use Rattle.ndarray.proofs.Cells.{HasCells-box_in, cells_in-HasInOrder, length-along}
+use Rattle.ndarray.proofs.Orders.{box_in-within, length-box_in}
+use Rattle.ndarray.proofs.Sizes.{size-le}
+use Rattle.ndarray.proofs.iter.elements.ElementsBase.in_order.Goals as goal
+
+walked : (g : _) (c : goal.After-new-walk g) → c.new-walk.result ≡ box_in c.args.order c.args.v.lengths
+walked g c = c.new-walk.ensures.list ∙ ap (box_in c.args.order) c.raw_dim.ensures.lengths
+
+pub invariant_of-result : goal.invariant_of-result
+invariant_of-result g c = subst (HasCells c.args.v) (sym (walked g c)) (HasCells-box_in c.args.order c.args.v c.raw_dim.ensures.whole)
+
+pub returns-clause-cells : goal.returns-clause-cells
+returns-clause-cells g c = ap (filter_map (cell c.args.v)) (walked g c)
+
+pub returns-clause-described : goal.returns-clause-described
+returns-clause-described g c = subst (HasInOrder c.args.order c.args.v) (sym (returns-clause-cells g c)) (cells_in-HasInOrder c.args.order c.args.v c.raw_dim.ensures.whole)
+
+pub returns-clause-fits : goal.returns-clause-fits
+returns-clause-fits g c =
+    let o = c.args.order in
+    let l = ap length (returns-clause-cells g c) in
+    let k = length-along c.args.v c.raw_dim.ensures.whole (box_in o c.args.v.lengths) (box_in-within o c.args.v.lengths) in
+    let n = length-box_in o c.args.v.lengths in
+    let m = c.raw_dim.ensures.limit in
+    let s = size-le c.args.v.lengths in
+    omega arith

@@ -1,0 +1,5 @@
+use Rattle.ndarray.proofs.Producers.{Gives-cells}
+use Rattle.ndarray.proofs.zip.writing.ArrayViewMutNdProducer.run.Goals as goal
+
+pub returns-clause-gives : goal.returns-clause-gives
+returns-clause-gives g c = Gives-cells _ _ _ _ c.in_order.ensures.whole c.in_order.ensures.cells

@@ -1,0 +1,22 @@
+-- Producers: lengths, and the items that may be handed out at each index list.
+use Rattle.std.specs.Prelude.{◌≡◌, ◌↔◌, ℕ, ◌+◌, ◌-◌, List, [], ◌∷◌, Option, Some, None, slice_index, slice_set}
+use Rattle.ndarray.specs.Index.{InBox}
+
+module _ {S A : Type 0} (next : S → Option A → S → Type 0) (shows : List ℕ → A → Type 0) where
+  -- from s on, calls of `next` give an item of each of the index lists in turn, and then `None`
+  abbrev pub GivesFrom : S → List (List ℕ) → Type 0
+  GivesFrom s [] = (x : A) (t : S) → next s (Some x) t → ⊥
+  GivesFrom s (i ∷ is) = ((t : S) → next s None t → ⊥) × ((x : A) (t : S) → next s (Some x) t → shows i x × GivesFrom t is)
+
+  -- the same, as one fact
+  pub record Gives (s : S) (is : List (List ℕ)) : Type 0 where
+    pub from : GivesFrom s is
+
+-- the items of two producers at an index list
+abbrev pub both : {X Y : Type 0} → (List ℕ → X → Type 0) → (List ℕ → Y → Type 0) → List ℕ → X × Y → Type 0
+both shows shown i t = shows i t.0 × shown i t.1
+
+-- a producer of lengths ms shows what one of lengths ns does where the index on the axis is from `from` up to `to`, that index counted from `from`
+pub record IsPart {X : Type 0} (axis from to : ℕ) (ns : List ℕ) (shows : List ℕ → X → Type 0) (ms : List ℕ) (shown : List ℕ → X → Type 0) : Type 0 where
+  pub lengths : ms ≡ slice_set ns axis (to - from)
+  pub items : (js : List ℕ) → InBox ms js → (x : X) → shown js x ↔ shows (slice_set js axis (from + slice_index js axis)) x

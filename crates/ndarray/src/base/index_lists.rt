@@ -1,0 +1,123 @@
+//! The index lists of a box, as an array of them.
+
+ghost use Rattle.std.specs.Prelude.{◌≡◌, ◌+◌, ◌≤◌, ◌<◌, ◌^◌, ℕ, length, slice_index, Some, ⊤};
+ghost use Rattle.ndarray.specs.Grid.{IsGrid, arranged, cell};
+ghost use Rattle.ndarray.specs.Index.{InBox};
+ghost use Rattle.ndarray.specs.Limits.{IsWithinLimit};
+ghost use Rattle.ndarray.specs.Views.{axis_part};
+ghost use Rattle.ndarray.specs.base.IndexLists.{moved};
+
+use crate::base::axis::Axis;
+use crate::base::dimension::Lengths;
+use std::alloc::AllocError;
+use std::marker::Model;
+
+/// The index lists of a box: an array whose cell at each index list is that list. Its parts keep the
+/// lists of the whole.
+///
+/// As a producer it hands out the pattern of each list. It takes no memory.
+#[derive(Drop)]
+pub struct Indices<D: Lengths> {
+    // the list at the index list of zeros
+    start: D,
+    dim: D,
+}
+
+impl<D: Lengths> Model for Indices<D> {
+    ghost use Rattle.std.specs.Prelude.{List, ℕ};
+    ghost use Rattle.ndarray.specs.Grid.{Grid, arranged};
+
+    ghost Value = { Grid (List ℕ) };
+
+    ghost use Rattle.ndarray.specs.base.IndexLists.{StartsAt, moved};
+
+    ghost view = { λ s. arranged (D.numbers s.dim) (moved (D.numbers s.start)) };
+
+    ghost invariant = { λ s. StartsAt (D.numbers s.start) (D.numbers s.dim) };
+}
+
+/// An index list counted from a start, axis by axis.
+fn counted_from<D: Lengths>(start: &D, index: &D) -> D
+    requires as_many { length (D.numbers start.now) ≡ length (D.numbers index.now) }
+    requires room { (k : ℕ) → k < length (D.numbers index.now) → slice_index (D.numbers start.now) k + slice_index (D.numbers index.now) k < 2 ^ 64 }
+    ensures { D.numbers result ≡ moved (D.numbers start.now) (D.numbers index.now) }
+{
+    let mut list = index.copied();
+    for k in 0..start.ndim() {
+        list.set_axis(k, start.axis(k) + index.axis(k));
+    }
+    list
+}
+
+impl<D: Lengths> Indices<D> {
+    /// The index lists of the box of the lengths.
+    pub(crate) fn of(dim: D) -> Self
+        requires { IsWithinLimit (D.numbers dim) }
+        ensures { result ≡ arranged (D.numbers dim) (λ is. is) }
+    {
+        let start = D::zeros(dim.ndim());
+        Indices { start, dim }
+    }
+
+    /// The lengths.
+    pub fn raw_dim(&self) -> D
+        ensures lengths { D.numbers result ≡ self.now.lengths }
+        ensures limit { IsWithinLimit self.now.lengths }
+        ensures whole { IsGrid self.now }
+    {
+        self.dim.copied()
+    }
+
+    /// The list at an index list of the box.
+    pub(crate) fn list(&self, index: &D) -> D
+        requires { InBox self.now.lengths (D.numbers index.now) }
+        ensures { cell self.now (D.numbers index.now) ≡ Some (D.numbers result) }
+    {
+        counted_from(&self.start, index)
+    }
+
+    /// The `len` places of an axis from `from` on.
+    fn part(&self, axis: usize, from: usize, len: usize) -> Self
+        requires axis { axis < length self.now.lengths }
+        requires within { from + len ≤ slice_index self.now.lengths axis }
+        ensures value { result ≡ axis_part self.now axis from (from + len) }
+        ensures whole { IsGrid result }
+    {
+        let mut start = self.start.copied();
+        start.set_axis(axis, start.axis(axis) + from);
+        let mut dim = self.dim.copied();
+        dim.set_axis(axis, len);
+        Indices { start, dim }
+    }
+
+    /// The first `index` places of an axis, and the rest.
+    ///
+    /// The caller owes an axis below the number of axes and an index that is at most its length.
+    pub fn split_at(self, axis: Axis, index: usize) -> (Self, Self)
+        requires axis { axis.0 < length self.lengths }
+        requires within { index ≤ slice_index self.lengths axis.0 }
+        ensures first { result.0 ≡ axis_part self axis.0 0 index }
+        ensures second { result.1 ≡ axis_part self axis.0 index (slice_index self.lengths axis.0) }
+        ensures first_whole { IsGrid result.0 }
+        ensures second_whole { IsGrid result.1 }
+    {
+        let len = self.dim.axis(axis.0);
+        (
+            self.part(axis.0, 0, index),
+            self.part(axis.0, index, len - index),
+        )
+    }
+}
+
+impl<D: Lengths> Clone for Indices<D> {
+    ghost is_clone = { λ s r. r ≡ s };
+
+    ghost is_infallible = { λ _. ⊤ };
+
+    fn clone(&self) -> Result<Indices<D>, AllocError> {
+        Ok(Indices {
+            start: self.start.copied(),
+            dim: self.dim.copied(),
+        })
+    }
+}

@@ -1,0 +1,652 @@
+//! The calls of `Zip`, for each number of producers.
+
+ghost use Rattle.std.specs.Prelude.{◌≡◌, true, false, IfOk};
+ghost use Rattle.ndarray.specs.Calls.{asks1, calls1, asks_fold1, calls_fold1, asks2, calls2, asks_fold2, calls_fold2, asks3, calls3, asks_fold3, calls_fold3, asks4, calls4, asks_fold4, calls_fold4, asks5, calls5, asks_fold5, calls_fold5, asks6, calls6, asks_fold6, calls_fold6};
+ghost use Rattle.ndarray.specs.Grid.{IsGrid};
+ghost use Rattle.ndarray.specs.Orders.{box_in};
+ghost use Rattle.ndarray.specs.Runs.{MayFold, Folds, MayVisit, Visits, MayTest, TestsUntil, MayFoldWhile, FoldsWhile, MayGather, Collects};
+ghost use Rattle.ndarray.specs.declared.base.shape.Order.{Order};
+
+use crate::base::array::{Array, ArrayBase};
+use crate::base::dimension::Lengths;
+use crate::base::storage::DataMut;
+use crate::order::Order;
+use crate::zip::assigning::assign_items;
+use crate::zip::calls::{On1, On2, On3, On4, On5, On6};
+use crate::zip::collecting::collect_items;
+use crate::zip::fold_while::FoldWhile;
+use crate::zip::producer::NdProducer;
+use crate::zip::walks::{all_items, any_items, fold_items, fold_items_while, visit_items};
+use crate::zip::{Parts, Zip};
+use std::alloc::{AllocError, Global};
+
+impl<N: NdProducer<Dim = D>, D: Lengths> Zip<Parts<N, 1>, D> {
+    /// Calls `f` once at the items of each index list.
+    pub fn for_each<F: FnMut(N::Item)>(self, f: F)
+        requires callable { (o : Order) → MayVisit (N.shows self.nested) (calls1 F.FnMut) (asks1 F.FnMut) (box_in o (N.lengths self.nested)) f }
+        ensures ran { (o : Order) × Visits (N.shows self.nested) (calls1 F.FnMut) (box_in o (N.lengths self.nested)) f }
+    {
+        let Zip {
+            parts,
+            dimension: _,
+        } = self;
+        let Parts { nested } = parts;
+        visit_items(nested, Order::RowMajor, On1(f))
+    }
+
+    /// Calls `f` once at the total and the items of each index list; each answer is the next total, and the
+    /// last one the result.
+    pub fn fold<B, F: FnMut(B, N::Item) -> B>(self, acc: B, f: F) -> B
+        requires callable { (o : Order) → MayFold (N.shows self.nested) (calls_fold1 F.FnMut) (asks_fold1 F.FnMut) (box_in o (N.lengths self.nested)) f acc }
+        ensures ran { (o : Order) × Folds (N.shows self.nested) (calls_fold1 F.FnMut) (box_in o (N.lengths self.nested)) f acc result }
+    {
+        let Zip {
+            parts,
+            dimension: _,
+        } = self;
+        let Parts { nested } = parts;
+        fold_items(nested, Order::RowMajor, acc, On1(f))
+    }
+
+    /// As `fold`, up to the first answer that is `Done`.
+    pub fn fold_while<B, F: FnMut(B, N::Item) -> FoldWhile<B>>(self, acc: B, f: F) -> FoldWhile<B>
+        requires callable { (o : Order) → MayFoldWhile (N.shows self.nested) (calls_fold1 F.FnMut) (asks_fold1 F.FnMut) (box_in o (N.lengths self.nested)) f acc }
+        ensures ran { (o : Order) × FoldsWhile (N.shows self.nested) (calls_fold1 F.FnMut) (box_in o (N.lengths self.nested)) f acc result }
+    {
+        let Zip {
+            parts,
+            dimension: _,
+        } = self;
+        let Parts { nested } = parts;
+        fold_items_while(nested, Order::RowMajor, acc, On1(f))
+    }
+
+    /// Whether `f` answers `true` at the items of each index list; it stops at the first `false`.
+    pub fn all<F: FnMut(N::Item) -> bool>(self, f: F) -> bool
+        requires callable { (o : Order) → MayTest (N.shows self.nested) (calls1 F.FnMut) (asks1 F.FnMut) (box_in o (N.lengths self.nested)) f true }
+        ensures ran { (o : Order) × TestsUntil (N.shows self.nested) (calls1 F.FnMut) (box_in o (N.lengths self.nested)) f true false result }
+    {
+        let Zip {
+            parts,
+            dimension: _,
+        } = self;
+        let Parts { nested } = parts;
+        all_items(nested, Order::RowMajor, On1(f))
+    }
+
+    /// Whether `f` answers `true` at the items of some index list; it stops at the first `true`.
+    pub fn any<F: FnMut(N::Item) -> bool>(self, f: F) -> bool
+        requires callable { (o : Order) → MayTest (N.shows self.nested) (calls1 F.FnMut) (asks1 F.FnMut) (box_in o (N.lengths self.nested)) f false }
+        ensures ran { (o : Order) × TestsUntil (N.shows self.nested) (calls1 F.FnMut) (box_in o (N.lengths self.nested)) f false true result }
+    {
+        let Zip {
+            parts,
+            dimension: _,
+        } = self;
+        let Parts { nested } = parts;
+        any_items(nested, Order::RowMajor, On1(f))
+    }
+
+    /// The array that has at each index list what `f` answers at the items there.
+    ///
+    /// All memory is reserved before the first call; an `Err` calls `f` never.
+    pub fn map_collect<R: Drop, F: FnMut(N::Item) -> R>(
+        self,
+        alloc: Global,
+        f: F,
+    ) -> Result<Array<R, D>, AllocError>
+        requires callable { (o : Order) → MayGather (N.shows self.nested) (calls1 F.FnMut) (asks1 F.FnMut) (box_in o (N.lengths self.nested)) f }
+        ensures ran { IfOk result (λ g. (o : Order) × Collects (N.shows self.nested) (calls1 F.FnMut) o (N.lengths self.nested) f g) }
+        ensures whole { IfOk result IsGrid }
+    {
+        let Zip {
+            parts,
+            dimension: _,
+        } = self;
+        let Parts { nested } = parts;
+        collect_items(alloc, nested, Order::RowMajor, On1(f))
+    }
+
+    /// Leaves in the cells of an array what `f` answers at the items of each index list.
+    ///
+    /// The caller owes that the array has the same shape; the test is `fits`.
+    pub fn map_assign_into<R: Drop, S: DataMut<Elem = R>, F: FnMut(N::Item) -> R>(
+        self,
+        into: &mut ArrayBase<S, D>,
+        f: F,
+    )
+        requires same { N.lengths self.nested ≡ into.old.lengths }
+        requires callable { (o : Order) → MayGather (N.shows self.nested) (calls1 F.FnMut) (asks1 F.FnMut) (box_in o (N.lengths self.nested)) f }
+        ensures ran { (o : Order) × Collects (N.shows self.nested) (calls1 F.FnMut) o (N.lengths self.nested) f into.new }
+        ensures whole { IsGrid into.new }
+    {
+        let Zip {
+            parts,
+            dimension: _,
+        } = self;
+        let Parts { nested } = parts;
+        assign_items(nested, Order::RowMajor, into, On1(f))
+    }
+}
+
+impl<X, Y, N: NdProducer<Item = (X, Y), Dim = D>, D: Lengths> Zip<Parts<N, 2>, D> {
+    /// Calls `f` once at the items of each index list.
+    pub fn for_each<F: FnMut(X, Y)>(self, f: F)
+        requires callable { (o : Order) → MayVisit (N.shows self.nested) (calls2 F.FnMut) (asks2 F.FnMut) (box_in o (N.lengths self.nested)) f }
+        ensures ran { (o : Order) × Visits (N.shows self.nested) (calls2 F.FnMut) (box_in o (N.lengths self.nested)) f }
+    {
+        let Zip {
+            parts,
+            dimension: _,
+        } = self;
+        let Parts { nested } = parts;
+        visit_items(nested, Order::RowMajor, On2(f))
+    }
+
+    /// Calls `f` once at the total and the items of each index list; each answer is the next total, and the
+    /// last one the result.
+    pub fn fold<B, F: FnMut(B, X, Y) -> B>(self, acc: B, f: F) -> B
+        requires callable { (o : Order) → MayFold (N.shows self.nested) (calls_fold2 F.FnMut) (asks_fold2 F.FnMut) (box_in o (N.lengths self.nested)) f acc }
+        ensures ran { (o : Order) × Folds (N.shows self.nested) (calls_fold2 F.FnMut) (box_in o (N.lengths self.nested)) f acc result }
+    {
+        let Zip {
+            parts,
+            dimension: _,
+        } = self;
+        let Parts { nested } = parts;
+        fold_items(nested, Order::RowMajor, acc, On2(f))
+    }
+
+    /// As `fold`, up to the first answer that is `Done`.
+    pub fn fold_while<B, F: FnMut(B, X, Y) -> FoldWhile<B>>(self, acc: B, f: F) -> FoldWhile<B>
+        requires callable { (o : Order) → MayFoldWhile (N.shows self.nested) (calls_fold2 F.FnMut) (asks_fold2 F.FnMut) (box_in o (N.lengths self.nested)) f acc }
+        ensures ran { (o : Order) × FoldsWhile (N.shows self.nested) (calls_fold2 F.FnMut) (box_in o (N.lengths self.nested)) f acc result }
+    {
+        let Zip {
+            parts,
+            dimension: _,
+        } = self;
+        let Parts { nested } = parts;
+        fold_items_while(nested, Order::RowMajor, acc, On2(f))
+    }
+
+    /// Whether `f` answers `true` at the items of each index list; it stops at the first `false`.
+    pub fn all<F: FnMut(X, Y) -> bool>(self, f: F) -> bool
+        requires callable { (o : Order) → MayTest (N.shows self.nested) (calls2 F.FnMut) (asks2 F.FnMut) (box_in o (N.lengths self.nested)) f true }
+        ensures ran { (o : Order) × TestsUntil (N.shows self.nested) (calls2 F.FnMut) (box_in o (N.lengths self.nested)) f true false result }
+    {
+        let Zip {
+            parts,
+            dimension: _,
+        } = self;
+        let Parts { nested } = parts;
+        all_items(nested, Order::RowMajor, On2(f))
+    }
+
+    /// Whether `f` answers `true` at the items of some index list; it stops at the first `true`.
+    pub fn any<F: FnMut(X, Y) -> bool>(self, f: F) -> bool
+        requires callable { (o : Order) → MayTest (N.shows self.nested) (calls2 F.FnMut) (asks2 F.FnMut) (box_in o (N.lengths self.nested)) f false }
+        ensures ran { (o : Order) × TestsUntil (N.shows self.nested) (calls2 F.FnMut) (box_in o (N.lengths self.nested)) f false true result }
+    {
+        let Zip {
+            parts,
+            dimension: _,
+        } = self;
+        let Parts { nested } = parts;
+        any_items(nested, Order::RowMajor, On2(f))
+    }
+
+    /// The array that has at each index list what `f` answers at the items there.
+    ///
+    /// All memory is reserved before the first call; an `Err` calls `f` never.
+    pub fn map_collect<R: Drop, F: FnMut(X, Y) -> R>(
+        self,
+        alloc: Global,
+        f: F,
+    ) -> Result<Array<R, D>, AllocError>
+        requires callable { (o : Order) → MayGather (N.shows self.nested) (calls2 F.FnMut) (asks2 F.FnMut) (box_in o (N.lengths self.nested)) f }
+        ensures ran { IfOk result (λ g. (o : Order) × Collects (N.shows self.nested) (calls2 F.FnMut) o (N.lengths self.nested) f g) }
+        ensures whole { IfOk result IsGrid }
+    {
+        let Zip {
+            parts,
+            dimension: _,
+        } = self;
+        let Parts { nested } = parts;
+        collect_items(alloc, nested, Order::RowMajor, On2(f))
+    }
+
+    /// Leaves in the cells of an array what `f` answers at the items of each index list.
+    ///
+    /// The caller owes that the array has the same shape; the test is `fits`.
+    pub fn map_assign_into<R: Drop, S: DataMut<Elem = R>, F: FnMut(X, Y) -> R>(
+        self,
+        into: &mut ArrayBase<S, D>,
+        f: F,
+    )
+        requires same { N.lengths self.nested ≡ into.old.lengths }
+        requires callable { (o : Order) → MayGather (N.shows self.nested) (calls2 F.FnMut) (asks2 F.FnMut) (box_in o (N.lengths self.nested)) f }
+        ensures ran { (o : Order) × Collects (N.shows self.nested) (calls2 F.FnMut) o (N.lengths self.nested) f into.new }
+        ensures whole { IsGrid into.new }
+    {
+        let Zip {
+            parts,
+            dimension: _,
+        } = self;
+        let Parts { nested } = parts;
+        assign_items(nested, Order::RowMajor, into, On2(f))
+    }
+}
+
+impl<X, Y, Z, N: NdProducer<Item = ((X, Y), Z), Dim = D>, D: Lengths> Zip<Parts<N, 3>, D> {
+    /// Calls `f` once at the items of each index list.
+    pub fn for_each<F: FnMut(X, Y, Z)>(self, f: F)
+        requires callable { (o : Order) → MayVisit (N.shows self.nested) (calls3 F.FnMut) (asks3 F.FnMut) (box_in o (N.lengths self.nested)) f }
+        ensures ran { (o : Order) × Visits (N.shows self.nested) (calls3 F.FnMut) (box_in o (N.lengths self.nested)) f }
+    {
+        let Zip {
+            parts,
+            dimension: _,
+        } = self;
+        let Parts { nested } = parts;
+        visit_items(nested, Order::RowMajor, On3(f))
+    }
+
+    /// Calls `f` once at the total and the items of each index list; each answer is the next total, and the
+    /// last one the result.
+    pub fn fold<B, F: FnMut(B, X, Y, Z) -> B>(self, acc: B, f: F) -> B
+        requires callable { (o : Order) → MayFold (N.shows self.nested) (calls_fold3 F.FnMut) (asks_fold3 F.FnMut) (box_in o (N.lengths self.nested)) f acc }
+        ensures ran { (o : Order) × Folds (N.shows self.nested) (calls_fold3 F.FnMut) (box_in o (N.lengths self.nested)) f acc result }
+    {
+        let Zip {
+            parts,
+            dimension: _,
+        } = self;
+        let Parts { nested } = parts;
+        fold_items(nested, Order::RowMajor, acc, On3(f))
+    }
+
+    /// As `fold`, up to the first answer that is `Done`.
+    pub fn fold_while<B, F: FnMut(B, X, Y, Z) -> FoldWhile<B>>(self, acc: B, f: F) -> FoldWhile<B>
+        requires callable { (o : Order) → MayFoldWhile (N.shows self.nested) (calls_fold3 F.FnMut) (asks_fold3 F.FnMut) (box_in o (N.lengths self.nested)) f acc }
+        ensures ran { (o : Order) × FoldsWhile (N.shows self.nested) (calls_fold3 F.FnMut) (box_in o (N.lengths self.nested)) f acc result }
+    {
+        let Zip {
+            parts,
+            dimension: _,
+        } = self;
+        let Parts { nested } = parts;
+        fold_items_while(nested, Order::RowMajor, acc, On3(f))
+    }
+
+    /// Whether `f` answers `true` at the items of each index list; it stops at the first `false`.
+    pub fn all<F: FnMut(X, Y, Z) -> bool>(self, f: F) -> bool
+        requires callable { (o : Order) → MayTest (N.shows self.nested) (calls3 F.FnMut) (asks3 F.FnMut) (box_in o (N.lengths self.nested)) f true }
+        ensures ran { (o : Order) × TestsUntil (N.shows self.nested) (calls3 F.FnMut) (box_in o (N.lengths self.nested)) f true false result }
+    {
+        let Zip {
+            parts,
+            dimension: _,
+        } = self;
+        let Parts { nested } = parts;
+        all_items(nested, Order::RowMajor, On3(f))
+    }
+
+    /// Whether `f` answers `true` at the items of some index list; it stops at the first `true`.
+    pub fn any<F: FnMut(X, Y, Z) -> bool>(self, f: F) -> bool
+        requires callable { (o : Order) → MayTest (N.shows self.nested) (calls3 F.FnMut) (asks3 F.FnMut) (box_in o (N.lengths self.nested)) f false }
+        ensures ran { (o : Order) × TestsUntil (N.shows self.nested) (calls3 F.FnMut) (box_in o (N.lengths self.nested)) f false true result }
+    {
+        let Zip {
+            parts,
+            dimension: _,
+        } = self;
+        let Parts { nested } = parts;
+        any_items(nested, Order::RowMajor, On3(f))
+    }
+
+    /// The array that has at each index list what `f` answers at the items there.
+    ///
+    /// All memory is reserved before the first call; an `Err` calls `f` never.
+    pub fn map_collect<R: Drop, F: FnMut(X, Y, Z) -> R>(
+        self,
+        alloc: Global,
+        f: F,
+    ) -> Result<Array<R, D>, AllocError>
+        requires callable { (o : Order) → MayGather (N.shows self.nested) (calls3 F.FnMut) (asks3 F.FnMut) (box_in o (N.lengths self.nested)) f }
+        ensures ran { IfOk result (λ g. (o : Order) × Collects (N.shows self.nested) (calls3 F.FnMut) o (N.lengths self.nested) f g) }
+        ensures whole { IfOk result IsGrid }
+    {
+        let Zip {
+            parts,
+            dimension: _,
+        } = self;
+        let Parts { nested } = parts;
+        collect_items(alloc, nested, Order::RowMajor, On3(f))
+    }
+
+    /// Leaves in the cells of an array what `f` answers at the items of each index list.
+    ///
+    /// The caller owes that the array has the same shape; the test is `fits`.
+    pub fn map_assign_into<R: Drop, S: DataMut<Elem = R>, F: FnMut(X, Y, Z) -> R>(
+        self,
+        into: &mut ArrayBase<S, D>,
+        f: F,
+    )
+        requires same { N.lengths self.nested ≡ into.old.lengths }
+        requires callable { (o : Order) → MayGather (N.shows self.nested) (calls3 F.FnMut) (asks3 F.FnMut) (box_in o (N.lengths self.nested)) f }
+        ensures ran { (o : Order) × Collects (N.shows self.nested) (calls3 F.FnMut) o (N.lengths self.nested) f into.new }
+        ensures whole { IsGrid into.new }
+    {
+        let Zip {
+            parts,
+            dimension: _,
+        } = self;
+        let Parts { nested } = parts;
+        assign_items(nested, Order::RowMajor, into, On3(f))
+    }
+}
+
+impl<X, Y, Z, U, N: NdProducer<Item = (((X, Y), Z), U), Dim = D>, D: Lengths> Zip<Parts<N, 4>, D> {
+    /// Calls `f` once at the items of each index list.
+    pub fn for_each<F: FnMut(X, Y, Z, U)>(self, f: F)
+        requires callable { (o : Order) → MayVisit (N.shows self.nested) (calls4 F.FnMut) (asks4 F.FnMut) (box_in o (N.lengths self.nested)) f }
+        ensures ran { (o : Order) × Visits (N.shows self.nested) (calls4 F.FnMut) (box_in o (N.lengths self.nested)) f }
+    {
+        let Zip {
+            parts,
+            dimension: _,
+        } = self;
+        let Parts { nested } = parts;
+        visit_items(nested, Order::RowMajor, On4(f))
+    }
+
+    /// Calls `f` once at the total and the items of each index list; each answer is the next total, and the
+    /// last one the result.
+    pub fn fold<B, F: FnMut(B, X, Y, Z, U) -> B>(self, acc: B, f: F) -> B
+        requires callable { (o : Order) → MayFold (N.shows self.nested) (calls_fold4 F.FnMut) (asks_fold4 F.FnMut) (box_in o (N.lengths self.nested)) f acc }
+        ensures ran { (o : Order) × Folds (N.shows self.nested) (calls_fold4 F.FnMut) (box_in o (N.lengths self.nested)) f acc result }
+    {
+        let Zip {
+            parts,
+            dimension: _,
+        } = self;
+        let Parts { nested } = parts;
+        fold_items(nested, Order::RowMajor, acc, On4(f))
+    }
+
+    /// As `fold`, up to the first answer that is `Done`.
+    pub fn fold_while<B, F: FnMut(B, X, Y, Z, U) -> FoldWhile<B>>(
+        self,
+        acc: B,
+        f: F,
+    ) -> FoldWhile<B>
+        requires callable { (o : Order) → MayFoldWhile (N.shows self.nested) (calls_fold4 F.FnMut) (asks_fold4 F.FnMut) (box_in o (N.lengths self.nested)) f acc }
+        ensures ran { (o : Order) × FoldsWhile (N.shows self.nested) (calls_fold4 F.FnMut) (box_in o (N.lengths self.nested)) f acc result }
+    {
+        let Zip {
+            parts,
+            dimension: _,
+        } = self;
+        let Parts { nested } = parts;
+        fold_items_while(nested, Order::RowMajor, acc, On4(f))
+    }
+
+    /// Whether `f` answers `true` at the items of each index list; it stops at the first `false`.
+    pub fn all<F: FnMut(X, Y, Z, U) -> bool>(self, f: F) -> bool
+        requires callable { (o : Order) → MayTest (N.shows self.nested) (calls4 F.FnMut) (asks4 F.FnMut) (box_in o (N.lengths self.nested)) f true }
+        ensures ran { (o : Order) × TestsUntil (N.shows self.nested) (calls4 F.FnMut) (box_in o (N.lengths self.nested)) f true false result }
+    {
+        let Zip {
+            parts,
+            dimension: _,
+        } = self;
+        let Parts { nested } = parts;
+        all_items(nested, Order::RowMajor, On4(f))
+    }
+
+    /// Whether `f` answers `true` at the items of some index list; it stops at the first `true`.
+    pub fn any<F: FnMut(X, Y, Z, U) -> bool>(self, f: F) -> bool
+        requires callable { (o : Order) → MayTest (N.shows self.nested) (calls4 F.FnMut) (asks4 F.FnMut) (box_in o (N.lengths self.nested)) f false }
+        ensures ran { (o : Order) × TestsUntil (N.shows self.nested) (calls4 F.FnMut) (box_in o (N.lengths self.nested)) f false true result }
+    {
+        let Zip {
+            parts,
+            dimension: _,
+        } = self;
+        let Parts { nested } = parts;
+        any_items(nested, Order::RowMajor, On4(f))
+    }
+
+    /// The array that has at each index list what `f` answers at the items there.
+    ///
+    /// All memory is reserved before the first call; an `Err` calls `f` never.
+    pub fn map_collect<R: Drop, F: FnMut(X, Y, Z, U) -> R>(
+        self,
+        alloc: Global,
+        f: F,
+    ) -> Result<Array<R, D>, AllocError>
+        requires callable { (o : Order) → MayGather (N.shows self.nested) (calls4 F.FnMut) (asks4 F.FnMut) (box_in o (N.lengths self.nested)) f }
+        ensures ran { IfOk result (λ g. (o : Order) × Collects (N.shows self.nested) (calls4 F.FnMut) o (N.lengths self.nested) f g) }
+        ensures whole { IfOk result IsGrid }
+    {
+        let Zip {
+            parts,
+            dimension: _,
+        } = self;
+        let Parts { nested } = parts;
+        collect_items(alloc, nested, Order::RowMajor, On4(f))
+    }
+
+    /// Leaves in the cells of an array what `f` answers at the items of each index list.
+    ///
+    /// The caller owes that the array has the same shape; the test is `fits`.
+    pub fn map_assign_into<R: Drop, S: DataMut<Elem = R>, F: FnMut(X, Y, Z, U) -> R>(
+        self,
+        into: &mut ArrayBase<S, D>,
+        f: F,
+    )
+        requires same { N.lengths self.nested ≡ into.old.lengths }
+        requires callable { (o : Order) → MayGather (N.shows self.nested) (calls4 F.FnMut) (asks4 F.FnMut) (box_in o (N.lengths self.nested)) f }
+        ensures ran { (o : Order) × Collects (N.shows self.nested) (calls4 F.FnMut) o (N.lengths self.nested) f into.new }
+        ensures whole { IsGrid into.new }
+    {
+        let Zip {
+            parts,
+            dimension: _,
+        } = self;
+        let Parts { nested } = parts;
+        assign_items(nested, Order::RowMajor, into, On4(f))
+    }
+}
+
+impl<X, Y, Z, U, V, N: NdProducer<Item = ((((X, Y), Z), U), V), Dim = D>, D: Lengths> Zip<
+    Parts<N, 5>,
+    D,
+> {
+    /// Calls `f` once at the items of each index list.
+    pub fn for_each<F: FnMut(X, Y, Z, U, V)>(self, f: F)
+        requires callable { (o : Order) → MayVisit (N.shows self.nested) (calls5 F.FnMut) (asks5 F.FnMut) (box_in o (N.lengths self.nested)) f }
+        ensures ran { (o : Order) × Visits (N.shows self.nested) (calls5 F.FnMut) (box_in o (N.lengths self.nested)) f }
+    {
+        let Zip {
+            parts,
+            dimension: _,
+        } = self;
+        let Parts { nested } = parts;
+        visit_items(nested, Order::RowMajor, On5(f))
+    }
+
+    /// Calls `f` once at the total and the items of each index list; each answer is the next total, and the
+    /// last one the result.
+    pub fn fold<B, F: FnMut(B, X, Y, Z, U, V) -> B>(self, acc: B, f: F) -> B
+        requires callable { (o : Order) → MayFold (N.shows self.nested) (calls_fold5 F.FnMut) (asks_fold5 F.FnMut) (box_in o (N.lengths self.nested)) f acc }
+        ensures ran { (o : Order) × Folds (N.shows self.nested) (calls_fold5 F.FnMut) (box_in o (N.lengths self.nested)) f acc result }
+    {
+        let Zip {
+            parts,
+            dimension: _,
+        } = self;
+        let Parts { nested } = parts;
+        fold_items(nested, Order::RowMajor, acc, On5(f))
+    }
+
+    /// As `fold`, up to the first answer that is `Done`.
+    pub fn fold_while<B, F: FnMut(B, X, Y, Z, U, V) -> FoldWhile<B>>(
+        self,
+        acc: B,
+        f: F,
+    ) -> FoldWhile<B>
+        requires callable { (o : Order) → MayFoldWhile (N.shows self.nested) (calls_fold5 F.FnMut) (asks_fold5 F.FnMut) (box_in o (N.lengths self.nested)) f acc }
+        ensures ran { (o : Order) × FoldsWhile (N.shows self.nested) (calls_fold5 F.FnMut) (box_in o (N.lengths self.nested)) f acc result }
+    {
+        let Zip {
+            parts,
+            dimension: _,
+        } = self;
+        let Parts { nested } = parts;
+        fold_items_while(nested, Order::RowMajor, acc, On5(f))
+    }
+
+    /// Whether `f` answers `true` at the items of each index list; it stops at the first `false`.
+    pub fn all<F: FnMut(X, Y, Z, U, V) -> bool>(self, f: F) -> bool
+        requires callable { (o : Order) → MayTest (N.shows self.nested) (calls5 F.FnMut) (asks5 F.FnMut) (box_in o (N.lengths self.nested)) f true }
+        ensures ran { (o : Order) × TestsUntil (N.shows self.nested) (calls5 F.FnMut) (box_in o (N.lengths self.nested)) f true false result }
+    {
+        let Zip {
+            parts,
+            dimension: _,
+        } = self;
+        let Parts { nested } = parts;
+        all_items(nested, Order::RowMajor, On5(f))
+    }
+
+    /// Whether `f` answers `true` at the items of some index list; it stops at the first `true`.
+    pub fn any<F: FnMut(X, Y, Z, U, V) -> bool>(self, f: F) -> bool
+        requires callable { (o : Order) → MayTest (N.shows self.nested) (calls5 F.FnMut) (asks5 F.FnMut) (box_in o (N.lengths self.nested)) f false }
+        ensures ran { (o : Order) × TestsUntil (N.shows self.nested) (calls5 F.FnMut) (box_in o (N.lengths self.nested)) f false true result }
+    {
+        let Zip {
+            parts,
+            dimension: _,
+        } = self;
+        let Parts { nested } = parts;
+        any_items(nested, Order::RowMajor, On5(f))
+    }
+
+    /// The array that has at each index list what `f` answers at the items there.
+    ///
+    /// All memory is reserved before the first call; an `Err` calls `f` never.
+    pub fn map_collect<R: Drop, F: FnMut(X, Y, Z, U, V) -> R>(
+        self,
+        alloc: Global,
+        f: F,
+    ) -> Result<Array<R, D>, AllocError>
+        requires callable { (o : Order) → MayGather (N.shows self.nested) (calls5 F.FnMut) (asks5 F.FnMut) (box_in o (N.lengths self.nested)) f }
+        ensures ran { IfOk result (λ g. (o : Order) × Collects (N.shows self.nested) (calls5 F.FnMut) o (N.lengths self.nested) f g) }
+        ensures whole { IfOk result IsGrid }
+    {
+        let Zip {
+            parts,
+            dimension: _,
+        } = self;
+        let Parts { nested } = parts;
+        collect_items(alloc, nested, Order::RowMajor, On5(f))
+    }
+
+    /// Leaves in the cells of an array what `f` answers at the items of each index list.
+    ///
+    /// The caller owes that the array has the same shape; the test is `fits`.
+    pub fn map_assign_into<R: Drop, S: DataMut<Elem = R>, F: FnMut(X, Y, Z, U, V) -> R>(
+        self,
+        into: &mut ArrayBase<S, D>,
+        f: F,
+    )
+        requires same { N.lengths self.nested ≡ into.old.lengths }
+        requires callable { (o : Order) → MayGather (N.shows self.nested) (calls5 F.FnMut) (asks5 F.FnMut) (box_in o (N.lengths self.nested)) f }
+        ensures ran { (o : Order) × Collects (N.shows self.nested) (calls5 F.FnMut) o (N.lengths self.nested) f into.new }
+        ensures whole { IsGrid into.new }
+    {
+        let Zip {
+            parts,
+            dimension: _,
+        } = self;
+        let Parts { nested } = parts;
+        assign_items(nested, Order::RowMajor, into, On5(f))
+    }
+}
+
+impl<X, Y, Z, U, V, W, N: NdProducer<Item = (((((X, Y), Z), U), V), W), Dim = D>, D: Lengths> Zip<
+    Parts<N, 6>,
+    D,
+> {
+    /// Calls `f` once at the items of each index list.
+    pub fn for_each<F: FnMut(X, Y, Z, U, V, W)>(self, f: F)
+        requires callable { (o : Order) → MayVisit (N.shows self.nested) (calls6 F.FnMut) (asks6 F.FnMut) (box_in o (N.lengths self.nested)) f }
+        ensures ran { (o : Order) × Visits (N.shows self.nested) (calls6 F.FnMut) (box_in o (N.lengths self.nested)) f }
+    {
+        let Zip {
+            parts,
+            dimension: _,
+        } = self;
+        let Parts { nested } = parts;
+        visit_items(nested, Order::RowMajor, On6(f))
+    }
+
+    /// Calls `f` once at the total and the items of each index list; each answer is the next total, and the
+    /// last one the result.
+    pub fn fold<B, F: FnMut(B, X, Y, Z, U, V, W) -> B>(self, acc: B, f: F) -> B
+        requires callable { (o : Order) → MayFold (N.shows self.nested) (calls_fold6 F.FnMut) (asks_fold6 F.FnMut) (box_in o (N.lengths self.nested)) f acc }
+        ensures ran { (o : Order) × Folds (N.shows self.nested) (calls_fold6 F.FnMut) (box_in o (N.lengths self.nested)) f acc result }
+    {
+        let Zip {
+            parts,
+            dimension: _,
+        } = self;
+        let Parts { nested } = parts;
+        fold_items(nested, Order::RowMajor, acc, On6(f))
+    }
+
+    /// As `fold`, up to the first answer that is `Done`.
+    pub fn fold_while<B, F: FnMut(B, X, Y, Z, U, V, W) -> FoldWhile<B>>(
+        self,
+        acc: B,
+        f: F,
+    ) -> FoldWhile<B>
+        requires callable { (o : Order) → MayFoldWhile (N.shows self.nested) (calls_fold6 F.FnMut) (asks_fold6 F.FnMut) (box_in o (N.lengths self.nested)) f acc }
+        ensures ran { (o : Order) × FoldsWhile (N.shows self.nested) (calls_fold6 F.FnMut) (box_in o (N.lengths self.nested)) f acc result }
+    {
+        let Zip {
+            parts,
+            dimension: _,
+        } = self;
+        let Parts { nested } = parts;
+        fold_items_while(nested, Order::RowMajor, acc, On6(f))
+    }
+
+    /// Whether `f` answers `true` at the items of each index list; it stops at the first `false`.
+    pub fn all<F: FnMut(X, Y, Z, U, V, W) -> bool>(self, f: F) -> bool
+        requires callable { (o : Order) → MayTest (N.shows self.nested) (calls6 F.FnMut) (asks6 F.FnMut) (box_in o (N.lengths self.nested)) f true }
+        ensures ran { (o : Order) × TestsUntil (N.shows self.nested) (calls6 F.FnMut) (box_in o (N.lengths self.nested)) f true false result }
+    {
+        let Zip {
+            parts,
+            dimension: _,
+        } = self;
+        let Parts { nested } = parts;
+        all_items(nested, Order::RowMajor, On6(f))
+    }
+
+    /// Whether `f` answers `true` at the items of some index list; it stops at the first `true`.
+    pub fn any<F: FnMut(X, Y, Z, U, V, W) -> bool>(self, f: F) -> bool
+        requires callable { (o : Order) → MayTest (N.shows self.nested) (calls6 F.FnMut) (asks6 F.FnMut) (box_in o (N.lengths self.nested)) f false }
+        ensures ran { (o : Order) × TestsUntil (N.shows self.nested) (calls6 F.FnMut) (box_in o (N.lengths self.nested)) f false true result }
+    {
+        let Zip {
+            parts,
+            dimension: _,
+        } = self;
+        let Parts { nested } = parts;
+        any_items(nested, Order::RowMajor, On6(f))
+    }
+}

@@ -1,0 +1,28 @@
+//! The macro `azip!`.
+
+/// Walks arrays and other producers together, each with a pattern for its items.
+///
+/// - `azip!((pat in expr, ..) body)` is `Zip::from(expr).and(expr)..for_each(|pat, ..| body)`.
+/// - `azip!((index pat, pat in expr, ..) body)` begins with `Zip::indexed`: the first pattern is for the
+///   index pattern.
+/// - `azip!(expr, ..)` makes the `Zip` alone.
+///
+/// A last comma is allowed. The caller owes equal shapes, as for `and`.
+///
+/// ```
+/// azip!((x in &mut a, &y in &b) *x += y);
+/// azip!((index (i, j), x in &mut a) *x = 10 * i + j);
+/// let zip = azip!(&a, &b);
+/// ```
+#[macro_export]
+macro_rules! azip {
+    ((index $i:pat, $p:pat in $e:expr $(, $q:pat in $f:expr)* $(,)?) $body:expr) => {
+        $crate::Zip::indexed($e)$(.and($f))*.for_each(|$i, $p $(, $q)*| $body)
+    };
+    (($p:pat in $e:expr $(, $q:pat in $f:expr)* $(,)?) $body:expr) => {
+        $crate::Zip::from($e)$(.and($f))*.for_each(|$p $(, $q)*| $body)
+    };
+    ($e:expr $(, $f:expr)* $(,)?) => {
+        $crate::Zip::from($e)$(.and($f))*
+    };
+}

@@ -1,0 +1,220 @@
+//! How a closure of one to six items is called at an item of nested pairs.
+
+ghost use Rattle.ndarray.specs.Calls.{asks1, calls1, asks_fold1, calls_fold1, asks2, calls2, asks_fold2, calls_fold2, asks3, calls3, asks_fold3, calls_fold3, asks4, calls4, asks_fold4, calls_fold4, asks5, calls5, asks_fold5, calls_fold5, asks6, calls6, asks_fold6, calls_fold6};
+
+/// What can be called at an item.
+pub(crate) trait ItemCall<A>: Drop {
+    /// What it answers.
+    type Out;
+
+    // Whether it may be called.
+    ghost asks: { Self → A → Type 0 };
+
+    // Whether a call may give this answer and leave it so.
+    ghost calls: { Self → A → Self.Out → Self → Type 0 };
+
+    /// Calls it.
+    fn call(&mut self, item: A) -> Self::Out
+        requires { asks self.old item }
+        ensures { calls self.old item result self.new };
+}
+
+/// What can be called at a total and an item.
+pub(crate) trait FoldCall<B, A>: Drop {
+    /// What it answers.
+    type Out;
+
+    // Whether it may be called.
+    ghost asks: { Self → B → A → Type 0 };
+
+    // Whether a call may give this answer and leave it so.
+    ghost calls: { Self → B → A → Self.Out → Self → Type 0 };
+
+    /// Calls it.
+    fn call(&mut self, total: B, item: A) -> Self::Out
+        requires { asks self.old total item }
+        ensures { calls self.old total item result self.new };
+}
+
+/// A closure of one item.
+#[derive(Drop)]
+pub(crate) struct On1<F>(pub(crate) F);
+
+impl<X, O, F: FnMut(X) -> O> ItemCall<X> for On1<F> {
+    type Out = O;
+
+    ghost asks = { λ c t. asks1 F.FnMut c.0 t };
+
+    ghost calls = { λ c t r d. calls1 F.FnMut c.0 t r d.0 };
+
+    fn call(&mut self, item: X) -> O {
+        (self.0)(item)
+    }
+}
+
+impl<B, X, O, F: FnMut(B, X) -> O> FoldCall<B, X> for On1<F> {
+    type Out = O;
+
+    ghost asks = { λ c b t. asks_fold1 F.FnMut c.0 b t };
+
+    ghost calls = { λ c b t r d. calls_fold1 F.FnMut c.0 b t r d.0 };
+
+    fn call(&mut self, total: B, item: X) -> O {
+        (self.0)(total, item)
+    }
+}
+
+/// A closure of two items.
+#[derive(Drop)]
+pub(crate) struct On2<F>(pub(crate) F);
+
+impl<X, Y, O, F: FnMut(X, Y) -> O> ItemCall<(X, Y)> for On2<F> {
+    type Out = O;
+
+    ghost asks = { λ c t. asks2 F.FnMut c.0 t };
+
+    ghost calls = { λ c t r d. calls2 F.FnMut c.0 t r d.0 };
+
+    fn call(&mut self, item: (X, Y)) -> O {
+        let (x, y) = item;
+        (self.0)(x, y)
+    }
+}
+
+impl<B, X, Y, O, F: FnMut(B, X, Y) -> O> FoldCall<B, (X, Y)> for On2<F> {
+    type Out = O;
+
+    ghost asks = { λ c b t. asks_fold2 F.FnMut c.0 b t };
+
+    ghost calls = { λ c b t r d. calls_fold2 F.FnMut c.0 b t r d.0 };
+
+    fn call(&mut self, total: B, item: (X, Y)) -> O {
+        let (x, y) = item;
+        (self.0)(total, x, y)
+    }
+}
+
+/// A closure of three items.
+#[derive(Drop)]
+pub(crate) struct On3<F>(pub(crate) F);
+
+impl<X, Y, Z, O, F: FnMut(X, Y, Z) -> O> ItemCall<((X, Y), Z)> for On3<F> {
+    type Out = O;
+
+    ghost asks = { λ c t. asks3 F.FnMut c.0 t };
+
+    ghost calls = { λ c t r d. calls3 F.FnMut c.0 t r d.0 };
+
+    fn call(&mut self, item: ((X, Y), Z)) -> O {
+        let ((x, y), z) = item;
+        (self.0)(x, y, z)
+    }
+}
+
+impl<B, X, Y, Z, O, F: FnMut(B, X, Y, Z) -> O> FoldCall<B, ((X, Y), Z)> for On3<F> {
+    type Out = O;
+
+    ghost asks = { λ c b t. asks_fold3 F.FnMut c.0 b t };
+
+    ghost calls = { λ c b t r d. calls_fold3 F.FnMut c.0 b t r d.0 };
+
+    fn call(&mut self, total: B, item: ((X, Y), Z)) -> O {
+        let ((x, y), z) = item;
+        (self.0)(total, x, y, z)
+    }
+}
+
+/// A closure of four items.
+#[derive(Drop)]
+pub(crate) struct On4<F>(pub(crate) F);
+
+impl<X, Y, Z, U, O, F: FnMut(X, Y, Z, U) -> O> ItemCall<(((X, Y), Z), U)> for On4<F> {
+    type Out = O;
+
+    ghost asks = { λ c t. asks4 F.FnMut c.0 t };
+
+    ghost calls = { λ c t r d. calls4 F.FnMut c.0 t r d.0 };
+
+    fn call(&mut self, item: (((X, Y), Z), U)) -> O {
+        let (((x, y), z), u) = item;
+        (self.0)(x, y, z, u)
+    }
+}
+
+impl<B, X, Y, Z, U, O, F: FnMut(B, X, Y, Z, U) -> O> FoldCall<B, (((X, Y), Z), U)> for On4<F> {
+    type Out = O;
+
+    ghost asks = { λ c b t. asks_fold4 F.FnMut c.0 b t };
+
+    ghost calls = { λ c b t r d. calls_fold4 F.FnMut c.0 b t r d.0 };
+
+    fn call(&mut self, total: B, item: (((X, Y), Z), U)) -> O {
+        let (((x, y), z), u) = item;
+        (self.0)(total, x, y, z, u)
+    }
+}
+
+/// A closure of five items.
+#[derive(Drop)]
+pub(crate) struct On5<F>(pub(crate) F);
+
+impl<X, Y, Z, U, V, O, F: FnMut(X, Y, Z, U, V) -> O> ItemCall<((((X, Y), Z), U), V)> for On5<F> {
+    type Out = O;
+
+    ghost asks = { λ c t. asks5 F.FnMut c.0 t };
+
+    ghost calls = { λ c t r d. calls5 F.FnMut c.0 t r d.0 };
+
+    fn call(&mut self, item: ((((X, Y), Z), U), V)) -> O {
+        let ((((x, y), z), u), v) = item;
+        (self.0)(x, y, z, u, v)
+    }
+}
+
+impl<B, X, Y, Z, U, V, O, F: FnMut(B, X, Y, Z, U, V) -> O> FoldCall<B, ((((X, Y), Z), U), V)>
+    for On5<F> {
+    type Out = O;
+
+    ghost asks = { λ c b t. asks_fold5 F.FnMut c.0 b t };
+
+    ghost calls = { λ c b t r d. calls_fold5 F.FnMut c.0 b t r d.0 };
+
+    fn call(&mut self, total: B, item: ((((X, Y), Z), U), V)) -> O {
+        let ((((x, y), z), u), v) = item;
+        (self.0)(total, x, y, z, u, v)
+    }
+}
+
+/// A closure of six items.
+#[derive(Drop)]
+pub(crate) struct On6<F>(pub(crate) F);
+
+impl<X, Y, Z, U, V, W, O, F: FnMut(X, Y, Z, U, V, W) -> O> ItemCall<(((((X, Y), Z), U), V), W)>
+    for On6<F> {
+    type Out = O;
+
+    ghost asks = { λ c t. asks6 F.FnMut c.0 t };
+
+    ghost calls = { λ c t r d. calls6 F.FnMut c.0 t r d.0 };
+
+    fn call(&mut self, item: (((((X, Y), Z), U), V), W)) -> O {
+        let (((((x, y), z), u), v), w) = item;
+        (self.0)(x, y, z, u, v, w)
+    }
+}
+
+impl<B, X, Y, Z, U, V, W, O, F: FnMut(B, X, Y, Z, U, V, W) -> O> FoldCall<
+    B,
+    (((((X, Y), Z), U), V), W),
+> for On6<F> {
+    type Out = O;
+
+    ghost asks = { λ c b t. asks_fold6 F.FnMut c.0 b t };
+
+    ghost calls = { λ c b t r d. calls_fold6 F.FnMut c.0 b t r d.0 };
+
+    fn call(&mut self, total: B, item: (((((X, Y), Z), U), V), W)) -> O {
+        let (((((x, y), z), u), v), w) = item;
+        (self.0)(total, x, y, z, u, v, w)
+    }
+}

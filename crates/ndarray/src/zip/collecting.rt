@@ -1,0 +1,33 @@
+//! Arrays of what a closure answers at the items of a producer.
+
+ghost use Rattle.std.specs.Prelude.{IfOk};
+ghost use Rattle.ndarray.specs.Grid.{IsGrid};
+ghost use Rattle.ndarray.specs.Orders.{box_in};
+ghost use Rattle.ndarray.specs.Runs.{MayGather, Collects};
+
+use crate::base::array::Array;
+use crate::base::filling::Filling;
+use crate::order::Order;
+use crate::zip::calls::ItemCall;
+use crate::zip::producer::NdProducer;
+use std::alloc::{AllocError, Global};
+
+/// The array that has at each index list what a closure answers at the item there, filled in an order.
+pub(crate) fn collect_items<P: NdProducer, R: Drop, C: ItemCall<P::Item, Out = R>>(
+    alloc: Global,
+    p: P,
+    order: Order,
+    mut f: C,
+) -> Result<Array<R, P::Dim>, AllocError>
+    requires callable { MayGather (P.shows p) C.calls C.asks (box_in order (P.lengths p)) f }
+    ensures ran { IfOk result (λ g. Collects (P.shows p) C.calls order (P.lengths p) f g) }
+    ensures whole { IfOk result IsGrid }
+{
+    let mut filling = Filling::with_capacity(alloc, p.raw_dim(), order)?;
+    let mut run = p.run(order);
+    while let Some(x) = run.next() {
+        let r = f.call(x);
+        filling.push(r);
+    }
+    Ok(filling.finish())
+}

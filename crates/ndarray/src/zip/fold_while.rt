@@ -1,0 +1,35 @@
+//! Whether a fold goes on.
+
+ghost use Rattle.std.specs.Prelude.{◌≡◌, ◌↔◌, IsTrue, ⊤};
+ghost use Rattle.ndarray.specs.FoldWhiles.{held, IsDone};
+
+/// What the closure of `fold_while` answers: whether to go on, and with which value.
+#[derive(Debug, Clone, Copy)]
+pub enum FoldWhile<T> {
+    /// Goes on with this value.
+    Continue(T),
+    /// Ends with this value.
+    Done(T),
+}
+
+impl<T> FoldWhile<T> {
+    /// The value held.
+    pub fn into_inner(self) -> T
+        ensures { result ≡ held self }
+    {
+        match self {
+            FoldWhile::Continue(x) => x,
+            FoldWhile::Done(x) => x,
+        }
+    }
+
+    /// Whether it is `Done`.
+    pub fn is_done(&self) -> bool
+        ensures { IsTrue result ↔ IsDone self.now }
+    {
+        match self {
+            FoldWhile::Continue(_) => false,
+            FoldWhile::Done(_) => true,
+        }
+    }
+}

@@ -1,0 +1,79 @@
+//! The index lists of a box as a producer of their patterns.
+
+ghost use Rattle.std.specs.Prelude.{◌≡◌, Some};
+ghost use Rattle.std.specs.Iterator.{YieldsFirstBy, item_count};
+ghost use Rattle.std.proofs.Common.{ap};
+ghost use Rattle.ndarray.specs.Grid.{cell};
+
+use crate::base::axis::Axis;
+use crate::base::dimension::{Dimension, Lengths};
+use crate::base::index_lists::Indices;
+use crate::order::{Order, Walk};
+use crate::zip::producer::{KeepsLengths, NdProducer, Shaped};
+use std::marker::Model;
+
+/// The patterns of index lists that are still to come.
+///
+/// An iterator takes no memory, and neither does any of its steps.
+#[derive(Drop)]
+pub struct Patterns<D: Lengths> {
+    lists: Indices<D>,
+    walk: Walk<D>,
+}
+
+impl<D: Lengths> Model for Patterns<D> {
+    ghost use Rattle.std.specs.Prelude.{List, ℕ, filter_map};
+    ghost use Rattle.ndarray.specs.Grid.{HasCells, cell};
+
+    ghost Value = { List (List ℕ) };
+
+    ghost view = { λ s. filter_map (cell s.lists) s.walk };
+
+    ghost invariant = { λ s. HasCells s.lists s.walk };
+}
+
+impl<D: Dimension> Iterator for Patterns<D> {
+    type Item = D::Pattern;
+
+    ghost next_gives = { YieldsFirstBy D.pattern_numbers (λ rest. rest) };
+
+    ghost remaining = { item_count (λ rest. rest) };
+
+    fn next(&mut self) -> Option<D::Pattern> {
+        let Some(index) = self.walk.next() else {
+            return None;
+        };
+        Some(self.lists.list(&index).into_pattern())
+    }
+}
+
+impl<D: Lengths> Shaped for Indices<D> {
+    ghost lengths = { λ s. s.lengths };
+}
+
+impl<D: Dimension> NdProducer for Indices<D> {
+    type Item = D::Pattern;
+
+    type Dim = D;
+
+    type Run = Patterns<D>;
+
+    ghost shows = { λ s i x. cell s i ≡ Some (D.pattern_numbers x) };
+
+    fn raw_dim(&self) -> D {
+        self.raw_dim()
+    }
+
+    fn split_at(self, axis: Axis, index: usize) -> (Self, Self) {
+        self.split_at(axis, index)
+    }
+
+    fn run(self, order: Order) -> Patterns<D> {
+        let walk = Walk::new(self.raw_dim(), order);
+        Patterns { lists: self, walk }
+    }
+}
+
+impl<D: Lengths> KeepsLengths for Indices<D> {
+    ghost keeps = { λ s r e. ap (λ v. v.lengths) e };
+}

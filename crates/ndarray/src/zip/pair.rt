@@ -1,0 +1,73 @@
+//! Two producers as one.
+
+ghost use Rattle.std.specs.Prelude.{◌≡◌};
+ghost use Rattle.ndarray.specs.Producers.{both};
+
+use crate::base::axis::Axis;
+use crate::order::Order;
+use crate::zip::producer::{KeepsLengths, NdProducer, Shaped};
+use std::alloc::AllocError;
+use std::iter::Zip as Zipped;
+
+/// Two producers of the same lengths, as one of pairs of their items.
+#[derive(Drop)]
+pub struct Pair<P: Shaped, Q: Shaped> {
+    /// The first.
+    pub first: P,
+    /// The second.
+    pub second: Q,
+    ghost same: { P.lengths first ≡ Q.lengths second },
+}
+
+impl<P: Shaped, Q: Shaped> Shaped for Pair<P, Q> {
+    ghost lengths = { λ s. P.lengths s.first };
+}
+
+impl<P: NdProducer, Q: NdProducer> NdProducer for Pair<P, Q> {
+    type Item = (P::Item, Q::Item);
+
+    type Dim = P::Dim;
+
+    type Run = Zipped<P::Run, Q::Run>;
+
+    ghost shows = { λ s. both (P.shows s.first) (Q.shows s.second) };
+
+    fn raw_dim(&self) -> P::Dim {
+        self.first.raw_dim()
+    }
+
+    fn split_at(self, axis: Axis, index: usize) -> (Self, Self) {
+        let Pair { first, second } = self;
+        let (first_low, first_high) = first.split_at(axis, index);
+        let (second_low, second_high) = second.split_at(axis, index);
+        (
+            Pair {
+                first: first_low,
+                second: second_low,
+            },
+            Pair {
+                first: first_high,
+                second: second_high,
+            },
+        )
+    }
+
+    fn run(self, order: Order) -> Zipped<P::Run, Q::Run> {
+        let Pair { first, second } = self;
+        first.run(order).zip(second.run(order))
+    }
+}
+
+impl<P: KeepsLengths, Q: KeepsLengths> Clone for Pair<P, Q> {
+    ghost is_clone = { λ s r. P.is_clone s.first r.first × Q.is_clone s.second r.second };
+
+    fn clone(&self) -> Result<Pair<P, Q>, AllocError> {
+        let first = self.first.clone()?;
+        let second = self.second.clone()?;
+        Ok(Pair { first, second })
+    }
+}
+
+impl<P: KeepsLengths, Q: KeepsLengths> KeepsLengths for Pair<P, Q> {
+    ghost keeps = { λ s r e. P.keeps s.first r.first e.0 };
+}

@@ -1,0 +1,111 @@
+//! What can be walked together: producers, and what becomes one.
+
+ghost use Rattle.std.specs.Prelude.{◌≡◌, ℕ, ◌<◌, ◌≤◌, List, length, slice_index};
+ghost use Rattle.std.specs.Iterator.{IsFinite};
+ghost use Rattle.ndarray.specs.Broadcast.{BroadcastsTo};
+ghost use Rattle.ndarray.specs.Limits.{IsWithinLimit};
+ghost use Rattle.ndarray.specs.Orders.{box_in};
+ghost use Rattle.ndarray.specs.Producers.{Gives, IsPart};
+
+use crate::base::axis::Axis;
+use crate::base::dimension::Lengths;
+use crate::order::Order;
+
+/// What has lengths.
+pub trait Shaped {
+    // The lengths, that of axis 0 first.
+    ghost lengths: { Self → List ℕ };
+}
+
+/// A producer: lengths, and an item at each index list of their box.
+pub trait NdProducer: Shaped + Drop + Sized {
+    /// What it hands out.
+    type Item: Drop;
+
+    /// The dimension of its lengths.
+    type Dim: Lengths;
+
+    /// The items in an order, handed out one after another.
+    type Run: Iterator<Item = Self::Item> + Drop;
+
+    // Whether an item may be handed out at an index list.
+    ghost shows: { Self → List ℕ → Self.Item → Type 0 };
+
+    /// The lengths.
+    fn raw_dim(&self) -> Self::Dim
+        ensures lengths { Self.Dim.numbers result ≡ Self.lengths self.now }
+        ensures limit { IsWithinLimit (Self.lengths self.now) };
+
+    /// The items whose index on the axis is below `index`, and the rest with that index counted from
+    /// `index`.
+    ///
+    /// The caller owes an axis below the number of axes, and an index that is at most its length.
+    fn split_at(self, axis: Axis, index: usize) -> (Self, Self)
+        requires axis_below { axis.0 < length (Self.lengths self) }
+        requires index_at_most { index ≤ slice_index (Self.lengths self) axis.0 }
+        ensures first { IsPart axis.0 0 index (Self.lengths self) (shows self) (Self.lengths result.0) (shows result.0) }
+        ensures second { IsPart axis.0 index (slice_index (Self.lengths self) axis.0) (Self.lengths self) (shows self) (Self.lengths result.1) (shows result.1) };
+
+    /// An item at each index list, in the order.
+    fn run(self, order: Order) -> Self::Run
+        ensures can { Self.Run.can_next result }
+        ensures finite { IsFinite (Self.Run.remaining result) }
+        ensures gives { Gives Self.Run.next_gives (shows self) result (box_in order (Self.lengths self)) };
+}
+
+/// A producer whose clones have its lengths.
+pub trait KeepsLengths: Shaped + Clone {
+    ghost keeps: { (s r : Self) → Self.is_clone s r → Self.lengths r ≡ Self.lengths s };
+}
+
+/// What may be seen at a shape to which it broadcasts: reading views, and references to arrays.
+pub trait IntoBroadcast<D: Lengths> {
+    /// The view at that shape.
+    type Output: NdProducer;
+
+    // Its own lengths.
+    ghost own_lengths: { Self → List ℕ };
+
+    // Whether a view is what is seen at these lengths.
+    ghost stretches: { Self → List ℕ → Self.Output → Type 0 };
+
+    /// What is seen at the shape.
+    fn into_broadcast(self, dim: D) -> Self::Output
+        requires broadcasts { BroadcastsTo (own_lengths self) (D.numbers dim) }
+        requires limit { IsWithinLimit (D.numbers dim) }
+        ensures seen { stretches self (D.numbers dim) result }
+        ensures lengths { Self.Output.lengths result ≡ D.numbers dim };
+}
+
+/// What becomes a producer: every producer itself, and references to arrays.
+pub trait IntoNdProducer {
+    /// What the producer hands out.
+    type Item: Drop;
+
+    /// The dimension of its lengths.
+    type Dim: Lengths;
+
+    /// The producer that it becomes.
+    type Output: NdProducer<Item = Self::Item, Dim = Self::Dim>;
+
+    // Whether it becomes this producer.
+    ghost becomes: { Self → Self.Output → Type 0 };
+
+    /// The producer.
+    fn into_producer(self) -> Self::Output
+        ensures { becomes self result };
+}
+
+impl<P: NdProducer> IntoNdProducer for P {
+    type Item = P::Item;
+
+    type Dim = P::Dim;
+
+    type Output = P;
+
+    ghost becomes = { λ s r. r ≡ s };
+
+    fn into_producer(self) -> P {
+        self
+    }
+}

@@ -1,0 +1,180 @@
+//! Subviews as producers.
+
+ghost use Rattle.std.specs.Prelude.{◌≡◌, ◌∷◌, [], length, Some};
+ghost use Rattle.std.proofs.Common.{ap};
+ghost use Rattle.ndarray.specs.Grid.{cell, line};
+
+use crate::base::array::ArrayView;
+use crate::base::axis::Axis;
+use crate::base::dimension::{Ix1, Lengths};
+use crate::order::Order;
+use crate::subviews::axis::AxisIter;
+use crate::subviews::exact_chunks::{ExactChunks, ExactChunksIter};
+use crate::subviews::lanes::{Lanes, LanesIter};
+use crate::subviews::windows::{AxisWindows, Windows, WindowsIter};
+use crate::zip::producer::{KeepsLengths, NdProducer, Shaped};
+
+impl<'a, A, D: Lengths> Shaped for Lanes<'a, A, D> {
+    ghost lengths = { λ s. s.lengths };
+}
+
+impl<'a, A, D: Lengths> NdProducer for Lanes<'a, A, D> {
+    type Item = ArrayView<'a, A, Ix1>;
+
+    type Dim = D;
+
+    type Run = LanesIter<'a, A, D>;
+
+    ghost shows = { λ s i x. cell s i ≡ Some x };
+
+    fn raw_dim(&self) -> D {
+        self.tiles.raw_dim()
+    }
+
+    fn split_at(self, axis: Axis, index: usize) -> (Self, Self) {
+        let (first, second) = self.tiles.split_at(axis, index);
+        (Lanes { tiles: first }, Lanes { tiles: second })
+    }
+
+    fn run(self, order: Order) -> LanesIter<'a, A, D> {
+        LanesIter {
+            items: self.tiles.run(order),
+        }
+    }
+}
+
+impl<'a, A, D: Lengths> Shaped for ExactChunks<'a, A, D> {
+    ghost lengths = { λ s. s.lengths };
+}
+
+impl<'a, A, D: Lengths> NdProducer for ExactChunks<'a, A, D> {
+    type Item = ArrayView<'a, A, D>;
+
+    type Dim = D;
+
+    type Run = ExactChunksIter<'a, A, D>;
+
+    ghost shows = { λ s i x. cell s i ≡ Some x };
+
+    fn raw_dim(&self) -> D {
+        self.tiles.raw_dim()
+    }
+
+    fn split_at(self, axis: Axis, index: usize) -> (Self, Self) {
+        let (first, second) = self.tiles.split_at(axis, index);
+        (ExactChunks { tiles: first }, ExactChunks { tiles: second })
+    }
+
+    fn run(self, order: Order) -> ExactChunksIter<'a, A, D> {
+        ExactChunksIter {
+            items: self.tiles.run(order),
+        }
+    }
+}
+
+impl<'a, A, D: Lengths> Shaped for Windows<'a, A, D> {
+    ghost lengths = { λ s. s.lengths };
+}
+
+impl<'a, A, D: Lengths> NdProducer for Windows<'a, A, D> {
+    type Item = ArrayView<'a, A, D>;
+
+    type Dim = D;
+
+    type Run = WindowsIter<'a, A, D>;
+
+    ghost shows = { λ s i x. cell s i ≡ Some x };
+
+    fn raw_dim(&self) -> D {
+        self.tiles.raw_dim()
+    }
+
+    fn split_at(self, axis: Axis, index: usize) -> (Self, Self) {
+        let (first, second) = self.tiles.split_at(axis, index);
+        (Windows { tiles: first }, Windows { tiles: second })
+    }
+
+    fn run(self, order: Order) -> WindowsIter<'a, A, D> {
+        WindowsIter {
+            items: self.tiles.run(order),
+        }
+    }
+}
+
+impl<'a, A, D: Lengths> Shaped for AxisWindows<'a, A, D> {
+    ghost lengths = { λ s. s.lengths };
+}
+
+impl<'a, A, D: Lengths> NdProducer for AxisWindows<'a, A, D> {
+    type Item = ArrayView<'a, A, D>;
+
+    type Dim = Ix1;
+
+    type Run = WindowsIter<'a, A, D>;
+
+    ghost shows = { λ s i x. cell s i ≡ Some x };
+
+    fn raw_dim(&self) -> Ix1 {
+        Ix1(self.tiles.raw_dim().size())
+    }
+
+    fn split_at(self, _axis: Axis, index: usize) -> (Self, Self) {
+        let AxisWindows { axis, tiles } = self;
+        let (first, second) = tiles.split_at(Axis(axis), index);
+        (
+            AxisWindows { axis, tiles: first },
+            AxisWindows {
+                axis,
+                tiles: second,
+            },
+        )
+    }
+
+    fn run(self, _order: Order) -> WindowsIter<'a, A, D> {
+        WindowsIter {
+            items: self.tiles.into_iter(),
+        }
+    }
+}
+
+impl<'a, A, D: Lengths> Shaped for AxisIter<'a, A, D> {
+    ghost lengths = { λ s. length s ∷ [] };
+}
+
+impl<'a, A, D: Lengths> NdProducer for AxisIter<'a, A, D> {
+    type Item = ArrayView<'a, A, D>;
+
+    type Dim = Ix1;
+
+    type Run = AxisIter<'a, A, D>;
+
+    ghost shows = { λ s i x. cell (line s) i ≡ Some x };
+
+    fn raw_dim(&self) -> Ix1 {
+        Ix1(self.items.bounded_len())
+    }
+
+    fn split_at(self, _axis: Axis, index: usize) -> (Self, Self) {
+        self.split_at(index)
+    }
+
+    fn run(self, _order: Order) -> AxisIter<'a, A, D> {
+        self
+    }
+}
+
+impl<'a, A, D: Lengths> KeepsLengths for Lanes<'a, A, D> {
+    ghost keeps = { λ s r e. ap (λ v. v.lengths) e };
+}
+
+impl<'a, A, D: Lengths> KeepsLengths for ExactChunks<'a, A, D> {
+    ghost keeps = { λ s r e. ap (λ v. v.lengths) e };
+}
+
+impl<'a, A, D: Lengths> KeepsLengths for Windows<'a, A, D> {
+    ghost keeps = { λ s r e. ap (λ v. v.lengths) e };
+}
+
+impl<'a, A, D: Lengths> KeepsLengths for AxisIter<'a, A, D> {
+    ghost keeps = { λ s r e. ap (λ v. length v ∷ []) e };
+}

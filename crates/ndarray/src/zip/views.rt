@@ -1,0 +1,91 @@
+//! Views and references to arrays as producers of their cells.
+
+ghost use Rattle.std.specs.Prelude.{◌≡◌, Some};
+ghost use Rattle.std.proofs.Common.{ap};
+ghost use Rattle.ndarray.specs.Grid.{cell};
+ghost use Rattle.ndarray.specs.Views.{broadcast_to};
+
+use crate::base::array::{ArrayBase, ArrayView};
+use crate::base::axis::Axis;
+use crate::base::dimension::Lengths;
+use crate::base::storage::{Data, ViewRepr};
+use crate::iter::elements::ElementsBase;
+use crate::order::Order;
+use crate::zip::producer::{IntoBroadcast, IntoNdProducer, KeepsLengths, NdProducer, Shaped};
+
+impl<S: Data, D: Lengths> Shaped for ArrayBase<S, D> {
+    ghost lengths = { λ v. v.lengths };
+}
+
+impl<'a, A, D: Lengths> NdProducer for ArrayView<'a, A, D> {
+    type Item = &'a A;
+
+    type Dim = D;
+
+    type Run = ElementsBase<'a, A, D>;
+
+    ghost shows = { λ v i x. cell v i ≡ Some x.now };
+
+    fn raw_dim(&self) -> D {
+        self.raw_dim()
+    }
+
+    fn split_at(self, axis: Axis, index: usize) -> (Self, Self) {
+        self.split_at(axis, index)
+    }
+
+    fn run(self, order: Order) -> ElementsBase<'a, A, D> {
+        ElementsBase::in_order(self, order)
+    }
+}
+
+impl<'b, S: Data, D: Lengths> IntoNdProducer for &'b ArrayBase<S, D>
+where
+    S::Elem: 'b,
+{
+    type Item = &'b S::Elem;
+
+    type Dim = D;
+
+    type Output = ArrayView<'b, S::Elem, D>;
+
+    ghost becomes = { λ a v. v ≡ a.now };
+
+    fn into_producer(self) -> ArrayView<'b, S::Elem, D> {
+        self.view()
+    }
+}
+
+impl<'a, A, D: Lengths> KeepsLengths for ArrayView<'a, A, D> {
+    ghost keeps = { λ s r e. ap (λ v. v.lengths) e };
+}
+
+impl<'a, A, E: Lengths, D: Lengths> IntoBroadcast<D> for ArrayView<'a, A, E> {
+    type Output = ArrayView<'a, A, D>;
+
+    ghost own_lengths = { λ v. v.lengths };
+
+    ghost stretches = { λ v ns r. r ≡ broadcast_to v ns };
+
+    fn into_broadcast(self, dim: D) -> ArrayView<'a, A, D> {
+        let Some(view) = self.broadcast_to(dim) else {
+            unreachable!()
+        };
+        view
+    }
+}
+
+impl<'b, S: Data, E: Lengths, D: Lengths> IntoBroadcast<D> for &'b ArrayBase<S, E>
+where
+    S::Elem: 'b,
+{
+    type Output = ArrayView<'b, S::Elem, D>;
+
+    ghost own_lengths = { λ a. a.now.lengths };
+
+    ghost stretches = { λ a ns r. r ≡ broadcast_to a.now ns };
+
+    fn into_broadcast(self, dim: D) -> ArrayView<'b, S::Elem, D> {
+        self.view().into_broadcast(dim)
+    }
+}

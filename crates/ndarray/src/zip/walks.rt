@@ -1,0 +1,100 @@
+//! The walks of a closure over the items of a producer, once for all numbers of parts.
+
+ghost use Rattle.std.specs.Prelude.{◌≡◌, true, false};
+ghost use Rattle.ndarray.specs.Orders.{box_in};
+ghost use Rattle.ndarray.specs.Runs.{MayFold, Folds, MayVisit, Visits, MayTest, TestsUntil, MayFoldWhile, FoldsWhile};
+
+use crate::order::Order;
+use crate::zip::calls::{FoldCall, ItemCall};
+use crate::zip::fold_while::FoldWhile;
+use crate::zip::producer::NdProducer;
+
+/// Calls a closure at the total and each item in turn; each answer is the next total.
+pub(crate) fn fold_items<P: NdProducer, B, C: FoldCall<B, P::Item, Out = B>>(
+    p: P,
+    order: Order,
+    init: B,
+    mut f: C,
+) -> B
+    requires callable { MayFold (P.shows p) C.calls C.asks (box_in order (P.lengths p)) f init }
+    ensures ran { Folds (P.shows p) C.calls (box_in order (P.lengths p)) f init result }
+{
+    let mut run = p.run(order);
+    let mut acc = init;
+    while let Some(x) = run.next() {
+        acc = f.call(acc, x);
+    }
+    acc
+}
+
+/// Calls a closure at each item in turn.
+pub(crate) fn visit_items<P: NdProducer, C: ItemCall<P::Item, Out = ()>>(
+    p: P,
+    order: Order,
+    mut f: C,
+)
+    requires callable { MayVisit (P.shows p) C.calls C.asks (box_in order (P.lengths p)) f }
+    ensures ran { Visits (P.shows p) C.calls (box_in order (P.lengths p)) f }
+{
+    let mut run = p.run(order);
+    while let Some(x) = run.next() {
+        f.call(x);
+    }
+}
+
+/// Whether a closure answers `true` at each item; it stops at the first `false`.
+pub(crate) fn all_items<P: NdProducer, C: ItemCall<P::Item, Out = bool>>(
+    p: P,
+    order: Order,
+    mut f: C,
+) -> bool
+    requires callable { MayTest (P.shows p) C.calls C.asks (box_in order (P.lengths p)) f true }
+    ensures ran { TestsUntil (P.shows p) C.calls (box_in order (P.lengths p)) f true false result }
+{
+    let mut run = p.run(order);
+    while let Some(x) = run.next() {
+        if !f.call(x) {
+            return false;
+        }
+    }
+    true
+}
+
+/// Whether a closure answers `true` at some item; it stops at the first `true`.
+pub(crate) fn any_items<P: NdProducer, C: ItemCall<P::Item, Out = bool>>(
+    p: P,
+    order: Order,
+    mut f: C,
+) -> bool
+    requires callable { MayTest (P.shows p) C.calls C.asks (box_in order (P.lengths p)) f false }
+    ensures ran { TestsUntil (P.shows p) C.calls (box_in order (P.lengths p)) f false true result }
+{
+    let mut run = p.run(order);
+    while let Some(x) = run.next() {
+        if f.call(x) {
+            return true;
+        }
+    }
+    false
+}
+
+/// Calls a closure at the total and each item in turn, up to the first answer that is done.
+pub(crate) fn fold_items_while<P: NdProducer, B, C: FoldCall<B, P::Item, Out = FoldWhile<B>>>(
+    p: P,
+    order: Order,
+    init: B,
+    mut f: C,
+) -> FoldWhile<B>
+    requires callable { MayFoldWhile (P.shows p) C.calls C.asks (box_in order (P.lengths p)) f init }
+    ensures ran { FoldsWhile (P.shows p) C.calls (box_in order (P.lengths p)) f init result }
+{
+    let mut run = p.run(order);
+    let mut acc = init;
+    while let Some(x) = run.next() {
+        match f.call(acc, x) {
+            FoldWhile::Continue(next) => acc = next,
+            FoldWhile::Done(last) => return FoldWhile::Done(last),
+        }
+    }
+    FoldWhile::Continue(acc)
+}

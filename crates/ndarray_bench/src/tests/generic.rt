@@ -1,0 +1,77 @@
+//! Loops that write, in code that does not know what keeps the cells.
+
+use crate::tests::shown::shown;
+use ndarray::{Array, ArrayBase, Axis, DataMut, Dimension, RemoveAxis};
+use std::test::Fail;
+
+/// Writes a value into the first cell of each row, then another into the first of each column.
+fn begin_lanes<A: Copy, S: DataMut<Elem = A>, D: Dimension>(
+    array: &mut ArrayBase<S, D>,
+    row: A,
+    column: A,
+) {
+    for mut lane in array.rows_mut() {
+        if let Some(cell) = lane.get_mut(0) {
+            *cell = row;
+        }
+    }
+    for mut lane in array.columns_mut() {
+        if let Some(cell) = lane.get_mut(0) {
+            *cell = column;
+        }
+    }
+}
+
+/// Writes a value into each cell of each item along axis 0.
+fn fill_items<A: Copy, S: DataMut<Elem = A>, D: RemoveAxis>(array: &mut ArrayBase<S, D>, value: A) {
+    if array.axis_ok(Axis(0)) {
+        for mut item in array.axis_iter_mut(Axis(0)) {
+            for cell in item.iter_mut() {
+                *cell = value;
+            }
+        }
+    }
+}
+
+/// Writes a value into each cell of each chunk along axis 0.
+fn fill_chunks<A: Copy, S: DataMut<Elem = A>, D: Dimension>(array: &mut ArrayBase<S, D>, value: A) {
+    if array.chunk_ok(Axis(0), 2) {
+        for mut chunk in array.axis_chunks_iter_mut(Axis(0), 2) {
+            for (_index, cell) in chunk.indexed_iter_mut() {
+                *cell = value;
+            }
+        }
+    }
+}
+
+#[test]
+fn lanes_are_begun(rt: HostRuntime) -> Result<(), Fail> {
+    let mut array = Array::from_shape_vec((2, 3), vec![in rt.alloc(); 1i64, 2, 3, 4, 5, 6]?)?;
+    begin_lanes(&mut array, 7, 8);
+    assert_eq!(rt;
+        shown(rt.alloc(), &array.view())?.as_str(),
+        "[2, 3]: [8, 8, 8, 7, 5, 6]"
+    );
+    begin_lanes(&mut array.view_mut().reversed_axes(), 1, 2);
+    assert_eq!(rt;
+        shown(rt.alloc(), &array.view())?.as_str(),
+        "[2, 3]: [2, 1, 1, 2, 5, 6]"
+    );
+    Ok(())
+}
+
+#[test]
+fn items_and_chunks_are_filled(rt: HostRuntime) -> Result<(), Fail> {
+    let mut array = Array::from_shape_vec((2, 2), vec![in rt.alloc(); 1i64, 2, 3, 4]?)?;
+    fill_items(&mut array, 7);
+    assert_eq!(rt;
+        shown(rt.alloc(), &array.view())?.as_str(),
+        "[2, 2]: [7, 7, 7, 7]"
+    );
+    fill_chunks(&mut array.view_mut().reversed_axes(), 5);
+    assert_eq!(rt;
+        shown(rt.alloc(), &array.view())?.as_str(),
+        "[2, 2]: [5, 5, 5, 5]"
+    );
+    Ok(())
+}
