@@ -1,6 +1,7 @@
 //! The worked rows and vectors of the library's calls, by the module that has them.
 
 mod arities;
+mod asserted;
 mod assigned;
 mod base;
 mod chunks;

@@ -1,6 +1,7 @@
 //! Every call of `Zip`, for each number of producers. One array stands in every place, so that the shapes are
 //! equal without a test.
 
+use crate::tests::asserted::{holds, same};
 use ndarray::{Array, ArrayView1, FoldWhile, Ix1, Zip};
 use std::cell::Cell;
 use std::test::Fail;
@@ -12,9 +13,9 @@ fn one_at_a_time(rt: HostRuntime) -> Result<(), Fail> {
     let x = ArrayView1::from(NUMBERS);
     let total = Cell::new(0u64);
     Zip::from(&x).for_each(|a| total.set(total.get().wrapping_add(*a)));
-    assert_eq!(rt; total.get(), 11);
+    same(&rt, total.get(), 11);
     let folded = Zip::from(&x).fold(0, |acc: u64, a| acc.wrapping_add(*a));
-    assert_eq!(rt; folded, 11);
+    same(&rt, folded, 11);
     let ended = Zip::from(&x).fold_while(0, |acc: u64, a| {
         if acc > 0 {
             FoldWhile::Done(acc)
@@ -22,9 +23,9 @@ fn one_at_a_time(rt: HostRuntime) -> Result<(), Fail> {
             FoldWhile::Continue(*a)
         }
     });
-    assert_eq!(rt; ended.into_inner(), 1);
-    assert!(rt; Zip::from(&x).all(|a| *a > 0));
-    assert!(rt; Zip::from(&x).any(|a| *a == 10));
+    same(&rt, ended.into_inner(), 1);
+    holds(&rt, Zip::from(&x).all(|a| *a > 0));
+    holds(&rt, Zip::from(&x).any(|a| *a == 10));
     Ok(())
 }
 
@@ -32,12 +33,12 @@ fn one_at_a_time(rt: HostRuntime) -> Result<(), Fail> {
 fn one_collected(rt: HostRuntime) -> Result<(), Fail> {
     let x = ArrayView1::from(NUMBERS);
     let sums = Zip::from(&x).map_collect(rt.alloc(), |a| *a)?;
-    assert_eq!(rt; sums.get(1), Some(&10));
+    same(&rt, sums.get(1), Some(&10));
     let mut into = Array::<u64, Ix1>::zeros(rt.alloc(), 2)?;
     if Zip::from(&x).fits(&into.view()) {
         Zip::from(&x).map_assign_into(&mut into, |a| *a);
     }
-    assert_eq!(rt; into.get(1), Some(&10));
+    same(&rt, into.get(1), Some(&10));
     Ok(())
 }
 
@@ -46,11 +47,11 @@ fn two_at_a_time(rt: HostRuntime) -> Result<(), Fail> {
     let x = ArrayView1::from(NUMBERS);
     let total = Cell::new(0u64);
     Zip::from(&x).and(&x).for_each(|a, b| total.set(total.get().wrapping_add(a.wrapping_add(*b))));
-    assert_eq!(rt; total.get(), 22);
+    same(&rt, total.get(), 22);
     let folded = Zip::from(&x)
         .and(&x)
         .fold(0, |acc: u64, a, b| acc.wrapping_add(a.wrapping_add(*b)));
-    assert_eq!(rt; folded, 22);
+    same(&rt, folded, 22);
     let ended = Zip::from(&x).and(&x).fold_while(0, |acc: u64, a, b| {
         if acc > 0 {
             FoldWhile::Done(acc)
@@ -58,9 +59,15 @@ fn two_at_a_time(rt: HostRuntime) -> Result<(), Fail> {
             FoldWhile::Continue(a.wrapping_add(*b))
         }
     });
-    assert_eq!(rt; ended.into_inner(), 2);
-    assert!(rt; Zip::from(&x).and(&x).all(|a, b| a.wrapping_add(*b) > 0));
-    assert!(rt; Zip::from(&x).and(&x).any(|a, b| a.wrapping_add(*b) == 20));
+    same(&rt, ended.into_inner(), 2);
+    holds(
+        &rt,
+        Zip::from(&x).and(&x).all(|a, b| a.wrapping_add(*b) > 0),
+    );
+    holds(
+        &rt,
+        Zip::from(&x).and(&x).any(|a, b| a.wrapping_add(*b) == 20),
+    );
     Ok(())
 }
 
@@ -70,14 +77,14 @@ fn two_collected(rt: HostRuntime) -> Result<(), Fail> {
     let sums = Zip::from(&x)
         .and(&x)
         .map_collect(rt.alloc(), |a, b| a.wrapping_add(*b))?;
-    assert_eq!(rt; sums.get(1), Some(&20));
+    same(&rt, sums.get(1), Some(&20));
     let mut into = Array::<u64, Ix1>::zeros(rt.alloc(), 2)?;
     if Zip::from(&x).fits(&into.view()) {
         Zip::from(&x)
             .and(&x)
             .map_assign_into(&mut into, |a, b| a.wrapping_add(*b));
     }
-    assert_eq!(rt; into.get(1), Some(&20));
+    same(&rt, into.get(1), Some(&20));
     Ok(())
 }
 
@@ -90,12 +97,12 @@ fn three_at_a_time(rt: HostRuntime) -> Result<(), Fail> {
             .get()
             .wrapping_add(a.wrapping_add(*b).wrapping_add(*c)),
     ));
-    assert_eq!(rt; total.get(), 33);
+    same(&rt, total.get(), 33);
     let folded = Zip::from(&x).and(&x).and(&x).fold(
         0,
         |acc: u64, a, b, c| acc.wrapping_add(a.wrapping_add(*b).wrapping_add(*c)),
     );
-    assert_eq!(rt; folded, 33);
+    same(&rt, folded, 33);
     let ended = Zip::from(&x)
         .and(&x)
         .and(&x)
@@ -106,18 +113,20 @@ fn three_at_a_time(rt: HostRuntime) -> Result<(), Fail> {
                 FoldWhile::Continue(a.wrapping_add(*b).wrapping_add(*c))
             }
         });
-    assert_eq!(rt; ended.into_inner(), 3);
-    assert!(rt;
+    same(&rt, ended.into_inner(), 3);
+    holds(
+        &rt,
         Zip::from(&x)
             .and(&x)
             .and(&x)
-            .all(|a, b, c| a.wrapping_add(*b).wrapping_add(*c) > 0)
+            .all(|a, b, c| a.wrapping_add(*b).wrapping_add(*c) > 0),
     );
-    assert!(rt;
+    holds(
+        &rt,
         Zip::from(&x)
             .and(&x)
             .and(&x)
-            .any(|a, b, c| a.wrapping_add(*b).wrapping_add(*c) == 30)
+            .any(|a, b, c| a.wrapping_add(*b).wrapping_add(*c) == 30),
     );
     Ok(())
 }
@@ -129,7 +138,7 @@ fn three_collected(rt: HostRuntime) -> Result<(), Fail> {
         .and(&x)
         .and(&x)
         .map_collect(rt.alloc(), |a, b, c| a.wrapping_add(*b).wrapping_add(*c))?;
-    assert_eq!(rt; sums.get(1), Some(&30));
+    same(&rt, sums.get(1), Some(&30));
     let mut into = Array::<u64, Ix1>::zeros(rt.alloc(), 2)?;
     if Zip::from(&x).fits(&into.view()) {
         Zip::from(&x)
@@ -137,7 +146,7 @@ fn three_collected(rt: HostRuntime) -> Result<(), Fail> {
             .and(&x)
             .map_assign_into(&mut into, |a, b, c| a.wrapping_add(*b).wrapping_add(*c));
     }
-    assert_eq!(rt; into.get(1), Some(&30));
+    same(&rt, into.get(1), Some(&30));
     Ok(())
 }
 
@@ -154,14 +163,14 @@ fn four_at_a_time(rt: HostRuntime) -> Result<(), Fail> {
                 .get()
                 .wrapping_add(a.wrapping_add(*b).wrapping_add(*c).wrapping_add(*d)),
         ));
-    assert_eq!(rt; total.get(), 44);
+    same(&rt, total.get(), 44);
     let folded = Zip::from(&x).and(&x).and(&x).and(&x).fold(
         0,
         |acc: u64, a, b, c, d| acc.wrapping_add(
             a.wrapping_add(*b).wrapping_add(*c).wrapping_add(*d),
         ),
     );
-    assert_eq!(rt; folded, 44);
+    same(&rt, folded, 44);
     let ended = Zip::from(&x)
         .and(&x)
         .and(&x)
@@ -173,20 +182,22 @@ fn four_at_a_time(rt: HostRuntime) -> Result<(), Fail> {
                 FoldWhile::Continue(a.wrapping_add(*b).wrapping_add(*c).wrapping_add(*d))
             }
         });
-    assert_eq!(rt; ended.into_inner(), 4);
-    assert!(rt;
+    same(&rt, ended.into_inner(), 4);
+    holds(
+        &rt,
         Zip::from(&x).and(&x).and(&x).and(&x).all(|a, b, c, d| a
             .wrapping_add(*b)
             .wrapping_add(*c)
             .wrapping_add(*d)
-            > 0)
+            > 0),
     );
-    assert!(rt;
+    holds(
+        &rt,
         Zip::from(&x).and(&x).and(&x).and(&x).any(|a, b, c, d| a
             .wrapping_add(*b)
             .wrapping_add(*c)
             .wrapping_add(*d)
-            == 40)
+            == 40),
     );
     Ok(())
 }
@@ -198,7 +209,7 @@ fn four_collected(rt: HostRuntime) -> Result<(), Fail> {
         rt.alloc(),
         |a, b, c, d| a.wrapping_add(*b).wrapping_add(*c).wrapping_add(*d),
     )?;
-    assert_eq!(rt; sums.get(1), Some(&40));
+    same(&rt, sums.get(1), Some(&40));
     let mut into = Array::<u64, Ix1>::zeros(rt.alloc(), 2)?;
     if Zip::from(&x).fits(&into.view()) {
         Zip::from(&x).and(&x).and(&x).and(&x).map_assign_into(
@@ -206,7 +217,7 @@ fn four_collected(rt: HostRuntime) -> Result<(), Fail> {
             |a, b, c, d| a.wrapping_add(*b).wrapping_add(*c).wrapping_add(*d),
         );
     }
-    assert_eq!(rt; into.get(1), Some(&40));
+    same(&rt, into.get(1), Some(&40));
     Ok(())
 }
 
@@ -227,7 +238,7 @@ fn five_at_a_time(rt: HostRuntime) -> Result<(), Fail> {
                     .wrapping_add(*e),
             ),
         ));
-    assert_eq!(rt; total.get(), 55);
+    same(&rt, total.get(), 55);
     let folded = Zip::from(&x).and(&x).and(&x).and(&x).and(&x).fold(
         0,
         |acc: u64, a, b, c, d, e| acc.wrapping_add(
@@ -237,7 +248,7 @@ fn five_at_a_time(rt: HostRuntime) -> Result<(), Fail> {
                 .wrapping_add(*e),
         ),
     );
-    assert_eq!(rt; folded, 55);
+    same(&rt, folded, 55);
     let ended = Zip::from(&x)
         .and(&x)
         .and(&x)
@@ -255,8 +266,9 @@ fn five_at_a_time(rt: HostRuntime) -> Result<(), Fail> {
                 )
             }
         });
-    assert_eq!(rt; ended.into_inner(), 5);
-    assert!(rt;
+    same(&rt, ended.into_inner(), 5);
+    holds(
+        &rt,
         Zip::from(&x)
             .and(&x)
             .and(&x)
@@ -267,9 +279,10 @@ fn five_at_a_time(rt: HostRuntime) -> Result<(), Fail> {
                 .wrapping_add(*c)
                 .wrapping_add(*d)
                 .wrapping_add(*e)
-                > 0)
+                > 0),
     );
-    assert!(rt;
+    holds(
+        &rt,
         Zip::from(&x)
             .and(&x)
             .and(&x)
@@ -280,7 +293,7 @@ fn five_at_a_time(rt: HostRuntime) -> Result<(), Fail> {
                 .wrapping_add(*c)
                 .wrapping_add(*d)
                 .wrapping_add(*e)
-                == 50)
+                == 50),
     );
     Ok(())
 }
@@ -296,7 +309,7 @@ fn five_collected(rt: HostRuntime) -> Result<(), Fail> {
             .wrapping_add(*d)
             .wrapping_add(*e),
     )?;
-    assert_eq!(rt; sums.get(1), Some(&50));
+    same(&rt, sums.get(1), Some(&50));
     let mut into = Array::<u64, Ix1>::zeros(rt.alloc(), 2)?;
     if Zip::from(&x).fits(&into.view()) {
         Zip::from(&x)
@@ -313,7 +326,7 @@ fn five_collected(rt: HostRuntime) -> Result<(), Fail> {
                     .wrapping_add(*e),
             );
     }
-    assert_eq!(rt; into.get(1), Some(&50));
+    same(&rt, into.get(1), Some(&50));
     Ok(())
 }
 
@@ -336,7 +349,7 @@ fn six_at_a_time(rt: HostRuntime) -> Result<(), Fail> {
                     .wrapping_add(*f),
             ),
         ));
-    assert_eq!(rt; total.get(), 66);
+    same(&rt, total.get(), 66);
     let folded = Zip::from(&x).and(&x).and(&x).and(&x).and(&x).and(&x).fold(
         0,
         |acc: u64, a, b, c, d, e, f| acc.wrapping_add(
@@ -347,7 +360,7 @@ fn six_at_a_time(rt: HostRuntime) -> Result<(), Fail> {
                 .wrapping_add(*f),
         ),
     );
-    assert_eq!(rt; folded, 66);
+    same(&rt, folded, 66);
     let ended = Zip::from(&x)
         .and(&x)
         .and(&x)
@@ -367,8 +380,9 @@ fn six_at_a_time(rt: HostRuntime) -> Result<(), Fail> {
                 )
             }
         });
-    assert_eq!(rt; ended.into_inner(), 6);
-    assert!(rt;
+    same(&rt, ended.into_inner(), 6);
+    holds(
+        &rt,
         Zip::from(&x)
             .and(&x)
             .and(&x)
@@ -381,9 +395,10 @@ fn six_at_a_time(rt: HostRuntime) -> Result<(), Fail> {
                 .wrapping_add(*d)
                 .wrapping_add(*e)
                 .wrapping_add(*f)
-                > 0)
+                > 0),
     );
-    assert!(rt;
+    holds(
+        &rt,
         Zip::from(&x)
             .and(&x)
             .and(&x)
@@ -396,7 +411,7 @@ fn six_at_a_time(rt: HostRuntime) -> Result<(), Fail> {
                 .wrapping_add(*d)
                 .wrapping_add(*e)
                 .wrapping_add(*f)
-                == 60)
+                == 60),
     );
     Ok(())
 }
@@ -421,7 +436,7 @@ fn six_arrays(rt: HostRuntime) -> Result<(), Fail> {
                 .wrapping_add(*e)
                 .wrapping_add(*f),
         );
-        assert_eq!(rt; total, 21);
+        same(&rt, total, 21);
     }
     Ok(())
 }

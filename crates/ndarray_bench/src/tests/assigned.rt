@@ -1,5 +1,6 @@
 //! Index patterns, arrays that are stretched, and answers that are assigned.
 
+use crate::tests::asserted::{holds, same};
 use crate::tests::shown::shown;
 use ndarray::{Array, ArrayBase, ArrayView, Axis, Data, DataMut, Ix2, ShapeBuilder, Zip, indices};
 use std::alloc::{AllocError, Global};
@@ -12,12 +13,12 @@ fn the_index_pattern_comes_first(rt: HostRuntime) -> Result<(), Fail> {
         i.wrapping_mul(10).wrapping_add(j)
     })?;
     let cells: Vec<usize> = places.iter().copied().collect(rt.alloc())?;
-    assert_eq!(rt; cells.as_slice(), [0, 1, 10, 11].as_slice());
+    same(&rt, cells.as_slice(), [0, 1, 10, 11].as_slice());
     let b = ArrayView::from_shape((1, 2), &[5usize, 6])?;
     let total = Zip::indexed(&b).fold(0usize, |acc, (i, j), x| {
         acc.wrapping_add(i.wrapping_add(j.wrapping_mul(2)).wrapping_mul(*x))
     });
-    assert_eq!(rt; total, 12);
+    same(&rt, total, 12);
     Ok(())
 }
 
@@ -28,14 +29,14 @@ fn indices_of_a_box_and_of_its_parts(rt: HostRuntime) -> Result<(), Fail> {
         |(i, j)| i.wrapping_mul(10).wrapping_add(j),
     )?;
     let cells: Vec<usize> = places.iter().copied().collect(rt.alloc())?;
-    assert_eq!(rt; cells.as_slice(), [0, 1, 2, 10, 11, 12].as_slice());
+    same(&rt, cells.as_slice(), [0, 1, 2, 10, 11, 12].as_slice());
     let (_left, right) = indices((2, 3)).split_at(Axis(1), 1);
     let places = Zip::from(right).map_collect(
         rt.alloc(),
         |(i, j)| i.wrapping_mul(10).wrapping_add(j),
     )?;
     let cells: Vec<usize> = places.iter().copied().collect(rt.alloc())?;
-    assert_eq!(rt; cells.as_slice(), [1, 2, 11, 12].as_slice());
+    same(&rt, cells.as_slice(), [1, 2, 11, 12].as_slice());
     Ok(())
 }
 
@@ -46,23 +47,24 @@ fn a_row_is_stretched(rt: HostRuntime) -> Result<(), Fail> {
     let pair = ArrayView::from_shape(2, &[10i64, 20])?;
     let more = ArrayView::from_shape((1, 2, 3), &[1i64, 2, 3, 4, 5, 6])?;
     let turned = ArrayView::from_shape((3, 2), &[1i64, 2, 3, 4, 5, 6])?;
-    assert!(rt; !Zip::from(&a).fits(&turned));
-    assert!(rt; !Zip::from(&a).broadcasts(&pair));
-    assert!(rt; !Zip::from(&a).broadcasts(&more));
-    assert!(rt; Zip::from(&a).broadcasts(&row));
+    holds(&rt, !Zip::from(&a).fits(&turned));
+    holds(&rt, !Zip::from(&a).broadcasts(&pair));
+    holds(&rt, !Zip::from(&a).broadcasts(&more));
+    holds(&rt, Zip::from(&a).broadcasts(&row));
     if Zip::from(&a).broadcasts(&row) {
         let sums = Zip::from(&a)
             .and_broadcast(&row)
             .map_collect(rt.alloc(), |x, y| x.wrapping_add(*y))?;
-        assert_eq!(rt;
+        same(
+            &rt,
             shown(rt.alloc(), &sums.view())?.as_str(),
-            "[2, 3]: [11, 22, 33, 14, 25, 36]"
+            "[2, 3]: [11, 22, 33, 14, 25, 36]",
         );
         let total = Zip::from(&a)
             .and(&a)
             .and_broadcast(row)
             .fold(0i64, |acc, _x, _y, z| acc.wrapping_add(*z));
-        assert_eq!(rt; total, 120);
+        same(&rt, total, 120);
     }
     Ok(())
 }
@@ -74,7 +76,11 @@ fn answers_become_cells(rt: HostRuntime) -> Result<(), Fail> {
     if Zip::from(&a).fits(&into.view()) {
         Zip::from(&a).map_assign_into(&mut into, |x| x.wrapping_mul(10));
     }
-    assert_eq!(rt; shown(rt.alloc(), &into.view())?.as_str(), "[2]: [10, 20]");
+    same(
+        &rt,
+        shown(rt.alloc(), &into.view())?.as_str(),
+        "[2]: [10, 20]",
+    );
     let mut square = Array::from_shape_vec((2, 2).f(), vec![in rt.alloc(); 0i64, 0, 0, 0]?)?;
     let b = ArrayView::from_shape((2, 2), &[1i64, 2, 3, 4])?;
     let mut turned = square.view_mut().reversed_axes();
@@ -84,9 +90,10 @@ fn answers_become_cells(rt: HostRuntime) -> Result<(), Fail> {
             .map_assign_into(&mut turned, |x, y| x.wrapping_add(*y));
     }
     drop(turned);
-    assert_eq!(rt;
+    same(
+        &rt,
         shown(rt.alloc(), &square.view())?.as_str(),
-        "[2, 2]: [2, 6, 4, 8]"
+        "[2, 2]: [2, 6, 4, 8]",
     );
     Ok(())
 }
@@ -122,18 +129,20 @@ fn rows_of<A: Copy + Drop, S: Data<Elem = A>>(
 fn generic_callers(rt: HostRuntime) -> Result<(), Fail> {
     let a = Array::from_shape_vec((2, 2), vec![in rt.alloc(); 1i64, 2, 3, 4]?)?;
     let mut b = Array::from_shape_vec((2, 2), vec![in rt.alloc(); 0i64, 0, 0, 0]?)?;
-    assert!(rt; double_into(&a, &mut b));
-    assert_eq!(rt;
+    holds(&rt, double_into(&a, &mut b));
+    same(
+        &rt,
         shown(rt.alloc(), &b.view())?.as_str(),
-        "[2, 2]: [2, 4, 6, 8]"
+        "[2, 2]: [2, 4, 6, 8]",
     );
     let row = Array::from_shape_vec((1, 2), vec![in rt.alloc(); 8i64, 9]?)?;
     let Some(cells) = rows_of(rt.alloc(), &a, &row)? else {
         return Err("broadcasts".into());
     };
-    assert_eq!(rt;
+    same(
+        &rt,
         shown(rt.alloc(), &cells.view())?.as_str(),
-        "[2, 2]: [8, 9, 8, 9]"
+        "[2, 2]: [8, 9, 8, 9]",
     );
     Ok(())
 }

@@ -1,5 +1,6 @@
 //! Dimensions, shapes, views, and what they mean.
 
+use crate::tests::asserted::{holds, same};
 use ndarray::{
     ArrayView, ArrayView1, Axis, Dim, DimMax, Dimension, ErrorKind, IntoDimension, Ix0, Ix1, Ix2,
     Ix3, Ix4, Ix5, Ix6, IxDyn, Lengths, RemoveAxis, ShapeBuilder,
@@ -8,39 +9,51 @@ use std::test::Fail;
 
 #[test]
 fn what_is_written_for_a_dimension(rt: HostRuntime) {
-    assert_eq!(rt; 4.into_dimension(), Ix1(4));
-    assert_eq!(rt; ().into_dimension(), Ix0());
-    assert_eq!(rt; (4,).into_dimension(), Ix1(4));
-    assert_eq!(rt; (1, 2, 3).into_dimension(), Ix3(1, 2, 3));
-    assert_eq!(rt; (1, 2, 3, 4, 5, 6).into_dimension(), Ix6(1, 2, 3, 4, 5, 6));
-    assert_eq!(rt; [1, 2].into_dimension(), Ix2(1, 2));
-    assert_eq!(rt; Ix4(1, 2, 3, 4).into_dimension(), Ix4(1, 2, 3, 4));
-    assert_eq!(rt; IxDyn(&[5, 6]).into_dimension().slice(), [5, 6].as_slice());
+    same(&rt, 4.into_dimension(), Ix1(4));
+    same(&rt, ().into_dimension(), Ix0());
+    same(&rt, (4,).into_dimension(), Ix1(4));
+    same(&rt, (1, 2, 3).into_dimension(), Ix3(1, 2, 3));
+    same(
+        &rt,
+        (1, 2, 3, 4, 5, 6).into_dimension(),
+        Ix6(1, 2, 3, 4, 5, 6),
+    );
+    same(&rt, [1, 2].into_dimension(), Ix2(1, 2));
+    same(&rt, Ix4(1, 2, 3, 4).into_dimension(), Ix4(1, 2, 3, 4));
+    same(
+        &rt,
+        IxDyn(&[5, 6]).into_dimension().slice(),
+        [5, 6].as_slice(),
+    );
 }
 
 #[test]
 fn patterns_read_as_tuples(rt: HostRuntime) {
     Ix0().into_pattern();
-    assert_eq!(rt; Ix1(4).into_pattern(), 4);
-    assert_eq!(rt; Ix2(4, 5).into_pattern(), (4, 5));
-    assert_eq!(rt; Ix6(1, 2, 3, 4, 5, 6).into_pattern(), (1, 2, 3, 4, 5, 6));
-    assert_eq!(rt; IxDyn(&[7]).into_pattern().slice(), [7].as_slice());
+    same(&rt, Ix1(4).into_pattern(), 4);
+    same(&rt, Ix2(4, 5).into_pattern(), (4, 5));
+    same(
+        &rt,
+        Ix6(1, 2, 3, 4, 5, 6).into_pattern(),
+        (1, 2, 3, 4, 5, 6),
+    );
+    same(&rt, IxDyn(&[7]).into_pattern().slice(), [7].as_slice());
 }
 
 #[test]
 fn an_axis_put_in_and_taken_out(rt: HostRuntime) {
     let larger: Ix3 = Ix2(4, 5).insert_axis(Axis(1));
-    assert_eq!(rt; larger, Ix3(4, 1, 5));
+    same(&rt, larger, Ix3(4, 1, 5));
     let one: Ix1 = Ix0().insert_axis(Axis(0));
-    assert_eq!(rt; one, Ix1(1));
+    same(&rt, one, Ix1(1));
     let seven: IxDyn = Ix6(1, 2, 3, 4, 5, 6).insert_axis(Axis(6));
-    assert_eq!(rt; seven.slice(), [1, 2, 3, 4, 5, 6, 1].as_slice());
+    same(&rt, seven.slice(), [1, 2, 3, 4, 5, 6, 1].as_slice());
     let smaller: Ix2 = Ix3(4, 5, 6).remove_axis(Axis(1));
-    assert_eq!(rt; smaller, Ix2(4, 6));
+    same(&rt, smaller, Ix2(4, 6));
     let none: Ix0 = Ix1(4).remove_axis(Axis(0));
-    assert_eq!(rt; none, Ix0());
+    same(&rt, none, Ix0());
     let smaller: IxDyn = IxDyn(&[4, 5, 6]).remove_axis(Axis(2));
-    assert_eq!(rt; smaller.slice(), [4, 5].as_slice());
+    same(&rt, smaller.slice(), [4, 5].as_slice());
 }
 
 /// The number of axes of the broadcast of two dimensions, where that is fixed.
@@ -59,122 +72,138 @@ fn broadcast_axes<D: DimMax<E>, E: Dimension>(_: D, _: E) -> Option<usize> {
 
 #[test]
 fn the_dimension_of_a_broadcast_is_the_larger(rt: HostRuntime) {
-    assert_eq!(rt; broadcast_axes(Ix0(), Ix0()), Some(0));
-    assert_eq!(rt; broadcast_axes(Ix0(), Ix3(1, 1, 1)), Some(3));
-    assert_eq!(rt; broadcast_axes(Ix2(1, 1), Ix1(1)), Some(2));
-    assert_eq!(rt;
+    same(&rt, broadcast_axes(Ix0(), Ix0()), Some(0));
+    same(&rt, broadcast_axes(Ix0(), Ix3(1, 1, 1)), Some(3));
+    same(&rt, broadcast_axes(Ix2(1, 1), Ix1(1)), Some(2));
+    same(
+        &rt,
         broadcast_axes(Ix4(1, 1, 1, 1), Ix5(1, 1, 1, 1, 1)),
-        Some(5)
+        Some(5),
     );
-    assert_eq!(rt;
+    same(
+        &rt,
         broadcast_axes(Ix6(1, 1, 1, 1, 1, 1), Ix6(1, 1, 1, 1, 1, 1)),
-        Some(6)
+        Some(6),
     );
-    assert_eq!(rt; broadcast_axes(IxDyn(&[]), Ix1(1)), None);
-    assert_eq!(rt; broadcast_axes(Ix1(1), IxDyn(&[])), None);
+    same(&rt, broadcast_axes(IxDyn(&[]), Ix1(1)), None);
+    same(&rt, broadcast_axes(Ix1(1), IxDyn(&[])), None);
 }
 
 #[test]
 fn the_limit_on_shapes(rt: HostRuntime) {
-    assert!(rt; Ix1(isize::MAX as usize).size_ok());
-    assert!(rt; !Ix1(isize::MAX as usize + 1).size_ok());
-    assert!(rt; Ix3(1 << 31, 1 << 31, 0).size_ok());
-    assert!(rt; !Ix3(1 << 32, 0, 1 << 31).size_ok());
-    assert_eq!(rt; Ix2(2, 3).size(), 6);
-    assert_eq!(rt; Ix0().size(), 1);
+    holds(&rt, Ix1(isize::MAX as usize).size_ok());
+    holds(&rt, !Ix1(isize::MAX as usize + 1).size_ok());
+    holds(&rt, Ix3(1 << 31, 1 << 31, 0).size_ok());
+    holds(&rt, !Ix3(1 << 32, 0, 1 << 31).size_ok());
+    same(&rt, Ix2(2, 3).size(), 6);
+    same(&rt, Ix0().size(), 1);
 }
 
 #[test]
 fn which_numbers_of_axes_a_type_has(rt: HostRuntime) {
-    assert!(rt; Ix2::may_have(2));
-    assert!(rt; !Ix2::may_have(3));
-    assert!(rt; IxDyn::may_have(0));
-    assert!(rt; IxDyn::may_have(32));
-    assert!(rt; !IxDyn::may_have(33));
-    assert_eq!(rt; IxDyn::zeros(3).slice(), [0, 0, 0].as_slice());
+    holds(&rt, Ix2::may_have(2));
+    holds(&rt, !Ix2::may_have(3));
+    holds(&rt, IxDyn::may_have(0));
+    holds(&rt, IxDyn::may_have(32));
+    holds(&rt, !IxDyn::may_have(33));
+    same(&rt, IxDyn::zeros(3).slice(), [0, 0, 0].as_slice());
 }
 
 #[test]
 fn numbers_are_read_and_set(rt: HostRuntime) {
     let mut dim = Dim([4, 5]);
     dim.set_axis(1, 6);
-    assert_eq!(rt; dim, Ix2(4, 6));
+    same(&rt, dim, Ix2(4, 6));
     dim.slice_mut()[0] = 7;
-    assert_eq!(rt; dim.slice(), [7, 6].as_slice());
+    same(&rt, dim.slice(), [7, 6].as_slice());
     let mut dim = IxDyn(&[4, 5]);
     dim.set_axis(0, 9);
-    assert_eq!(rt; dim.slice(), [9, 5].as_slice());
-    assert_eq!(rt; dim.axis(1), 5);
+    same(&rt, dim.slice(), [9, 5].as_slice());
+    same(&rt, dim.axis(1), 5);
 }
 
 #[test]
 fn a_view_knows_its_lengths(rt: HostRuntime) -> Result<(), Fail> {
     let view = ArrayView::from_shape((2, 3), &[1i64, 2, 3, 4, 5, 6])?;
-    assert_eq!(rt; view.shape(), [2, 3].as_slice());
-    assert_eq!(rt; view.ndim(), 2);
-    assert_eq!(rt; view.len(), 6);
-    assert_eq!(rt; view.len_of(Axis(1)), 3);
-    assert_eq!(rt; view.raw_dim(), Ix2(2, 3));
-    assert_eq!(rt; view.t().shape(), [3, 2].as_slice());
+    same(&rt, view.shape(), [2, 3].as_slice());
+    same(&rt, view.ndim(), 2);
+    same(&rt, view.len(), 6);
+    same(&rt, view.len_of(Axis(1)), 3);
+    same(&rt, view.raw_dim(), Ix2(2, 3));
+    same(&rt, view.t().shape(), [3, 2].as_slice());
     Ok(())
 }
 
 #[test]
 fn a_cell_inside_the_box_alone(rt: HostRuntime) -> Result<(), Fail> {
     let view = ArrayView::from_shape((2, 3), &[1i64, 2, 3, 4, 5, 6])?;
-    assert_eq!(rt; view.get((1, 0)), Some(&4));
-    assert_eq!(rt; view.get([0, 2]), Some(&3));
-    assert_eq!(rt; view.get((2, 0)), None);
-    assert_eq!(rt; view.get((0, 3)), None);
-    assert_eq!(rt; view.t().get((2, 1)), Some(&6));
+    same(&rt, view.get((1, 0)), Some(&4));
+    same(&rt, view.get([0, 2]), Some(&3));
+    same(&rt, view.get((2, 0)), None);
+    same(&rt, view.get((0, 3)), None);
+    same(&rt, view.t().get((2, 1)), Some(&6));
     let line: ArrayView1<'_, i64> = ArrayView::from_shape(3, &[1, 2, 3])?;
-    assert_eq!(rt; line.get(2), Some(&3));
+    same(&rt, line.get(2), Some(&3));
     let any = ArrayView::from_shape(IxDyn(&[2]), &[1i64, 2])?;
-    assert_eq!(rt; any.get(IxDyn(&[1])), Some(&2));
-    assert_eq!(rt; any.get(IxDyn(&[1, 0])), None);
+    same(&rt, any.get(IxDyn(&[1])), Some(&2));
+    same(&rt, any.get(IxDyn(&[1, 0])), None);
     Ok(())
 }
 
 #[test]
 fn a_shape_takes_the_first_elements(rt: HostRuntime) -> Result<(), Fail> {
     let view = ArrayView::from_shape((2, 2), &[1i64, 2, 3, 4, 5])?;
-    assert_eq!(rt; view.get((1, 1)), Some(&4));
+    same(&rt, view.get((1, 1)), Some(&4));
     let columns = ArrayView::from_shape((2, 2).f(), &[1i64, 2, 3, 4, 5])?;
-    assert_eq!(rt; columns.get((1, 0)), Some(&2));
+    same(&rt, columns.get((1, 0)), Some(&2));
     Ok(())
 }
 
 #[test]
 fn shapes_that_are_refused(rt: HostRuntime) {
     let short = ArrayView::from_shape((2, 3), &[1i64, 2, 3, 4, 5]);
-    assert_eq!(rt; short.err().map(|e| e.kind()), Some(ErrorKind::OutOfBounds));
+    same(
+        &rt,
+        short.err().map(|e| e.kind()),
+        Some(ErrorKind::OutOfBounds),
+    );
     let none: [i64; 0] = [];
     let large = ArrayView::from_shape((1 << 32, 1 << 31, 0), &none);
-    assert_eq!(rt; large.err().map(|e| e.kind()), Some(ErrorKind::Overflow));
+    same(
+        &rt,
+        large.err().map(|e| e.kind()),
+        Some(ErrorKind::Overflow),
+    );
     let fits = ArrayView::from_shape((1 << 31, 1 << 31, 0), &none);
-    assert!(rt; fits.is_ok());
+    holds(&rt, fits.is_ok());
 }
 
 #[test]
 fn what_broadcasts_to_what(rt: HostRuntime) -> Result<(), Fail> {
     let none: [i64; 0] = [];
     let row = ArrayView::from_shape(3, &[1i64, 2, 3])?;
-    assert!(rt; row.broadcast((2, 3)).is_some());
-    assert!(rt; row.broadcast((3, 2)).is_none());
-    assert!(rt; row.broadcast(()).is_none());
+    holds(&rt, row.broadcast((2, 3)).is_some());
+    holds(&rt, row.broadcast((3, 2)).is_none());
+    holds(&rt, row.broadcast(()).is_none());
     let one = ArrayView::from_shape(1, &[7i64])?;
-    assert_eq!(rt; one.broadcast((2, 2)).ok_or("one")?.get((1, 1)), Some(&7));
-    assert_eq!(rt; one.broadcast((0, 3)).ok_or("empty")?.len(), 0);
-    let column = ArrayView::from_shape((2, 1), &[1i64, 2])?;
-    assert_eq!(rt;
-        column.broadcast((3, 2, 4)).ok_or("column")?.get((2, 1, 3)),
-        Some(&2)
+    same(
+        &rt,
+        one.broadcast((2, 2)).ok_or("one")?.get((1, 1)),
+        Some(&7),
     );
-    assert!(rt;
+    same(&rt, one.broadcast((0, 3)).ok_or("empty")?.len(), 0);
+    let column = ArrayView::from_shape((2, 1), &[1i64, 2])?;
+    same(
+        &rt,
+        column.broadcast((3, 2, 4)).ok_or("column")?.get((2, 1, 3)),
+        Some(&2),
+    );
+    holds(
+        &rt,
         ArrayView::from_shape((0, 3), &none)?
             .broadcast((2, 3))
-            .is_none()
+            .is_none(),
     );
-    assert!(rt; one.broadcast((1 << 32, 1 << 31)).is_none());
+    holds(&rt, one.broadcast((1 << 32, 1 << 31)).is_none());
     Ok(())
 }

@@ -1,5 +1,6 @@
 //! Loops that write, in code that does not know what keeps the cells.
 
+use crate::tests::asserted::same;
 use crate::tests::shown::shown;
 use ndarray::{Array, ArrayBase, Axis, DataMut, Dimension, RemoveAxis};
 use std::test::Fail;
@@ -48,14 +49,16 @@ fn fill_chunks<A: Copy, S: DataMut<Elem = A>, D: Dimension>(array: &mut ArrayBas
 fn lanes_are_begun(rt: HostRuntime) -> Result<(), Fail> {
     let mut array = Array::from_shape_vec((2, 3), vec![in rt.alloc(); 1i64, 2, 3, 4, 5, 6]?)?;
     begin_lanes(&mut array, 7, 8);
-    assert_eq!(rt;
+    same(
+        &rt,
         shown(rt.alloc(), &array.view())?.as_str(),
-        "[2, 3]: [8, 8, 8, 7, 5, 6]"
+        "[2, 3]: [8, 8, 8, 7, 5, 6]",
     );
     begin_lanes(&mut array.view_mut().reversed_axes(), 1, 2);
-    assert_eq!(rt;
+    same(
+        &rt,
         shown(rt.alloc(), &array.view())?.as_str(),
-        "[2, 3]: [2, 1, 1, 2, 5, 6]"
+        "[2, 3]: [2, 1, 1, 2, 5, 6]",
     );
     Ok(())
 }
@@ -64,14 +67,16 @@ fn lanes_are_begun(rt: HostRuntime) -> Result<(), Fail> {
 fn items_and_chunks_are_filled(rt: HostRuntime) -> Result<(), Fail> {
     let mut array = Array::from_shape_vec((2, 2), vec![in rt.alloc(); 1i64, 2, 3, 4]?)?;
     fill_items(&mut array, 7);
-    assert_eq!(rt;
+    same(
+        &rt,
         shown(rt.alloc(), &array.view())?.as_str(),
-        "[2, 2]: [7, 7, 7, 7]"
+        "[2, 2]: [7, 7, 7, 7]",
     );
     fill_chunks(&mut array.view_mut().reversed_axes(), 5);
-    assert_eq!(rt;
+    same(
+        &rt,
         shown(rt.alloc(), &array.view())?.as_str(),
-        "[2, 2]: [5, 5, 5, 5]"
+        "[2, 2]: [5, 5, 5, 5]",
     );
     Ok(())
 }

@@ -1,5 +1,6 @@
 //! The cells of owned arrays, moved out one by one.
 
+use crate::tests::asserted::same;
 use ndarray::{Array, ArrayView, Axis, CowArray, Ix2, Lengths, ShapeBuilder, Slice};
 use std::alloc::{AllocError, Global};
 use std::cell::Cell;
@@ -80,42 +81,46 @@ fn drops_each_once<'a, D: Lengths>(
 #[test]
 fn items_come_in_row_order_whatever_the_layout(rt: HostRuntime) -> Result<(), Fail> {
     let rows = Array::from_shape_vec((2, 3), vec![in rt.alloc(); 1i64, 2, 3, 4, 5, 6]?)?;
-    assert_eq!(rt;
+    same(
+        &rt,
         moved(rt.alloc(), rows)?.as_slice(),
-        [1, 2, 3, 4, 5, 6].as_slice()
+        [1, 2, 3, 4, 5, 6].as_slice(),
     );
     let columns = Array::from_shape_vec((2, 3).f(), vec![in rt.alloc(); 1i64, 4, 2, 5, 3, 6]?)?;
-    assert_eq!(rt;
+    same(
+        &rt,
         moved(rt.alloc(), columns)?.as_slice(),
-        [1, 2, 3, 4, 5, 6].as_slice()
+        [1, 2, 3, 4, 5, 6].as_slice(),
     );
     let mut reversed = Array::from_shape_vec((2, 3), vec![in rt.alloc(); 3i64, 2, 1, 6, 5, 4]?)?;
     reversed.invert_axis(Axis(1));
-    assert_eq!(rt;
+    same(
+        &rt,
         moved(rt.alloc(), reversed)?.as_slice(),
-        [1, 2, 3, 4, 5, 6].as_slice()
+        [1, 2, 3, 4, 5, 6].as_slice(),
     );
     let wide = vec![in rt.alloc(); 1i64, 0, 2, 0, 3, 0, 4, 0, 5, 0, 6, 0]?;
     let mut stepped = Array::from_shape_vec((2, 6), wide)?;
     stepped.slice_axis_inplace(Axis(1), Slice::new(0, None, 2));
-    assert_eq!(rt;
+    same(
+        &rt,
         moved(rt.alloc(), stepped)?.as_slice(),
-        [1, 2, 3, 4, 5, 6].as_slice()
+        [1, 2, 3, 4, 5, 6].as_slice(),
     );
     let one = Array::from_shape_vec((), vec![in rt.alloc(); 7i64]?)?;
-    assert_eq!(rt; moved(rt.alloc(), one)?.as_slice(), [7].as_slice());
+    same(&rt, moved(rt.alloc(), one)?.as_slice(), [7].as_slice());
     let none = Array::<i64, Ix2>::from_shape_vec((2, 0), Vec::new(rt.alloc()))?;
-    assert_eq!(rt; moved(rt.alloc(), none)?.len(), 0);
+    same(&rt, moved(rt.alloc(), none)?.len(), 0);
     Ok(())
 }
 
 #[test]
 fn size_hint_counts_what_is_to_come(rt: HostRuntime) -> Result<(), Fail> {
     let mut cells = Array::from_shape_vec((2, 2), vec![in rt.alloc(); 1i64, 2, 3, 4]?)?.into_iter();
-    assert_eq!(rt; cells.size_hint(), (4, Some(4)));
-    assert_eq!(rt; cells.next(), Some(1));
-    assert_eq!(rt; cells.len(), 3);
-    assert_eq!(rt; cells.size_hint(), (3, Some(3)));
+    same(&rt, cells.size_hint(), (4, Some(4)));
+    same(&rt, cells.next(), Some(1));
+    same(&rt, cells.len(), 3);
+    same(&rt, cells.size_hint(), (3, Some(3)));
     Ok(())
 }
 
@@ -155,13 +160,13 @@ fn an_array_that_borrows_gives_clones(rt: HostRuntime) -> Result<(), Fail> {
     let source = [1i64, 2];
     let borrowed = CowArray::from(ArrayView::from_shape(2, &source)?);
     let cells: Vec<i64> = borrowed.try_into_iter(rt.alloc())?.collect(rt.alloc())?;
-    assert_eq!(rt; cells.as_slice(), [1, 2].as_slice());
-    assert_eq!(rt; source, [1, 2]);
+    same(&rt, cells.as_slice(), [1, 2].as_slice());
+    same(&rt, source, [1, 2]);
     let mut array = Array::from_shape_vec((1, 2), vec![in rt.alloc(); 3i64, 4]?)?;
     array.invert_axis(Axis(1));
     let owned = CowArray::from(array);
     let cells: Vec<i64> = owned.try_into_iter(rt.alloc())?.collect(rt.alloc())?;
-    assert_eq!(rt; cells.as_slice(), [4, 3].as_slice());
+    same(&rt, cells.as_slice(), [4, 3].as_slice());
     Ok(())
 }
 
@@ -178,9 +183,10 @@ fn a_loop_goes_over_an_array_and_over_a_view(rt: HostRuntime) -> Result<(), Fail
     for cell in array {
         seen.push(cell)?;
     }
-    assert_eq!(rt;
+    same(
+        &rt,
         seen.as_slice(),
-        [1, 2, 3, 4, 1, 3, 2, 4, 1, 2, 3, 4].as_slice()
+        [1, 2, 3, 4, 1, 3, 2, 4, 1, 2, 3, 4].as_slice(),
     );
     Ok(())
 }

@@ -1,5 +1,6 @@
 //! The cells of an array, one by one.
 
+use crate::tests::asserted::{holds, same};
 use crate::tests::layouts::layouts;
 use ndarray::iter::ElementsBase;
 use ndarray::{ArrayView, Axis, Dimension, Ix0, Ix1, Ix2, IxDyn, Lengths, ShapeBuilder, Slice};
@@ -14,9 +15,10 @@ fn cells<D: Lengths>(alloc: Global, view: &ArrayView<'_, i64, D>) -> Result<Vec<
 #[test]
 fn rows_come_one_after_the_other(rt: HostRuntime) -> Result<(), Fail> {
     let view = ArrayView::from_shape((2, 3), &[1i64, 2, 3, 4, 5, 6])?;
-    assert_eq!(rt;
+    same(
+        &rt,
         cells(rt.alloc(), &view)?.as_slice(),
-        [1, 2, 3, 4, 5, 6].as_slice()
+        [1, 2, 3, 4, 5, 6].as_slice(),
     );
     Ok(())
 }
@@ -24,9 +26,10 @@ fn rows_come_one_after_the_other(rt: HostRuntime) -> Result<(), Fail> {
 #[test]
 fn transposed_iter_is_row_order(rt: HostRuntime) -> Result<(), Fail> {
     let view = ArrayView::from_shape((2, 3), &[1i64, 2, 3, 4, 5, 6])?;
-    assert_eq!(rt;
+    same(
+        &rt,
         cells(rt.alloc(), &view.t())?.as_slice(),
-        [1, 4, 2, 5, 3, 6].as_slice()
+        [1, 4, 2, 5, 3, 6].as_slice(),
     );
     Ok(())
 }
@@ -34,13 +37,15 @@ fn transposed_iter_is_row_order(rt: HostRuntime) -> Result<(), Fail> {
 #[test]
 fn column_major_storage_gives_row_order(rt: HostRuntime) -> Result<(), Fail> {
     let view = ArrayView::from_shape((2, 3).f(), &[1i64, 4, 2, 5, 3, 6])?;
-    assert_eq!(rt;
+    same(
+        &rt,
         cells(rt.alloc(), &view)?.as_slice(),
-        [1, 2, 3, 4, 5, 6].as_slice()
+        [1, 2, 3, 4, 5, 6].as_slice(),
     );
-    assert_eq!(rt;
+    same(
+        &rt,
         cells(rt.alloc(), &view.t())?.as_slice(),
-        [1, 4, 2, 5, 3, 6].as_slice()
+        [1, 4, 2, 5, 3, 6].as_slice(),
     );
     Ok(())
 }
@@ -48,7 +53,7 @@ fn column_major_storage_gives_row_order(rt: HostRuntime) -> Result<(), Fail> {
 #[test]
 fn no_axes_have_one_cell(rt: HostRuntime) -> Result<(), Fail> {
     let view: ArrayView<'_, i64, Ix0> = ArrayView::from_shape((), &[7])?;
-    assert_eq!(rt; cells(rt.alloc(), &view)?.as_slice(), [7].as_slice());
+    same(&rt, cells(rt.alloc(), &view)?.as_slice(), [7].as_slice());
     Ok(())
 }
 
@@ -56,10 +61,10 @@ fn no_axes_have_one_cell(rt: HostRuntime) -> Result<(), Fail> {
 fn an_empty_axis_leaves_no_cells(rt: HostRuntime) -> Result<(), Fail> {
     let none: [i64; 0] = [];
     let view = ArrayView::from_shape((2, 0), &none)?;
-    assert_eq!(rt; view.iter().next(), None);
-    assert_eq!(rt; view.iter().len(), 0);
+    same(&rt, view.iter().next(), None);
+    same(&rt, view.iter().len(), 0);
     let view = ArrayView::from_shape((0, 2).f(), &none)?;
-    assert_eq!(rt; view.iter().next(), None);
+    same(&rt, view.iter().next(), None);
     Ok(())
 }
 
@@ -67,9 +72,10 @@ fn an_empty_axis_leaves_no_cells(rt: HostRuntime) -> Result<(), Fail> {
 fn a_broadcast_row_repeats(rt: HostRuntime) -> Result<(), Fail> {
     let row = ArrayView::from_shape(3, &[1i64, 2, 3])?;
     let rows = row.broadcast((2, 3)).ok_or("broadcast")?;
-    assert_eq!(rt;
+    same(
+        &rt,
         cells(rt.alloc(), &rows)?.as_slice(),
-        [1, 2, 3, 1, 2, 3].as_slice()
+        [1, 2, 3, 1, 2, 3].as_slice(),
     );
     Ok(())
 }
@@ -78,7 +84,11 @@ fn a_broadcast_row_repeats(rt: HostRuntime) -> Result<(), Fail> {
 fn a_reversed_axis_comes_backwards(rt: HostRuntime) -> Result<(), Fail> {
     let mut view = ArrayView::from_shape(3, &[1i64, 2, 3])?;
     view.invert_axis(Axis(0));
-    assert_eq!(rt; cells(rt.alloc(), &view)?.as_slice(), [3, 2, 1].as_slice());
+    same(
+        &rt,
+        cells(rt.alloc(), &view)?.as_slice(),
+        [3, 2, 1].as_slice(),
+    );
     Ok(())
 }
 
@@ -86,18 +96,21 @@ fn a_reversed_axis_comes_backwards(rt: HostRuntime) -> Result<(), Fail> {
 fn axes_reversed_twice_and_transposed(rt: HostRuntime) -> Result<(), Fail> {
     let mut view = ArrayView::from_shape((2, 3), &[1i64, 2, 3, 4, 5, 6])?;
     view.invert_axis(Axis(1));
-    assert_eq!(rt;
+    same(
+        &rt,
         cells(rt.alloc(), &view)?.as_slice(),
-        [3, 2, 1, 6, 5, 4].as_slice()
+        [3, 2, 1, 6, 5, 4].as_slice(),
     );
     view.invert_axis(Axis(0));
-    assert_eq!(rt;
+    same(
+        &rt,
         cells(rt.alloc(), &view)?.as_slice(),
-        [6, 5, 4, 3, 2, 1].as_slice()
+        [6, 5, 4, 3, 2, 1].as_slice(),
     );
-    assert_eq!(rt;
+    same(
+        &rt,
         cells(rt.alloc(), &view.t())?.as_slice(),
-        [6, 3, 5, 2, 4, 1].as_slice()
+        [6, 3, 5, 2, 4, 1].as_slice(),
     );
     Ok(())
 }
@@ -106,13 +119,13 @@ fn axes_reversed_twice_and_transposed(rt: HostRuntime) -> Result<(), Fail> {
 fn both_ends_meet(rt: HostRuntime) -> Result<(), Fail> {
     let view = ArrayView::from_shape(3, &[1i64, 2, 3])?;
     let mut iter = view.iter();
-    assert_eq!(rt; iter.next(), Some(&1));
-    assert_eq!(rt; iter.next_back(), Some(&3));
-    assert_eq!(rt; iter.len(), 1);
-    assert_eq!(rt; iter.next_back(), Some(&2));
-    assert_eq!(rt; iter.next(), None);
-    assert_eq!(rt; iter.next_back(), None);
-    assert_eq!(rt; iter.next(), None);
+    same(&rt, iter.next(), Some(&1));
+    same(&rt, iter.next_back(), Some(&3));
+    same(&rt, iter.len(), 1);
+    same(&rt, iter.next_back(), Some(&2));
+    same(&rt, iter.next(), None);
+    same(&rt, iter.next_back(), None);
+    same(&rt, iter.next(), None);
     Ok(())
 }
 
@@ -122,26 +135,30 @@ fn a_clone_has_the_same_items(rt: HostRuntime) -> Result<(), Fail> {
     let mut iter = view.iter();
     let _ = iter.next();
     let again: Vec<i64> = iter.clone()?.copied().collect(rt.alloc())?;
-    assert_eq!(rt; again.as_slice(), [2, 3, 4].as_slice());
-    assert_eq!(rt; iter.size_hint(), (3, Some(3)));
+    same(&rt, again.as_slice(), [2, 3, 4].as_slice());
+    same(&rt, iter.size_hint(), (3, Some(3)));
     Ok(())
 }
 
 #[test]
 fn thirty_two_axes_of_length_one(rt: HostRuntime) -> Result<(), Fail> {
     let view = ArrayView::from_shape(IxDyn(&[1; 32]), &[5i64])?;
-    assert_eq!(rt; view.ndim(), 32);
-    assert_eq!(rt; cells(rt.alloc(), &view)?.as_slice(), [5].as_slice());
-    assert_eq!(rt; cells(rt.alloc(), &view.t())?.as_slice(), [5].as_slice());
+    same(&rt, view.ndim(), 32);
+    same(&rt, cells(rt.alloc(), &view)?.as_slice(), [5].as_slice());
+    same(
+        &rt,
+        cells(rt.alloc(), &view.t())?.as_slice(),
+        [5].as_slice(),
+    );
     Ok(())
 }
 
 #[test]
 fn elements_of_size_zero(rt: HostRuntime) -> Result<(), Fail> {
     let view: ArrayView<'_, (), Ix2> = ArrayView::from_shape((2, 3), &[(); 6])?;
-    assert_eq!(rt; view.iter().len(), 6);
+    same(&rt, view.iter().len(), 6);
     let line: ArrayView<'_, (), Ix1> = ArrayView::from_shape(2, &[(); 6])?;
-    assert_eq!(rt; line.iter().count(), 2);
+    same(&rt, line.iter().count(), 2);
     Ok(())
 }
 
@@ -149,24 +166,27 @@ fn elements_of_size_zero(rt: HostRuntime) -> Result<(), Fail> {
 fn dimensions_known_when_run(rt: HostRuntime) -> Result<(), Fail> {
     let dim: IxDyn = IxDyn(&[2, 2]);
     let view = ArrayView::from_shape(dim.f(), &[1i64, 3, 2, 4])?;
-    assert_eq!(rt;
+    same(
+        &rt,
         cells(rt.alloc(), &view)?.as_slice(),
-        [1, 2, 3, 4].as_slice()
+        [1, 2, 3, 4].as_slice(),
     );
     let pattern = view.raw_dim().into_pattern();
-    assert_eq!(rt; pattern.slice(), [2, 2].as_slice());
+    same(&rt, pattern.slice(), [2, 2].as_slice());
     Ok(())
 }
 
 #[test]
 fn each_layout_has_the_same_cells(rt: HostRuntime) -> Result<(), Fail> {
     for view in &layouts()? {
-        assert_eq!(rt;
+        same(
+            &rt,
             cells(rt.alloc(), view)?.as_slice(),
-            [1, 2, 3, 4, 5, 6].as_slice()
+            [1, 2, 3, 4, 5, 6].as_slice(),
         );
         let indexed: Vec<((usize, usize), &i64)> = view.indexed_iter().collect(rt.alloc())?;
-        assert_eq!(rt;
+        same(
+            &rt,
             indexed.as_slice(),
             [
                 ((0, 0), &1),
@@ -176,7 +196,7 @@ fn each_layout_has_the_same_cells(rt: HostRuntime) -> Result<(), Fail> {
                 ((1, 1), &5),
                 ((1, 2), &6),
             ]
-            .as_slice()
+            .as_slice(),
         );
     }
     Ok(())
@@ -187,7 +207,8 @@ fn transposed_cells_beside_their_index_lists(rt: HostRuntime) -> Result<(), Fail
     let view = ArrayView::from_shape((2, 3), &[1i64, 2, 3, 4, 5, 6])?;
     let turned = view.t();
     let indexed: Vec<((usize, usize), &i64)> = turned.indexed_iter().collect(rt.alloc())?;
-    assert_eq!(rt;
+    same(
+        &rt,
         indexed.as_slice(),
         [
             ((0, 0), &1),
@@ -197,7 +218,7 @@ fn transposed_cells_beside_their_index_lists(rt: HostRuntime) -> Result<(), Fail
             ((2, 0), &3),
             ((2, 1), &6),
         ]
-        .as_slice()
+        .as_slice(),
     );
     Ok(())
 }
@@ -207,14 +228,14 @@ fn one_index_is_a_plain_number(rt: HostRuntime) -> Result<(), Fail> {
     let mut view = ArrayView::from_shape(3, &[1i64, 2, 3])?;
     view.invert_axis(Axis(0));
     let mut iter = view.indexed_iter();
-    assert_eq!(rt; iter.len(), 3);
-    assert_eq!(rt; iter.next(), Some((0, &3)));
-    assert_eq!(rt; iter.next(), Some((1, &2)));
-    assert_eq!(rt; iter.size_hint(), (1, Some(1)));
-    assert_eq!(rt; iter.next(), Some((2, &1)));
-    assert_eq!(rt; iter.next(), None);
-    assert_eq!(rt; iter.next(), None);
-    assert_eq!(rt; iter.len(), 0);
+    same(&rt, iter.len(), 3);
+    same(&rt, iter.next(), Some((0, &3)));
+    same(&rt, iter.next(), Some((1, &2)));
+    same(&rt, iter.size_hint(), (1, Some(1)));
+    same(&rt, iter.next(), Some((2, &1)));
+    same(&rt, iter.next(), None);
+    same(&rt, iter.next(), None);
+    same(&rt, iter.len(), 0);
     Ok(())
 }
 
@@ -223,9 +244,10 @@ fn index_lists_of_a_broadcast_row(rt: HostRuntime) -> Result<(), Fail> {
     let row = ArrayView::from_shape(2, &[1i64, 2])?;
     let rows = row.broadcast((2, 2)).ok_or("broadcast")?;
     let indexed: Vec<((usize, usize), &i64)> = rows.indexed_iter().collect(rt.alloc())?;
-    assert_eq!(rt;
+    same(
+        &rt,
         indexed.as_slice(),
-        [((0, 0), &1), ((0, 1), &2), ((1, 0), &1), ((1, 1), &2)].as_slice()
+        [((0, 0), &1), ((0, 1), &2), ((1, 0), &1), ((1, 1), &2)].as_slice(),
     );
     Ok(())
 }
@@ -234,8 +256,8 @@ fn index_lists_of_a_broadcast_row(rt: HostRuntime) -> Result<(), Fail> {
 fn no_axes_have_the_empty_index_list(rt: HostRuntime) -> Result<(), Fail> {
     let view: ArrayView<'_, i64, Ix0> = ArrayView::from_shape((), &[7])?;
     let mut iter = view.indexed_iter();
-    assert_eq!(rt; iter.next(), Some(((), &7)));
-    assert_eq!(rt; iter.next(), None);
+    same(&rt, iter.next(), Some(((), &7)));
+    same(&rt, iter.next(), None);
     Ok(())
 }
 
@@ -243,8 +265,8 @@ fn no_axes_have_the_empty_index_list(rt: HostRuntime) -> Result<(), Fail> {
 fn an_empty_axis_leaves_no_index_lists(rt: HostRuntime) -> Result<(), Fail> {
     let none: [i64; 0] = [];
     let view = ArrayView::from_shape((2, 0), &none)?;
-    assert_eq!(rt; view.indexed_iter().len(), 0);
-    assert_eq!(rt; view.indexed_iter().next(), None);
+    same(&rt, view.indexed_iter().len(), 0);
+    same(&rt, view.indexed_iter().next(), None);
     Ok(())
 }
 
@@ -253,12 +275,12 @@ fn index_lists_of_a_dimension_known_when_run(rt: HostRuntime) -> Result<(), Fail
     let view = ArrayView::from_shape(IxDyn(&[1, 2]), &[1i64, 2])?;
     let mut iter = view.indexed_iter();
     let (first, one) = iter.next().ok_or("first")?;
-    assert_eq!(rt; first.slice(), [0, 0].as_slice());
-    assert_eq!(rt; one, &1);
+    same(&rt, first.slice(), [0, 0].as_slice());
+    same(&rt, one, &1);
     let (second, two) = iter.next().ok_or("second")?;
-    assert_eq!(rt; second.slice(), [0, 1].as_slice());
-    assert_eq!(rt; two, &2);
-    assert!(rt; iter.next().is_none());
+    same(&rt, second.slice(), [0, 1].as_slice());
+    same(&rt, two, &2);
+    holds(&rt, iter.next().is_none());
     Ok(())
 }
 
@@ -268,10 +290,10 @@ fn a_clone_goes_on_with_the_same_index_lists(rt: HostRuntime) -> Result<(), Fail
     let mut iter = view.indexed_iter();
     let _ = iter.next();
     let mut again = iter.clone()?;
-    assert_eq!(rt; iter.next(), Some(((0, 1), &2)));
-    assert_eq!(rt; iter.next(), Some(((0, 2), &3)));
-    assert_eq!(rt; again.next(), Some(((0, 1), &2)));
-    assert_eq!(rt; again.len(), 1);
+    same(&rt, iter.next(), Some(((0, 1), &2)));
+    same(&rt, iter.next(), Some(((0, 2), &3)));
+    same(&rt, again.next(), Some(((0, 1), &2)));
+    same(&rt, again.len(), 1);
     Ok(())
 }
 
@@ -279,13 +301,13 @@ fn a_clone_goes_on_with_the_same_index_lists(rt: HostRuntime) -> Result<(), Fail
 fn the_elements_of_a_view_are_its_cells(rt: HostRuntime) -> Result<(), Fail> {
     let view = ArrayView::from_shape((2, 2).f(), &[1i64, 3, 2, 4])?;
     let mut elements = ElementsBase::new(view);
-    assert_eq!(rt; elements.len(), 4);
-    assert_eq!(rt; elements.next(), Some(&1));
+    same(&rt, elements.len(), 4);
+    same(&rt, elements.next(), Some(&1));
     let again = elements.clone()?;
-    assert_eq!(rt; elements.next(), Some(&2));
-    assert_eq!(rt; elements.size_hint(), (2, Some(2)));
+    same(&rt, elements.next(), Some(&2));
+    same(&rt, elements.size_hint(), (2, Some(2)));
     let left: Vec<i64> = again.copied().collect(rt.alloc())?;
-    assert_eq!(rt; left.as_slice(), [2, 3, 4].as_slice());
+    same(&rt, left.as_slice(), [2, 3, 4].as_slice());
     Ok(())
 }
 
@@ -294,14 +316,14 @@ fn both_ends_of_the_elements_meet(rt: HostRuntime) -> Result<(), Fail> {
     let mut view = ArrayView::from_shape(3, &[1i64, 2, 3])?;
     view.invert_axis(Axis(0));
     let mut elements = ElementsBase::new(view);
-    assert_eq!(rt; elements.next_back(), Some(&1));
-    assert_eq!(rt; elements.next(), Some(&3));
-    assert_eq!(rt; elements.len(), 1);
-    assert_eq!(rt; elements.next_back(), Some(&2));
+    same(&rt, elements.next_back(), Some(&1));
+    same(&rt, elements.next(), Some(&3));
+    same(&rt, elements.len(), 1);
+    same(&rt, elements.next_back(), Some(&2));
     for _ in 0..2 {
-        assert_eq!(rt; elements.next(), None);
-        assert_eq!(rt; elements.next_back(), None);
-        assert_eq!(rt; elements.len(), 0);
+        same(&rt, elements.next(), None);
+        same(&rt, elements.next_back(), None);
+        same(&rt, elements.len(), 0);
     }
     Ok(())
 }
@@ -314,9 +336,13 @@ fn every_second_cell(rt: HostRuntime) -> Result<(), Fail> {
         return Err("slice".into());
     }
     view.slice_axis_inplace(Axis(0), second);
-    assert_eq!(rt; cells(rt.alloc(), &view)?.as_slice(), [1, 3, 5].as_slice());
+    same(
+        &rt,
+        cells(rt.alloc(), &view)?.as_slice(),
+        [1, 3, 5].as_slice(),
+    );
     let backwards: Vec<&i64> = view.iter().rev().collect(rt.alloc())?;
-    assert_eq!(rt; backwards.as_slice(), [&5, &3, &1].as_slice());
+    same(&rt, backwards.as_slice(), [&5, &3, &1].as_slice());
     Ok(())
 }
 
@@ -325,12 +351,12 @@ fn references_are_collected_in_order(rt: HostRuntime) -> Result<(), Fail> {
     let mut view = ArrayView::from_shape(3, &[1i64, 2, 3])?;
     view.invert_axis(Axis(0));
     let references: Vec<&i64> = view.iter().collect(rt.alloc())?;
-    assert_eq!(rt; references.as_slice(), [&3, &2, &1].as_slice());
+    same(&rt, references.as_slice(), [&3, &2, &1].as_slice());
     let tried: Vec<&i64> = view
         .iter()
         .map(|x| -> Result<&i64, AllocError> { Ok(x) })
         .try_collect(rt.alloc())?;
-    assert_eq!(rt; tried.as_slice(), [&3, &2, &1].as_slice());
+    same(&rt, tried.as_slice(), [&3, &2, &1].as_slice());
     Ok(())
 }
 
@@ -339,14 +365,14 @@ fn nth_leaves_cells_out(rt: HostRuntime) -> Result<(), Fail> {
     let view = ArrayView::from_shape((2, 2), &[1i64, 2, 3, 4])?;
     let turned = view.t();
     let mut iter = turned.iter();
-    assert_eq!(rt; iter.nth(1), Some(&3));
-    assert_eq!(rt; iter.nth(0), Some(&2));
-    assert_eq!(rt; iter.nth(1), None);
-    assert_eq!(rt; iter.next(), None);
+    same(&rt, iter.nth(1), Some(&3));
+    same(&rt, iter.nth(0), Some(&2));
+    same(&rt, iter.nth(1), None);
+    same(&rt, iter.next(), None);
     let line = ArrayView::from_shape(3, &[1i64, 2, 3])?;
     let mut iter = line.iter();
-    assert_eq!(rt; iter.nth(usize::MAX), None);
-    assert_eq!(rt; iter.next(), None);
+    same(&rt, iter.nth(usize::MAX), None);
+    same(&rt, iter.next(), None);
     Ok(())
 }
 
@@ -354,12 +380,12 @@ fn nth_leaves_cells_out(rt: HostRuntime) -> Result<(), Fail> {
 fn nth_back_leaves_cells_out_from_the_end(rt: HostRuntime) -> Result<(), Fail> {
     let view = ArrayView::from_shape(3, &[1i64, 2, 3])?;
     let mut iter = view.iter();
-    assert_eq!(rt; iter.nth_back(1), Some(&2));
-    assert_eq!(rt; iter.next(), Some(&1));
-    assert_eq!(rt; iter.nth_back(0), None);
+    same(&rt, iter.nth_back(1), Some(&2));
+    same(&rt, iter.next(), Some(&1));
+    same(&rt, iter.nth_back(0), None);
     let mut iter = view.iter();
-    assert_eq!(rt; iter.nth_back(5), None);
-    assert_eq!(rt; iter.next(), None);
+    same(&rt, iter.nth_back(5), None);
+    same(&rt, iter.next(), None);
     Ok(())
 }
 
@@ -367,24 +393,24 @@ fn nth_back_leaves_cells_out_from_the_end(rt: HostRuntime) -> Result<(), Fail> {
 fn folds_go_in_row_order_or_back(rt: HostRuntime) -> Result<(), Fail> {
     let view = ArrayView::from_shape((2, 2), &[1i64, 2, 3, 4])?;
     let digits = |number: i64, digit: &i64| number.wrapping_mul(10).wrapping_add(*digit);
-    assert_eq!(rt; view.t().iter().fold(0, digits), 1324);
+    same(&rt, view.t().iter().fold(0, digits), 1324);
     let line = ArrayView::from_shape(3, &[1i64, 2, 3])?;
-    assert_eq!(rt; line.iter().fold(0, digits), 123);
-    assert_eq!(rt; line.iter().rfold(0, digits), 321);
+    same(&rt, line.iter().fold(0, digits), 123);
+    same(&rt, line.iter().rfold(0, digits), 321);
     Ok(())
 }
 
 #[test]
 fn questions_stop_at_the_cell_that_answers(rt: HostRuntime) -> Result<(), Fail> {
     let view = ArrayView::from_shape((2, 2), &[1i64, 2, 3, 4])?;
-    assert!(rt; view.iter().all(|x| *x > 0));
-    assert!(rt; !view.iter().any(|x| *x > 4));
+    holds(&rt, view.iter().all(|x| *x > 0));
+    holds(&rt, !view.iter().any(|x| *x > 4));
     let mut iter = view.iter();
-    assert!(rt; !iter.all(|x| *x < 2));
-    assert_eq!(rt; iter.next(), Some(&3));
+    holds(&rt, !iter.all(|x| *x < 2));
+    same(&rt, iter.next(), Some(&3));
     let mut iter = view.iter();
-    assert!(rt; iter.any(|x| *x == 3));
-    assert_eq!(rt; iter.next(), Some(&4));
+    holds(&rt, iter.any(|x| *x == 3));
+    same(&rt, iter.next(), Some(&4));
     Ok(())
 }
 
@@ -393,13 +419,13 @@ fn the_first_cell_that_passes(rt: HostRuntime) -> Result<(), Fail> {
     let view = ArrayView::from_shape((2, 2), &[1i64, 2, 3, 4])?;
     let turned = view.t();
     let mut iter = turned.iter();
-    assert_eq!(rt; iter.find(|x| **x > 1), Some(&3));
-    assert_eq!(rt; iter.next(), Some(&2));
-    assert_eq!(rt; turned.iter().find(|x| **x > 4), None);
+    same(&rt, iter.find(|x| **x > 1), Some(&3));
+    same(&rt, iter.next(), Some(&2));
+    same(&rt, turned.iter().find(|x| **x > 4), None);
     let half = |x: &i64| if *x % 2 == 0 { Some(*x / 2) } else { None };
-    assert_eq!(rt; view.iter().find_map(half), Some(1));
-    assert_eq!(rt; turned.iter().position(|x| *x == 2), Some(2));
-    assert_eq!(rt; turned.iter().position(|x| *x == 5), None);
+    same(&rt, view.iter().find_map(half), Some(1));
+    same(&rt, turned.iter().position(|x| *x == 2), Some(2));
+    same(&rt, turned.iter().position(|x| *x == 5), None);
     Ok(())
 }
 
@@ -408,11 +434,11 @@ fn the_number_of_cells_and_the_last_one(rt: HostRuntime) -> Result<(), Fail> {
     let view = ArrayView::from_shape((2, 2), &[1i64, 2, 3, 4])?;
     let mut iter = view.iter();
     let _ = iter.next();
-    assert_eq!(rt; iter.count(), 3);
-    assert_eq!(rt; view.iter().last(), Some(&4));
+    same(&rt, iter.count(), 3);
+    same(&rt, view.iter().last(), Some(&4));
     let none: [i64; 0] = [];
     let empty = ArrayView::from_shape((0, 2), &none)?;
-    assert_eq!(rt; empty.iter().count(), 0);
-    assert_eq!(rt; empty.iter().last(), None);
+    same(&rt, empty.iter().count(), 0);
+    same(&rt, empty.iter().last(), None);
     Ok(())
 }

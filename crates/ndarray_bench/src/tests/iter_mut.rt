@@ -1,5 +1,6 @@
 //! The cells of arrays to write to, one after another.
 
+use crate::tests::asserted::{holds, same};
 use crate::tests::shown::shown;
 use ndarray::iter::ElementsBaseMut;
 use ndarray::{Array, ArrayViewMut1, Axis, Ix0, Ix1, Ix2, IxDyn, ShapeBuilder, Slice};
@@ -14,9 +15,10 @@ fn each_cell_is_written_in_row_order(rt: HostRuntime) -> Result<(), Fail> {
         last = last.wrapping_add(1);
         *cell = last;
     }
-    assert_eq!(rt;
+    same(
+        &rt,
         shown(rt.alloc(), &rows.view())?.as_str(),
-        "[2, 3]: [1, 2, 3, 4, 5, 6]"
+        "[2, 3]: [1, 2, 3, 4, 5, 6]",
     );
     let mut columns = Array::<i64, Ix2>::zeros(rt.alloc(), (2, 3).f())?;
     last = 0;
@@ -24,9 +26,10 @@ fn each_cell_is_written_in_row_order(rt: HostRuntime) -> Result<(), Fail> {
         last = last.wrapping_add(1);
         *cell = last;
     }
-    assert_eq!(rt;
+    same(
+        &rt,
         shown(rt.alloc(), &columns.view())?.as_str(),
-        "[2, 3]: [1, 2, 3, 4, 5, 6]"
+        "[2, 3]: [1, 2, 3, 4, 5, 6]",
     );
     Ok(())
 }
@@ -42,9 +45,10 @@ fn two_cells_held_together_are_exchanged(rt: HostRuntime) -> Result<(), Fail> {
     mem::swap(first, second);
     drop(cells);
     drop(turned);
-    assert_eq!(rt;
+    same(
+        &rt,
         shown(rt.alloc(), &array.view())?.as_str(),
-        "[2, 2]: [3, 2, 1, 4]"
+        "[2, 2]: [3, 2, 1, 4]",
     );
     Ok(())
 }
@@ -60,9 +64,10 @@ fn index_lists_are_written_where_they_are(rt: HostRuntime) -> Result<(), Fail> {
             .wrapping_add(i64::try_from(j)?);
     }
     drop(reversed);
-    assert_eq!(rt;
+    same(
+        &rt,
         shown(rt.alloc(), &array.view())?.as_str(),
-        "[2, 2]: [10, 11, 0, 1]"
+        "[2, 2]: [10, 11, 0, 1]",
     );
     Ok(())
 }
@@ -74,12 +79,13 @@ fn both_ends_of_a_step_are_written_and_the_rest_stays(rt: HostRuntime) -> Result
     let mut cells = steps.iter_mut();
     *cells.next().ok_or("first")? = 0;
     *cells.next_back().ok_or("last")? = 0;
-    assert_eq!(rt; cells.len(), 1);
+    same(&rt, cells.len(), 1);
     drop(cells);
     drop(steps);
-    assert_eq!(rt;
+    same(
+        &rt,
         shown(rt.alloc(), &array.view())?.as_str(),
-        "[6]: [0, 2, 3, 4, 0, 6]"
+        "[6]: [0, 2, 3, 4, 0, 6]",
     );
     Ok(())
 }
@@ -91,11 +97,11 @@ fn the_ends_meet_once_and_stay_ended(rt: HostRuntime) -> Result<(), Fail> {
     *cells.next_back().ok_or("3")? = 13;
     *cells.next().ok_or("1")? = 11;
     *cells.next_back().ok_or("2")? = 12;
-    assert!(rt; cells.next().is_none());
-    assert!(rt; cells.next_back().is_none());
-    assert!(rt; cells.next().is_none());
+    holds(&rt, cells.next().is_none());
+    holds(&rt, cells.next_back().is_none());
+    holds(&rt, cells.next().is_none());
     drop(cells);
-    assert_eq!(rt; numbers, [11, 12, 13]);
+    same(&rt, numbers, [11, 12, 13]);
     Ok(())
 }
 
@@ -105,10 +111,10 @@ fn no_axes_one_cell_and_empty_axes_none(rt: HostRuntime) -> Result<(), Fail> {
     for cell in one.iter_mut() {
         *cell = 4;
     }
-    assert_eq!(rt; one.get(()), Some(&4));
+    same(&rt, one.get(()), Some(&4));
     let mut none = Array::<i64, IxDyn>::zeros(rt.alloc(), IxDyn(&[2, 0, 3]))?;
-    assert!(rt; none.iter_mut().next().is_none());
-    assert!(rt; none.indexed_iter_mut().next().is_none());
+    holds(&rt, none.iter_mut().next().is_none());
+    holds(&rt, none.indexed_iter_mut().next().is_none());
     Ok(())
 }
 
@@ -118,9 +124,10 @@ fn a_loop_over_an_array_to_write_in(rt: HostRuntime) -> Result<(), Fail> {
     for cell in &mut array {
         *cell = cell.wrapping_add(1);
     }
-    assert_eq!(rt;
+    same(
+        &rt,
         shown(rt.alloc(), &array.view())?.as_str(),
-        "[2, 2]: [2, 2, 2, 2]"
+        "[2, 2]: [2, 2, 2, 2]",
     );
     let mut other = Array::from_elem(rt.alloc(), (2, 2), 2i64)?;
     let mut view = other.view_mut();
@@ -128,9 +135,10 @@ fn a_loop_over_an_array_to_write_in(rt: HostRuntime) -> Result<(), Fail> {
     for cell in view {
         *cell = cell.wrapping_mul(10);
     }
-    assert_eq!(rt;
+    same(
+        &rt,
         shown(rt.alloc(), &other.view())?.as_str(),
-        "[2, 2]: [2, 20, 2, 20]"
+        "[2, 2]: [2, 20, 2, 20]",
     );
     Ok(())
 }
@@ -142,17 +150,19 @@ fn steps_of_an_iterator_to_write(rt: HostRuntime) -> Result<(), Fail> {
     *array.iter_mut().nth_back(1).ok_or("fourth")? = 40;
     *array.iter_mut().find(|x| **x == 3).ok_or("third")? = 30;
     *array.iter_mut().last().ok_or("last")? = 50;
-    assert_eq!(rt; array.iter_mut().count(), 5);
-    assert_eq!(rt; array.iter_mut().position(|x| *x == 30), Some(2));
-    assert_eq!(rt;
+    same(&rt, array.iter_mut().count(), 5);
+    same(&rt, array.iter_mut().position(|x| *x == 30), Some(2));
+    same(
+        &rt,
         array
             .iter_mut()
             .rfold(0i64, |sum, x| sum.wrapping_mul(2).wrapping_add(*x)),
-        1281
+        1281,
     );
-    assert_eq!(rt;
+    same(
+        &rt,
         shown(rt.alloc(), &array.view())?.as_str(),
-        "[5]: [1, 20, 30, 40, 50]"
+        "[5]: [1, 20, 30, 40, 50]",
     );
     Ok(())
 }

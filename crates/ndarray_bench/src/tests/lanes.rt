@@ -1,5 +1,6 @@
 //! The lanes along an axis.
 
+use crate::tests::asserted::{holds, same};
 use crate::tests::layouts::layouts;
 use crate::tests::shown::{all_shown, shown};
 use ndarray::{ArrayView, Axis, Ix0, IxDyn};
@@ -8,13 +9,15 @@ use std::test::Fail;
 #[test]
 fn the_lanes_along_each_axis(rt: HostRuntime) -> Result<(), Fail> {
     let view = ArrayView::from_shape((2, 3), &[1i64, 2, 3, 4, 5, 6])?;
-    assert_eq!(rt;
+    same(
+        &rt,
         all_shown(rt.alloc(), view.lanes(Axis(0)).into_iter())?.as_str(),
-        "[2]: [1, 4]; [2]: [2, 5]; [2]: [3, 6]"
+        "[2]: [1, 4]; [2]: [2, 5]; [2]: [3, 6]",
     );
-    assert_eq!(rt;
+    same(
+        &rt,
         all_shown(rt.alloc(), view.lanes(Axis(1)).into_iter())?.as_str(),
-        "[3]: [1, 2, 3]; [3]: [4, 5, 6]"
+        "[3]: [1, 2, 3]; [3]: [4, 5, 6]",
     );
     Ok(())
 }
@@ -22,17 +25,20 @@ fn the_lanes_along_each_axis(rt: HostRuntime) -> Result<(), Fail> {
 #[test]
 fn the_lanes_of_three_axes_come_in_row_order(rt: HostRuntime) -> Result<(), Fail> {
     let view = ArrayView::from_shape((2, 2, 2), &[1i64, 2, 3, 4, 5, 6, 7, 8])?;
-    assert_eq!(rt;
+    same(
+        &rt,
         all_shown(rt.alloc(), view.rows().into_iter())?.as_str(),
-        "[2]: [1, 2]; [2]: [3, 4]; [2]: [5, 6]; [2]: [7, 8]"
+        "[2]: [1, 2]; [2]: [3, 4]; [2]: [5, 6]; [2]: [7, 8]",
     );
-    assert_eq!(rt;
+    same(
+        &rt,
         all_shown(rt.alloc(), view.columns().into_iter())?.as_str(),
-        "[2]: [1, 5]; [2]: [2, 6]; [2]: [3, 7]; [2]: [4, 8]"
+        "[2]: [1, 5]; [2]: [2, 6]; [2]: [3, 7]; [2]: [4, 8]",
     );
-    assert_eq!(rt;
+    same(
+        &rt,
         all_shown(rt.alloc(), view.lanes(Axis(1)).into_iter())?.as_str(),
-        "[2]: [1, 3]; [2]: [2, 4]; [2]: [5, 7]; [2]: [6, 8]"
+        "[2]: [1, 3]; [2]: [2, 4]; [2]: [5, 7]; [2]: [6, 8]",
     );
     Ok(())
 }
@@ -40,17 +46,20 @@ fn the_lanes_of_three_axes_come_in_row_order(rt: HostRuntime) -> Result<(), Fail
 #[test]
 fn no_axes_have_one_lane_of_length_one(rt: HostRuntime) -> Result<(), Fail> {
     let view: ArrayView<'_, i64, Ix0> = ArrayView::from_shape((), &[7])?;
-    assert_eq!(rt;
+    same(
+        &rt,
         all_shown(rt.alloc(), view.rows().into_iter())?.as_str(),
-        "[1]: [7]"
+        "[1]: [7]",
     );
-    assert_eq!(rt;
+    same(
+        &rt,
         all_shown(rt.alloc(), view.columns().into_iter())?.as_str(),
-        "[1]: [7]"
+        "[1]: [7]",
     );
-    assert_eq!(rt;
+    same(
+        &rt,
         all_shown(rt.alloc(), view.lanes(Axis(9)).into_iter())?.as_str(),
-        "[1]: [7]"
+        "[1]: [7]",
     );
     Ok(())
 }
@@ -58,13 +67,15 @@ fn no_axes_have_one_lane_of_length_one(rt: HostRuntime) -> Result<(), Fail> {
 #[test]
 fn one_axis_has_itself_as_its_lane(rt: HostRuntime) -> Result<(), Fail> {
     let view = ArrayView::from_shape(3, &[1i64, 2, 3])?;
-    assert_eq!(rt;
+    same(
+        &rt,
         all_shown(rt.alloc(), view.rows().into_iter())?.as_str(),
-        "[3]: [1, 2, 3]"
+        "[3]: [1, 2, 3]",
     );
-    assert_eq!(rt;
+    same(
+        &rt,
         all_shown(rt.alloc(), view.columns().into_iter())?.as_str(),
-        "[3]: [1, 2, 3]"
+        "[3]: [1, 2, 3]",
     );
     Ok(())
 }
@@ -73,29 +84,33 @@ fn one_axis_has_itself_as_its_lane(rt: HostRuntime) -> Result<(), Fail> {
 fn rows_of_length_zero_are_rows(rt: HostRuntime) -> Result<(), Fail> {
     let none: [i64; 0] = [];
     let view = ArrayView::from_shape((2, 0), &none)?;
-    assert_eq!(rt;
+    same(
+        &rt,
         all_shown(rt.alloc(), view.rows().into_iter())?.as_str(),
-        "[0]: []; [0]: []"
+        "[0]: []; [0]: []",
     );
-    assert_eq!(rt; view.columns().into_iter().len(), 0);
-    assert!(rt; view.columns().into_iter().next().is_none());
+    same(&rt, view.columns().into_iter().len(), 0);
+    holds(&rt, view.columns().into_iter().next().is_none());
     Ok(())
 }
 
 #[test]
 fn each_layout_has_the_same_lanes(rt: HostRuntime) -> Result<(), Fail> {
     for view in &layouts()? {
-        assert_eq!(rt;
+        same(
+            &rt,
             all_shown(rt.alloc(), view.rows().into_iter())?.as_str(),
-            "[3]: [1, 2, 3]; [3]: [4, 5, 6]"
+            "[3]: [1, 2, 3]; [3]: [4, 5, 6]",
         );
-        assert_eq!(rt;
+        same(
+            &rt,
             all_shown(rt.alloc(), view.columns().into_iter())?.as_str(),
-            "[2]: [1, 4]; [2]: [2, 5]; [2]: [3, 6]"
+            "[2]: [1, 4]; [2]: [2, 5]; [2]: [3, 6]",
         );
-        assert_eq!(rt;
+        same(
+            &rt,
             all_shown(rt.alloc(), view.columns().into_iter().rev())?.as_str(),
-            "[2]: [3, 6]; [2]: [2, 5]; [2]: [1, 4]"
+            "[2]: [3, 6]; [2]: [2, 5]; [2]: [1, 4]",
         );
     }
     Ok(())
@@ -105,13 +120,15 @@ fn each_layout_has_the_same_lanes(rt: HostRuntime) -> Result<(), Fail> {
 fn lanes_of_a_broadcast_row(rt: HostRuntime) -> Result<(), Fail> {
     let row = ArrayView::from_shape(3, &[1i64, 2, 3])?;
     let rows = row.broadcast((2, 3)).ok_or("broadcast")?;
-    assert_eq!(rt;
+    same(
+        &rt,
         all_shown(rt.alloc(), rows.rows().into_iter())?.as_str(),
-        "[3]: [1, 2, 3]; [3]: [1, 2, 3]"
+        "[3]: [1, 2, 3]; [3]: [1, 2, 3]",
     );
-    assert_eq!(rt;
+    same(
+        &rt,
         all_shown(rt.alloc(), rows.columns().into_iter())?.as_str(),
-        "[2]: [1, 1]; [2]: [2, 2]; [2]: [3, 3]"
+        "[2]: [1, 1]; [2]: [2, 2]; [2]: [3, 3]",
     );
     Ok(())
 }
@@ -123,15 +140,17 @@ fn lanes_of_a_dimension_known_when_run(rt: HostRuntime) -> Result<(), Fail> {
     if !view.lanes_ok(Axis(0)) {
         return Err("lanes".into());
     }
-    assert_eq!(rt;
+    same(
+        &rt,
         all_shown(rt.alloc(), view.lanes(Axis(0)).into_iter())?.as_str(),
-        "[2]: [1, 3]; [2]: [2, 4]"
+        "[2]: [1, 3]; [2]: [2, 4]",
     );
     let no_axes: IxDyn = IxDyn(&[]);
     let view = ArrayView::from_shape(no_axes, &[7i64])?;
-    assert_eq!(rt;
+    same(
+        &rt,
         all_shown(rt.alloc(), view.rows().into_iter())?.as_str(),
-        "[1]: [7]"
+        "[1]: [7]",
     );
     Ok(())
 }
@@ -140,18 +159,18 @@ fn lanes_of_a_dimension_known_when_run(rt: HostRuntime) -> Result<(), Fail> {
 fn both_ends_of_the_lanes_of_a_table_meet(rt: HostRuntime) -> Result<(), Fail> {
     let view = ArrayView::from_shape((3, 2), &[1i64, 2, 3, 4, 5, 6])?;
     let mut lanes = view.rows().into_iter();
-    assert_eq!(rt; lanes.len(), 3);
+    same(&rt, lanes.len(), 3);
     let first = lanes.next().ok_or("first")?;
-    assert_eq!(rt; shown(rt.alloc(), &first)?.as_str(), "[2]: [1, 2]");
+    same(&rt, shown(rt.alloc(), &first)?.as_str(), "[2]: [1, 2]");
     let last = lanes.next_back().ok_or("last")?;
-    assert_eq!(rt; shown(rt.alloc(), &last)?.as_str(), "[2]: [5, 6]");
-    assert_eq!(rt; lanes.size_hint(), (1, Some(1)));
+    same(&rt, shown(rt.alloc(), &last)?.as_str(), "[2]: [5, 6]");
+    same(&rt, lanes.size_hint(), (1, Some(1)));
     let middle = lanes.next_back().ok_or("middle")?;
-    assert_eq!(rt; shown(rt.alloc(), &middle)?.as_str(), "[2]: [3, 4]");
+    same(&rt, shown(rt.alloc(), &middle)?.as_str(), "[2]: [3, 4]");
     for _ in 0..2 {
-        assert!(rt; lanes.next().is_none());
-        assert!(rt; lanes.next_back().is_none());
-        assert_eq!(rt; lanes.len(), 0);
+        holds(&rt, lanes.next().is_none());
+        holds(&rt, lanes.next_back().is_none());
+        same(&rt, lanes.len(), 0);
     }
     Ok(())
 }
@@ -162,14 +181,15 @@ fn clones_of_lanes_go_on_separately(rt: HostRuntime) -> Result<(), Fail> {
     let rows = view.rows();
     let again = rows.clone()?;
     let mut lanes = rows.into_iter();
-    assert!(rt; lanes.next().is_some());
+    holds(&rt, lanes.next().is_some());
     let left = lanes.clone()?;
-    assert!(rt; lanes.next().is_some());
-    assert_eq!(rt; lanes.len(), 0);
-    assert_eq!(rt; all_shown(rt.alloc(), left)?.as_str(), "[2]: [3, 4]");
-    assert_eq!(rt;
+    holds(&rt, lanes.next().is_some());
+    same(&rt, lanes.len(), 0);
+    same(&rt, all_shown(rt.alloc(), left)?.as_str(), "[2]: [3, 4]");
+    same(
+        &rt,
         all_shown(rt.alloc(), again.into_iter())?.as_str(),
-        "[2]: [1, 2]; [2]: [3, 4]"
+        "[2]: [1, 2]; [2]: [3, 4]",
     );
     Ok(())
 }
@@ -177,14 +197,14 @@ fn clones_of_lanes_go_on_separately(rt: HostRuntime) -> Result<(), Fail> {
 #[test]
 fn which_lanes_may_be_asked_for(rt: HostRuntime) -> Result<(), Fail> {
     let view = ArrayView::from_shape((2, 1), &[1i64, 2])?;
-    assert!(rt; view.lanes_ok(Axis(0)));
-    assert!(rt; view.lanes_ok(Axis(1)));
-    assert!(rt; !view.lanes_ok(Axis(2)));
-    assert!(rt; !view.lanes_ok(Axis(usize::MAX)));
+    holds(&rt, view.lanes_ok(Axis(0)));
+    holds(&rt, view.lanes_ok(Axis(1)));
+    holds(&rt, !view.lanes_ok(Axis(2)));
+    holds(&rt, !view.lanes_ok(Axis(usize::MAX)));
     let no_axes: ArrayView<'_, i64, Ix0> = ArrayView::from_shape((), &[7])?;
-    assert!(rt; no_axes.lanes_ok(Axis(0)));
-    assert!(rt; no_axes.lanes_ok(Axis(9)));
-    assert!(rt; !no_axes.axis_ok(Axis(9)));
+    holds(&rt, no_axes.lanes_ok(Axis(0)));
+    holds(&rt, no_axes.lanes_ok(Axis(9)));
+    holds(&rt, !no_axes.axis_ok(Axis(9)));
     Ok(())
 }
 
@@ -193,11 +213,11 @@ fn huge_axes_without_cells_have_their_lanes(rt: HostRuntime) -> Result<(), Fail>
     let none: [i64; 0] = [];
     let view = ArrayView::from_shape((1 << 31, 1 << 31, 0), &none)?;
     let mut lanes = view.rows().into_iter();
-    assert_eq!(rt; lanes.len(), 1 << 62);
+    same(&rt, lanes.len(), 1 << 62);
     let first = lanes.next().ok_or("first")?;
-    assert_eq!(rt; shown(rt.alloc(), &first)?.as_str(), "[0]: []");
-    assert_eq!(rt; lanes.len(), (1 << 62) - 1);
-    assert_eq!(rt; view.columns().into_iter().len(), 0);
+    same(&rt, shown(rt.alloc(), &first)?.as_str(), "[0]: []");
+    same(&rt, lanes.len(), (1 << 62) - 1);
+    same(&rt, view.columns().into_iter().len(), 0);
     Ok(())
 }
 
@@ -206,9 +226,10 @@ fn lanes_of_an_item_of_a_turned_view(rt: HostRuntime) -> Result<(), Fail> {
     let view = ArrayView::from_shape((2, 2, 2), &[1i64, 2, 3, 4, 5, 6, 7, 8])?;
     let turned = view.t();
     let item = turned.index_axis(Axis(0), 1);
-    assert_eq!(rt;
+    same(
+        &rt,
         all_shown(rt.alloc(), item.rows().into_iter())?.as_str(),
-        "[2]: [2, 6]; [2]: [4, 8]"
+        "[2]: [2, 6]; [2]: [4, 8]",
     );
     Ok(())
 }

@@ -1,5 +1,6 @@
 //! What can be walked together, each kind of producer at a concrete type.
 
+use crate::tests::asserted::same;
 use crate::tests::shown::shown;
 use ndarray::{Array, ArrayView, ArrayView1, Axis, Ix2, Zip, azip};
 use std::test::Fail;
@@ -22,7 +23,7 @@ fn lanes_with_a_line(rt: HostRuntime) -> Result<(), Fail> {
             .fold(0, |acc: i64, row, w| {
                 acc.wrapping_add(digits(&row).wrapping_mul(*w))
             });
-        assert_eq!(rt; total, 456_123);
+        same(&rt, total, 456_123);
     }
     Ok(())
 }
@@ -43,7 +44,7 @@ fn the_items_still_to_come_along_an_axis(rt: HostRuntime) -> Result<(), Fail> {
         let total = zip.and(&weights).fold(0, |acc: i64, row, w| {
             acc.wrapping_add(sum(&row).wrapping_mul(*w))
         });
-        assert_eq!(rt; total, 290);
+        same(&rt, total, 290);
     }
     Ok(())
 }
@@ -52,20 +53,26 @@ fn the_items_still_to_come_along_an_axis(rt: HostRuntime) -> Result<(), Fail> {
 fn chunks_and_windows(rt: HostRuntime) -> Result<(), Fail> {
     let view = ArrayView::from_shape(6, SIX)?;
     let pairs = Zip::from(view.exact_chunks(2)).map_collect(rt.alloc(), |chunk| digits(&chunk))?;
-    assert_eq!(rt;
+    same(
+        &rt,
         shown(rt.alloc(), &pairs.view())?.as_str(),
-        "[3]: [12, 34, 56]"
+        "[3]: [12, 34, 56]",
     );
     let triples = Zip::from(view.windows(3)).map_collect(rt.alloc(), |window| digits(&window))?;
-    assert_eq!(rt;
+    same(
+        &rt,
         shown(rt.alloc(), &triples.view())?.as_str(),
-        "[4]: [123, 234, 345, 456]"
+        "[4]: [123, 234, 345, 456]",
     );
     let steps = Zip::from(view.axis_windows_with_stride(Axis(0), 2, 3)).map_collect(
         rt.alloc(),
         |window| digits(&window),
     )?;
-    assert_eq!(rt; shown(rt.alloc(), &steps.view())?.as_str(), "[2]: [12, 45]");
+    same(
+        &rt,
+        shown(rt.alloc(), &steps.view())?.as_str(),
+        "[2]: [12, 45]",
+    );
     Ok(())
 }
 
@@ -76,22 +83,25 @@ fn an_array_is_written_beside_arrays_read(rt: HostRuntime) -> Result<(), Fail> {
     let b = a.t();
     if Zip::from(&mut sums).fits(&a) {
         azip!((s in &mut sums, &x in &a) *s = x.wrapping_mul(10));
-        assert_eq!(rt;
+        same(
+            &rt,
             shown(rt.alloc(), &sums.view())?.as_str(),
-            "[2, 3]: [10, 20, 30, 40, 50, 60]"
+            "[2, 3]: [10, 20, 30, 40, 50, 60]",
         );
     }
     if Zip::from(sums.view_mut().reversed_axes()).fits(&b) {
         azip!((s in sums.view_mut().reversed_axes(), &x in &b) *s = s.wrapping_add(x));
-        assert_eq!(rt;
+        same(
+            &rt,
             shown(rt.alloc(), &sums.view())?.as_str(),
-            "[2, 3]: [11, 22, 33, 44, 55, 66]"
+            "[2, 3]: [11, 22, 33, 44, 55, 66]",
         );
     }
     azip!((index (i, j), s in &mut sums) *s = s.wrapping_add(if i == j { 100 } else { 0 }));
-    assert_eq!(rt;
+    same(
+        &rt,
         shown(rt.alloc(), &sums.view())?.as_str(),
-        "[2, 3]: [111, 22, 33, 44, 155, 66]"
+        "[2, 3]: [111, 22, 33, 44, 155, 66]",
     );
     Ok(())
 }
@@ -104,9 +114,10 @@ fn lanes_and_items_are_written(rt: HostRuntime) -> Result<(), Fail> {
             *cell = if i == 0 { 1 } else { 2 };
         }
     });
-    assert_eq!(rt;
+    same(
+        &rt,
         shown(rt.alloc(), &table.view())?.as_str(),
-        "[2, 3]: [1, 1, 1, 2, 2, 2]"
+        "[2, 3]: [1, 1, 1, 2, 2, 2]",
     );
     if table.axis_ok(Axis(1)) {
         Zip::indexed(table.axis_iter_mut(Axis(1))).for_each(|j, mut column| {
@@ -115,9 +126,10 @@ fn lanes_and_items_are_written(rt: HostRuntime) -> Result<(), Fail> {
             }
         });
     }
-    assert_eq!(rt;
+    same(
+        &rt,
         shown(rt.alloc(), &table.view())?.as_str(),
-        "[2, 3]: [1, 1, 8, 2, 2, 9]"
+        "[2, 3]: [1, 1, 8, 2, 2, 9]",
     );
     Ok(())
 }

@@ -1,6 +1,7 @@
 //! What is written through views to write in, one sub-view after another, is read back from the
 //! array.
 
+use crate::tests::asserted::same;
 use crate::tests::shown::shown;
 use ndarray::{Array, ArrayBase, ArrayViewMut1, Axis, DataMut, Dimension, Ix0, Ix2, IxDyn};
 use std::test::Fail;
@@ -41,9 +42,10 @@ fn whole_chunks_are_written_and_the_rest_is_left(rt: HostRuntime) -> Result<(), 
     for mut chunk in array.exact_chunks_mut(2) {
         tenfold(&mut chunk);
     }
-    assert_eq!(rt;
+    same(
+        &rt,
         shown(rt.alloc(), &array.view())?.as_str(),
-        "[5]: [1, 10, 3, 30, 5]"
+        "[5]: [1, 10, 3, 30, 5]",
     );
     Ok(())
 }
@@ -57,9 +59,10 @@ fn rows_are_written_one_by_one(rt: HostRuntime) -> Result<(), Fail> {
     for mut row in array.axis_iter_mut(Axis(0)) {
         tenfold(&mut row);
     }
-    assert_eq!(rt;
+    same(
+        &rt,
         shown(rt.alloc(), &array.view())?.as_str(),
-        "[2, 3]: [1, 10, 3, 4, 40, 6]"
+        "[2, 3]: [1, 10, 3, 4, 40, 6]",
     );
     Ok(())
 }
@@ -72,18 +75,19 @@ fn columns_are_written_from_both_ends(rt: HostRuntime) -> Result<(), Fail> {
     }
     {
         let mut columns = array.axis_iter_mut(Axis(1));
-        assert_eq!(rt; columns.len(), 3);
+        same(&rt, columns.len(), 3);
         let mut last = columns.next_back().ok_or("last")?;
         let mut first = columns.next().ok_or("first")?;
-        assert_eq!(rt; columns.len(), 1);
+        same(&rt, columns.len(), 1);
         begin(&mut last, 7);
         begin(&mut first, 8);
         tenfold(&mut last);
         tenfold(&mut first);
     }
-    assert_eq!(rt;
+    same(
+        &rt,
         shown(rt.alloc(), &array.view())?.as_str(),
-        "[2, 3]: [8, 2, 7, 80, 5, 70]"
+        "[2, 3]: [8, 2, 7, 80, 5, 70]",
     );
     Ok(())
 }
@@ -100,16 +104,17 @@ fn an_iterator_is_split_and_both_parts_write(rt: HostRuntime) -> Result<(), Fail
             return Err("rows".into());
         }
         let (mut first, mut rest) = rows.split_at(1);
-        assert_eq!(rt; first.len(), 1);
-        assert_eq!(rt; rest.len(), 2);
+        same(&rt, first.len(), 1);
+        same(&rt, rest.len(), 2);
         let mut last = rest.next_back().ok_or("last")?;
         let mut row = first.next().ok_or("row")?;
         tenfold(&mut last);
         tenfold(&mut row);
     }
-    assert_eq!(rt;
+    same(
+        &rt,
         shown(rt.alloc(), &array.view())?.as_str(),
-        "[3, 2]: [1, 10, 3, 4, 5, 50]"
+        "[3, 2]: [1, 10, 3, 4, 5, 50]",
     );
     Ok(())
 }
@@ -120,25 +125,28 @@ fn lanes_along_each_axis_are_written(rt: HostRuntime) -> Result<(), Fail> {
     for mut row in array.rows_mut() {
         tenfold(&mut row);
     }
-    assert_eq!(rt;
+    same(
+        &rt,
         shown(rt.alloc(), &array.view())?.as_str(),
-        "[2, 3]: [1, 10, 3, 4, 40, 6]"
+        "[2, 3]: [1, 10, 3, 4, 40, 6]",
     );
     for mut column in array.columns_mut() {
         tenfold(&mut column);
     }
-    assert_eq!(rt;
+    same(
+        &rt,
         shown(rt.alloc(), &array.view())?.as_str(),
-        "[2, 3]: [1, 10, 3, 10, 100, 30]"
+        "[2, 3]: [1, 10, 3, 10, 100, 30]",
     );
     {
         let mut lanes = array.rows_mut().into_iter();
         let mut last = lanes.next_back().ok_or("last")?;
         begin(&mut last, 0);
     }
-    assert_eq!(rt;
+    same(
+        &rt,
         shown(rt.alloc(), &array.view())?.as_str(),
-        "[2, 3]: [1, 10, 3, 0, 100, 30]"
+        "[2, 3]: [1, 10, 3, 0, 100, 30]",
     );
     Ok(())
 }
@@ -149,7 +157,7 @@ fn an_array_of_no_axes_has_one_lane_to_write_in(rt: HostRuntime) -> Result<(), F
     for mut lane in array.rows_mut() {
         begin(&mut lane, 9);
     }
-    assert_eq!(rt; shown(rt.alloc(), &array.view())?.as_str(), "[]: [9]");
+    same(&rt, shown(rt.alloc(), &array.view())?.as_str(), "[]: [9]");
     Ok(())
 }
 
@@ -161,9 +169,9 @@ fn chunks_along_an_axis_are_written_and_the_last_is_shorter(rt: HostRuntime) -> 
     }
     {
         let mut chunks = array.axis_chunks_iter_mut(Axis(0), 2);
-        assert_eq!(rt; chunks.len(), 3);
+        same(&rt, chunks.len(), 3);
         let mut last = chunks.next_back().ok_or("last")?;
-        assert_eq!(rt; last.len(), 1);
+        same(&rt, last.len(), 1);
         begin(&mut last, 6);
         if chunks.len() < 1 {
             return Err("chunks".into());
@@ -176,9 +184,10 @@ fn chunks_along_an_axis_are_written_and_the_last_is_shorter(rt: HostRuntime) -> 
             tenfold(&mut chunk);
         }
     }
-    assert_eq!(rt;
+    same(
+        &rt,
         shown(rt.alloc(), &array.view())?.as_str(),
-        "[5]: [1, 10, 7, 4, 6]"
+        "[5]: [1, 10, 7, 4, 6]",
     );
     Ok(())
 }
@@ -202,9 +211,10 @@ fn both_parts_of_a_view_write(rt: HostRuntime) -> Result<(), Fail> {
         tenfold(&mut second);
         tenfold(&mut first);
     }
-    assert_eq!(rt;
+    same(
+        &rt,
         shown(rt.alloc(), &array.view())?.as_str(),
-        "[4]: [20, 2, 40, 4]"
+        "[4]: [20, 2, 40, 4]",
     );
     Ok(())
 }
@@ -222,9 +232,10 @@ fn chunks_of_two_axes_are_written_in_any_layout(rt: HostRuntime) -> Result<(), F
             *cell = 0;
         }
     }
-    assert_eq!(rt;
+    same(
+        &rt,
         shown(rt.alloc(), &array.view())?.as_str(),
-        "[5, 3]: [1, 6, 11, 2, 0, 12, 3, 8, 13, 4, 0, 14, 5, 10, 15]"
+        "[5, 3]: [1, 6, 11, 2, 0, 12, 3, 8, 13, 4, 0, 14, 5, 10, 15]",
     );
     Ok(())
 }
@@ -235,11 +246,11 @@ fn an_axis_without_cells_has_items_to_write_in(rt: HostRuntime) -> Result<(), Fa
     if !none.axis_ok(Axis(0)) || !none.axis_ok(Axis(1)) {
         return Err("axis".into());
     }
-    assert_eq!(rt; none.axis_iter_mut(Axis(0)).len(), 2);
+    same(&rt, none.axis_iter_mut(Axis(0)).len(), 2);
     if !none.axis_ok(Axis(0)) || !none.axis_ok(Axis(1)) {
         return Err("axis".into());
     }
-    assert_eq!(rt; none.axis_iter_mut(Axis(1)).len(), 0);
+    same(&rt, none.axis_iter_mut(Axis(1)).len(), 0);
     Ok(())
 }
 
@@ -247,14 +258,16 @@ fn an_axis_without_cells_has_items_to_write_in(rt: HostRuntime) -> Result<(), Fa
 fn rows_of_an_array_and_of_a_view_are_written_alike(rt: HostRuntime) -> Result<(), Fail> {
     let mut array = Array::from_shape_vec((2, 2), vec![in rt.alloc(); 1i64, 2, 3, 4]?)?;
     begin_rows(&mut array, 5);
-    assert_eq!(rt;
+    same(
+        &rt,
         shown(rt.alloc(), &array.view())?.as_str(),
-        "[2, 2]: [5, 2, 5, 4]"
+        "[2, 2]: [5, 2, 5, 4]",
     );
     begin_rows(&mut array.view_mut().reversed_axes(), 6);
-    assert_eq!(rt;
+    same(
+        &rt,
         shown(rt.alloc(), &array.view())?.as_str(),
-        "[2, 2]: [6, 6, 5, 4]"
+        "[2, 2]: [6, 6, 5, 4]",
     );
     Ok(())
 }

@@ -1,5 +1,6 @@
 //! Walking arrays together.
 
+use crate::tests::asserted::{holds, same};
 use crate::tests::layouts::layouts;
 use crate::walked::products_of_two_layouts;
 use ndarray::{ArrayView, ArrayView1, FoldWhile, ShapeBuilder, Zip, azip};
@@ -14,9 +15,9 @@ fn dot_of_two_layouts(rt: HostRuntime) -> Result<(), Fail> {
         let total = Zip::from(&a)
             .and(&b)
             .fold(0, |acc: u64, x, y| acc.wrapping_add(x.wrapping_mul(*y)));
-        assert_eq!(rt; total, 88);
+        same(&rt, total, 88);
     }
-    assert_eq!(rt; products_of_two_layouts(), 88);
+    same(&rt, products_of_two_layouts(), 88);
     Ok(())
 }
 
@@ -24,7 +25,7 @@ fn dot_of_two_layouts(rt: HostRuntime) -> Result<(), Fail> {
 fn the_order_is_row_or_column_order(rt: HostRuntime) -> Result<(), Fail> {
     let a = ArrayView::from_shape((2, 2).f(), &[1u64, 3, 2, 4])?;
     let digits = Zip::from(&a).fold(0, |acc: u64, x| acc.wrapping_mul(10).wrapping_add(*x));
-    assert!(rt; digits == 1234 || digits == 1324);
+    holds(&rt, digits == 1234 || digits == 1324);
     Ok(())
 }
 
@@ -33,8 +34,8 @@ fn no_axes_is_one_call(rt: HostRuntime) -> Result<(), Fail> {
     let point = ArrayView::from_shape((), &[7u64])?;
     let calls = Cell::new(0u64);
     Zip::from(&point).for_each(|x| calls.set(calls.get().wrapping_add(*x)));
-    assert_eq!(rt; calls.get(), 7);
-    assert_eq!(rt; Zip::from(&point).size(), 1);
+    same(&rt, calls.get(), 7);
+    same(&rt, Zip::from(&point).size(), 1);
     Ok(())
 }
 
@@ -52,8 +53,8 @@ fn empty_axes_are_no_call(rt: HostRuntime) -> Result<(), Fail> {
         true
     });
     Zip::from(&empty).for_each(|x| count(x));
-    assert!(rt; all && !any);
-    assert_eq!(rt; calls.get(), 0);
+    holds(&rt, all && !any);
+    same(&rt, calls.get(), 0);
     Ok(())
 }
 
@@ -69,15 +70,15 @@ fn fold_while_ends_with_the_first_done(rt: HostRuntime) -> Result<(), Fail> {
             FoldWhile::Continue(acc.wrapping_add(*x))
         }
     });
-    assert!(rt; ended.is_done());
-    assert_eq!(rt; ended.into_inner(), 3);
-    assert_eq!(rt; calls.get(), 3);
+    holds(&rt, ended.is_done());
+    same(&rt, ended.into_inner(), 3);
+    same(&rt, calls.get(), 3);
     let went_on = Zip::from(&numbers).fold_while(
         0,
         |acc: u64, x| FoldWhile::Continue(acc.wrapping_add(*x)),
     );
-    assert!(rt; !went_on.is_done());
-    assert_eq!(rt; went_on.into_inner(), 10);
+    holds(&rt, !went_on.is_done());
+    same(&rt, went_on.into_inner(), 10);
     Ok(())
 }
 
@@ -87,21 +88,27 @@ fn all_and_any_stop_at_the_first_that_decides(rt: HostRuntime) -> Result<(), Fai
     let b = ArrayView1::from([1u64, 4, 9].as_slice());
     let calls = Cell::new(0u64);
     if Zip::from(&a).fits(&b) {
-        assert!(rt; Zip::from(&a).and(&b).all(|x, y| x.wrapping_mul(*x) == *y));
-        assert!(rt; Zip::from(&a).and(&b).any(|x, y| *x == *y));
-        assert!(rt; !Zip::from(&a).and(&b).any(|x, y| x.wrapping_sub(1) == *y));
+        holds(
+            &rt,
+            Zip::from(&a).and(&b).all(|x, y| x.wrapping_mul(*x) == *y),
+        );
+        holds(&rt, Zip::from(&a).and(&b).any(|x, y| *x == *y));
+        holds(
+            &rt,
+            !Zip::from(&a).and(&b).any(|x, y| x.wrapping_sub(1) == *y),
+        );
         let all = Zip::from(&a).and(&b).all(|x, y| {
             calls.set(calls.get().wrapping_add(1));
             *x == *y
         });
-        assert!(rt; !all);
-        assert_eq!(rt; calls.get(), 2);
+        holds(&rt, !all);
+        same(&rt, calls.get(), 2);
         let any = Zip::from(&a).and(&b).any(|x, y| {
             calls.set(calls.get().wrapping_add(1));
             *x == *y
         });
-        assert!(rt; any);
-        assert_eq!(rt; calls.get(), 3);
+        holds(&rt, any);
+        same(&rt, calls.get(), 3);
     }
     Ok(())
 }
@@ -113,8 +120,8 @@ fn a_zip_is_cloned_and_walked_twice(rt: HostRuntime) -> Result<(), Fail> {
         let zip = Zip::from(&a).and(&a);
         let again = zip.clone()?;
         let add = |acc: u64, x: &u64, y: &u64| acc.wrapping_add(x.wrapping_mul(*y));
-        assert_eq!(rt; zip.fold(0, add), 14);
-        assert_eq!(rt; again.fold(0, add), 14);
+        same(&rt, zip.fold(0, add), 14);
+        same(&rt, again.fold(0, add), 14);
     }
     Ok(())
 }
@@ -127,11 +134,11 @@ fn collecting_calls_once_for_each_cell(rt: HostRuntime) -> Result<(), Fail> {
             calls.set(calls.get().wrapping_add(1));
             x.wrapping_mul(10)
         })?;
-        assert_eq!(rt; calls.get(), 6);
-        assert_eq!(rt; tens.shape(), [2, 3].as_slice());
-        assert_eq!(rt; tens.get((0, 1)), Some(&20));
-        assert_eq!(rt; tens.get((1, 0)), Some(&40));
-        assert_eq!(rt; tens.get((1, 2)), Some(&60));
+        same(&rt, calls.get(), 6);
+        same(&rt, tens.shape(), [2, 3].as_slice());
+        same(&rt, tens.get((0, 1)), Some(&20));
+        same(&rt, tens.get((1, 0)), Some(&40));
+        same(&rt, tens.get((1, 2)), Some(&60));
     }
     Ok(())
 }
@@ -145,8 +152,8 @@ fn azip_walks_and_makes(rt: HostRuntime) -> Result<(), Fail> {
         azip!((&x in &a, &y in &b) total.set(total.get().wrapping_add(x).wrapping_add(y)));
         azip!((&x in &a, y in &b,) { total.set(total.get().wrapping_add(x ^ *y)); });
         let zip = azip!(&a, &b);
-        assert_eq!(rt; zip.size(), 3);
-        assert_eq!(rt; total.get(), 66 + (1 ^ 10) + (2 ^ 20) + (3 ^ 30));
+        same(&rt, zip.size(), 3);
+        same(&rt, total.get(), 66 + (1 ^ 10) + (2 ^ 20) + (3 ^ 30));
     }
     Ok(())
 }
