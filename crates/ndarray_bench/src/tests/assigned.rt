@@ -1,7 +1,7 @@
 //! Index patterns, arrays that are stretched, and answers that are assigned.
 
 use crate::tests::asserted::{holds, same};
-use crate::tests::shown::shown;
+use crate::tests::shown::shows;
 use ndarray::{Array, ArrayBase, ArrayView, Axis, Data, DataMut, Ix2, ShapeBuilder, Zip, indices};
 use std::alloc::{AllocError, Global};
 use std::test::Fail;
@@ -55,11 +55,12 @@ fn a_row_is_stretched(rt: HostRuntime) -> Result<(), Fail> {
         let sums = Zip::from(&a)
             .and_broadcast(&row)
             .map_collect(rt.alloc(), |x, y| x.wrapping_add(*y))?;
-        same(
+        shows(
             &rt,
-            shown(rt.alloc(), &sums.view())?.as_str(),
+            rt.alloc(),
+            &sums.view(),
             "[2, 3]: [11, 22, 33, 14, 25, 36]",
-        );
+        )?;
         let total = Zip::from(&a)
             .and(&a)
             .and_broadcast(row)
@@ -76,11 +77,7 @@ fn answers_become_cells(rt: HostRuntime) -> Result<(), Fail> {
     if Zip::from(&a).fits(&into.view()) {
         Zip::from(&a).map_assign_into(&mut into, |x| x.wrapping_mul(10));
     }
-    same(
-        &rt,
-        shown(rt.alloc(), &into.view())?.as_str(),
-        "[2]: [10, 20]",
-    );
+    shows(&rt, rt.alloc(), &into.view(), "[2]: [10, 20]")?;
     let mut square = Array::from_shape_vec((2, 2).f(), vec![in rt.alloc(); 0i64, 0, 0, 0]?)?;
     let b = ArrayView::from_shape((2, 2), &[1i64, 2, 3, 4])?;
     let mut turned = square.view_mut().reversed_axes();
@@ -90,11 +87,7 @@ fn answers_become_cells(rt: HostRuntime) -> Result<(), Fail> {
             .map_assign_into(&mut turned, |x, y| x.wrapping_add(*y));
     }
     drop(turned);
-    same(
-        &rt,
-        shown(rt.alloc(), &square.view())?.as_str(),
-        "[2, 2]: [2, 6, 4, 8]",
-    );
+    shows(&rt, rt.alloc(), &square.view(), "[2, 2]: [2, 6, 4, 8]")?;
     Ok(())
 }
 
@@ -130,19 +123,11 @@ fn generic_callers(rt: HostRuntime) -> Result<(), Fail> {
     let a = Array::from_shape_vec((2, 2), vec![in rt.alloc(); 1i64, 2, 3, 4]?)?;
     let mut b = Array::from_shape_vec((2, 2), vec![in rt.alloc(); 0i64, 0, 0, 0]?)?;
     holds(&rt, double_into(&a, &mut b));
-    same(
-        &rt,
-        shown(rt.alloc(), &b.view())?.as_str(),
-        "[2, 2]: [2, 4, 6, 8]",
-    );
+    shows(&rt, rt.alloc(), &b.view(), "[2, 2]: [2, 4, 6, 8]")?;
     let row = Array::from_shape_vec((1, 2), vec![in rt.alloc(); 8i64, 9]?)?;
     let Some(cells) = rows_of(rt.alloc(), &a, &row)? else {
         return Err("broadcasts".into());
     };
-    same(
-        &rt,
-        shown(rt.alloc(), &cells.view())?.as_str(),
-        "[2, 2]: [8, 9, 8, 9]",
-    );
+    shows(&rt, rt.alloc(), &cells.view(), "[2, 2]: [8, 9, 8, 9]")?;
     Ok(())
 }

@@ -2,7 +2,7 @@
 
 use crate::tests::asserted::{holds, same};
 use crate::tests::layouts::layouts;
-use crate::tests::shown::{all_shown, shown};
+use crate::tests::shown::{all_show, shows};
 use ndarray::{ArrayView, Ix0, Ix1, Ix2, IxDyn, ShapeBuilder};
 use std::test::Fail;
 
@@ -12,27 +12,30 @@ fn whole_chunks_leave_the_rest_out(rt: HostRuntime) -> Result<(), Fail> {
         (3, 5),
         &[1i64, 2, 3, 4, 5, 6, 7, 8, 9, 10, 11, 12, 13, 14, 15],
     )?;
-    same(
+    all_show(
         &rt,
-        all_shown(rt.alloc(), view.exact_chunks((2, 2)).into_iter())?.as_str(),
+        rt.alloc(),
+        view.exact_chunks((2, 2)).into_iter(),
         "[2, 2]: [1, 2, 6, 7]; [2, 2]: [3, 4, 8, 9]",
-    );
-    same(
+    )?;
+    all_show(
         &rt,
-        all_shown(rt.alloc(), view.exact_chunks((3, 5)).into_iter())?.as_str(),
+        rt.alloc(),
+        view.exact_chunks((3, 5)).into_iter(),
         "[3, 5]: [1, 2, 3, 4, 5, 6, 7, 8, 9, 10, 11, 12, 13, 14, 15]",
-    );
+    )?;
     Ok(())
 }
 
 #[test]
 fn chunks_come_in_row_order(rt: HostRuntime) -> Result<(), Fail> {
     let view = ArrayView::from_shape((2, 4), &[1i64, 2, 3, 4, 5, 6, 7, 8])?;
-    same(
+    all_show(
         &rt,
-        all_shown(rt.alloc(), view.exact_chunks((1, 2)).into_iter())?.as_str(),
+        rt.alloc(),
+        view.exact_chunks((1, 2)).into_iter(),
         "[1, 2]: [1, 2]; [1, 2]: [3, 4]; [1, 2]: [5, 6]; [1, 2]: [7, 8]",
-    );
+    )?;
     Ok(())
 }
 
@@ -71,11 +74,12 @@ fn each_layout_has_the_same_whole_chunks(rt: HostRuntime) -> Result<(), Fail> {
         if !view.chunks_ok(&Ix2(2, 1)) {
             return Err("chunks".into());
         }
-        same(
+        all_show(
             &rt,
-            all_shown(rt.alloc(), view.exact_chunks(Ix2(2, 1)).into_iter())?.as_str(),
+            rt.alloc(),
+            view.exact_chunks(Ix2(2, 1)).into_iter(),
             "[2, 1]: [1, 4]; [2, 1]: [2, 5]; [2, 1]: [3, 6]",
-        );
+        )?;
     }
     Ok(())
 }
@@ -84,11 +88,12 @@ fn each_layout_has_the_same_whole_chunks(rt: HostRuntime) -> Result<(), Fail> {
 fn whole_chunks_of_a_broadcast_row(rt: HostRuntime) -> Result<(), Fail> {
     let row = ArrayView::from_shape(3, &[1i64, 2, 3])?;
     let rows = row.broadcast((2, 3)).ok_or("broadcast")?;
-    same(
+    all_show(
         &rt,
-        all_shown(rt.alloc(), rows.exact_chunks((2, 2)).into_iter())?.as_str(),
+        rt.alloc(),
+        rows.exact_chunks((2, 2)).into_iter(),
         "[2, 2]: [1, 2, 1, 2]",
-    );
+    )?;
     Ok(())
 }
 
@@ -106,11 +111,12 @@ fn an_empty_axis_has_no_chunks(rt: HostRuntime) -> Result<(), Fail> {
 #[test]
 fn no_axes_are_one_chunk(rt: HostRuntime) -> Result<(), Fail> {
     let view: ArrayView<'_, i64, Ix0> = ArrayView::from_shape((), &[7])?;
-    same(
+    all_show(
         &rt,
-        all_shown(rt.alloc(), view.exact_chunks(()).into_iter())?.as_str(),
+        rt.alloc(),
+        view.exact_chunks(()).into_iter(),
         "[]: [7]",
-    );
+    )?;
     Ok(())
 }
 
@@ -122,11 +128,12 @@ fn whole_chunks_of_a_dimension_known_when_run(rt: HostRuntime) -> Result<(), Fai
     if !view.chunks_ok(&two) {
         return Err("chunks".into());
     }
-    same(
+    all_show(
         &rt,
-        all_shown(rt.alloc(), view.exact_chunks(two).into_iter())?.as_str(),
+        rt.alloc(),
+        view.exact_chunks(two).into_iter(),
         "[2]: [1, 2]",
-    );
+    )?;
     Ok(())
 }
 
@@ -136,10 +143,10 @@ fn the_hint_counts_the_chunks_that_are_left(rt: HostRuntime) -> Result<(), Fail>
     let mut chunks = view.exact_chunks(2).into_iter();
     same(&rt, chunks.size_hint(), (2, Some(2)));
     let first = chunks.next().ok_or("first")?;
-    same(&rt, shown(rt.alloc(), &first)?.as_str(), "[2]: [1, 2]");
+    shows(&rt, rt.alloc(), &first, "[2]: [1, 2]")?;
     same(&rt, chunks.size_hint(), (1, Some(1)));
     let second = chunks.next().ok_or("second")?;
-    same(&rt, shown(rt.alloc(), &second)?.as_str(), "[2]: [3, 4]");
+    shows(&rt, rt.alloc(), &second, "[2]: [3, 4]")?;
     for _ in 0..2 {
         holds(&rt, chunks.next().is_none());
         same(&rt, chunks.size_hint(), (0, Some(0)));
@@ -157,12 +164,13 @@ fn clones_of_chunks_go_on_separately(rt: HostRuntime) -> Result<(), Fail> {
     let left = items.clone()?;
     holds(&rt, items.next().is_some());
     holds(&rt, items.next().is_none());
-    same(&rt, all_shown(rt.alloc(), left)?.as_str(), "[2]: [3, 4]");
-    same(
+    all_show(&rt, rt.alloc(), left, "[2]: [3, 4]")?;
+    all_show(
         &rt,
-        all_shown(rt.alloc(), again.into_iter())?.as_str(),
+        rt.alloc(),
+        again.into_iter(),
         "[2]: [1, 2]; [2]: [3, 4]",
-    );
+    )?;
     Ok(())
 }
 
@@ -199,19 +207,16 @@ fn chunks_of_a_chunk(rt: HostRuntime) -> Result<(), Fail> {
     let view = ArrayView::from_shape((2, 4).f(), &[1i64, 5, 2, 6, 3, 7, 4, 8])?;
     let mut chunks = view.exact_chunks((2, 3)).into_iter();
     let chunk = chunks.next().ok_or("chunk")?;
-    same(
-        &rt,
-        shown(rt.alloc(), &chunk)?.as_str(),
-        "[2, 3]: [1, 2, 3, 5, 6, 7]",
-    );
+    shows(&rt, rt.alloc(), &chunk, "[2, 3]: [1, 2, 3, 5, 6, 7]")?;
     if !chunk.chunks_ok(&Ix2(1, 2)) {
         return Err("chunks".into());
     }
-    same(
+    all_show(
         &rt,
-        all_shown(rt.alloc(), chunk.exact_chunks(Ix2(1, 2)).into_iter())?.as_str(),
+        rt.alloc(),
+        chunk.exact_chunks(Ix2(1, 2)).into_iter(),
         "[1, 2]: [1, 2]; [1, 2]: [5, 6]",
-    );
+    )?;
     holds(&rt, chunks.next().is_none());
     Ok(())
 }

@@ -1,7 +1,6 @@
 //! Loops that write, in code that does not know what keeps the cells.
 
-use crate::tests::asserted::same;
-use crate::tests::shown::shown;
+use crate::tests::shown::shows;
 use ndarray::{Array, ArrayBase, Axis, DataMut, Dimension, RemoveAxis};
 use std::test::Fail;
 
@@ -49,17 +48,9 @@ fn fill_chunks<A: Copy, S: DataMut<Elem = A>, D: Dimension>(array: &mut ArrayBas
 fn lanes_are_begun(rt: HostRuntime) -> Result<(), Fail> {
     let mut array = Array::from_shape_vec((2, 3), vec![in rt.alloc(); 1i64, 2, 3, 4, 5, 6]?)?;
     begin_lanes(&mut array, 7, 8);
-    same(
-        &rt,
-        shown(rt.alloc(), &array.view())?.as_str(),
-        "[2, 3]: [8, 8, 8, 7, 5, 6]",
-    );
+    shows(&rt, rt.alloc(), &array.view(), "[2, 3]: [8, 8, 8, 7, 5, 6]")?;
     begin_lanes(&mut array.view_mut().reversed_axes(), 1, 2);
-    same(
-        &rt,
-        shown(rt.alloc(), &array.view())?.as_str(),
-        "[2, 3]: [2, 1, 1, 2, 5, 6]",
-    );
+    shows(&rt, rt.alloc(), &array.view(), "[2, 3]: [2, 1, 1, 2, 5, 6]")?;
     Ok(())
 }
 
@@ -67,16 +58,8 @@ fn lanes_are_begun(rt: HostRuntime) -> Result<(), Fail> {
 fn items_and_chunks_are_filled(rt: HostRuntime) -> Result<(), Fail> {
     let mut array = Array::from_shape_vec((2, 2), vec![in rt.alloc(); 1i64, 2, 3, 4]?)?;
     fill_items(&mut array, 7);
-    same(
-        &rt,
-        shown(rt.alloc(), &array.view())?.as_str(),
-        "[2, 2]: [7, 7, 7, 7]",
-    );
+    shows(&rt, rt.alloc(), &array.view(), "[2, 2]: [7, 7, 7, 7]")?;
     fill_chunks(&mut array.view_mut().reversed_axes(), 5);
-    same(
-        &rt,
-        shown(rt.alloc(), &array.view())?.as_str(),
-        "[2, 2]: [5, 5, 5, 5]",
-    );
+    shows(&rt, rt.alloc(), &array.view(), "[2, 2]: [5, 5, 5, 5]")?;
     Ok(())
 }

@@ -1,7 +1,7 @@
 //! The cells of arrays to write to, one after another.
 
 use crate::tests::asserted::{holds, same};
-use crate::tests::shown::shown;
+use crate::tests::shown::shows;
 use ndarray::iter::ElementsBaseMut;
 use ndarray::{Array, ArrayViewMut1, Axis, Ix0, Ix1, Ix2, IxDyn, ShapeBuilder, Slice};
 use std::mem;
@@ -15,22 +15,19 @@ fn each_cell_is_written_in_row_order(rt: HostRuntime) -> Result<(), Fail> {
         last = last.wrapping_add(1);
         *cell = last;
     }
-    same(
-        &rt,
-        shown(rt.alloc(), &rows.view())?.as_str(),
-        "[2, 3]: [1, 2, 3, 4, 5, 6]",
-    );
+    shows(&rt, rt.alloc(), &rows.view(), "[2, 3]: [1, 2, 3, 4, 5, 6]")?;
     let mut columns = Array::<i64, Ix2>::zeros(rt.alloc(), (2, 3).f())?;
     last = 0;
     for cell in columns.iter_mut() {
         last = last.wrapping_add(1);
         *cell = last;
     }
-    same(
+    shows(
         &rt,
-        shown(rt.alloc(), &columns.view())?.as_str(),
+        rt.alloc(),
+        &columns.view(),
         "[2, 3]: [1, 2, 3, 4, 5, 6]",
-    );
+    )?;
     Ok(())
 }
 
@@ -45,11 +42,7 @@ fn two_cells_held_together_are_exchanged(rt: HostRuntime) -> Result<(), Fail> {
     mem::swap(first, second);
     drop(cells);
     drop(turned);
-    same(
-        &rt,
-        shown(rt.alloc(), &array.view())?.as_str(),
-        "[2, 2]: [3, 2, 1, 4]",
-    );
+    shows(&rt, rt.alloc(), &array.view(), "[2, 2]: [3, 2, 1, 4]")?;
     Ok(())
 }
 
@@ -64,11 +57,7 @@ fn index_lists_are_written_where_they_are(rt: HostRuntime) -> Result<(), Fail> {
             .wrapping_add(i64::try_from(j)?);
     }
     drop(reversed);
-    same(
-        &rt,
-        shown(rt.alloc(), &array.view())?.as_str(),
-        "[2, 2]: [10, 11, 0, 1]",
-    );
+    shows(&rt, rt.alloc(), &array.view(), "[2, 2]: [10, 11, 0, 1]")?;
     Ok(())
 }
 
@@ -82,11 +71,7 @@ fn both_ends_of_a_step_are_written_and_the_rest_stays(rt: HostRuntime) -> Result
     same(&rt, cells.len(), 1);
     drop(cells);
     drop(steps);
-    same(
-        &rt,
-        shown(rt.alloc(), &array.view())?.as_str(),
-        "[6]: [0, 2, 3, 4, 0, 6]",
-    );
+    shows(&rt, rt.alloc(), &array.view(), "[6]: [0, 2, 3, 4, 0, 6]")?;
     Ok(())
 }
 
@@ -124,22 +109,14 @@ fn a_loop_over_an_array_to_write_in(rt: HostRuntime) -> Result<(), Fail> {
     for cell in &mut array {
         *cell = cell.wrapping_add(1);
     }
-    same(
-        &rt,
-        shown(rt.alloc(), &array.view())?.as_str(),
-        "[2, 2]: [2, 2, 2, 2]",
-    );
+    shows(&rt, rt.alloc(), &array.view(), "[2, 2]: [2, 2, 2, 2]")?;
     let mut other = Array::from_elem(rt.alloc(), (2, 2), 2i64)?;
     let mut view = other.view_mut();
     view.slice_axis_inplace(Axis(1), Slice::new(1, None, 1));
     for cell in view {
         *cell = cell.wrapping_mul(10);
     }
-    same(
-        &rt,
-        shown(rt.alloc(), &other.view())?.as_str(),
-        "[2, 2]: [2, 20, 2, 20]",
-    );
+    shows(&rt, rt.alloc(), &other.view(), "[2, 2]: [2, 20, 2, 20]")?;
     Ok(())
 }
 
@@ -159,10 +136,6 @@ fn steps_of_an_iterator_to_write(rt: HostRuntime) -> Result<(), Fail> {
             .rfold(0i64, |sum, x| sum.wrapping_mul(2).wrapping_add(*x)),
         1281,
     );
-    same(
-        &rt,
-        shown(rt.alloc(), &array.view())?.as_str(),
-        "[5]: [1, 20, 30, 40, 50]",
-    );
+    shows(&rt, rt.alloc(), &array.view(), "[5]: [1, 20, 30, 40, 50]")?;
     Ok(())
 }

@@ -2,7 +2,7 @@
 
 use crate::tests::asserted::{holds, same};
 use crate::tests::layouts::layouts;
-use crate::tests::shown::shown;
+use crate::tests::shown::shows;
 use ndarray::{
     Array, ArrayView, Axis, CowArray, ErrorKind, Ix0, Ix1, Ix2, IxDyn, ShapeBuilder, Slice,
 };
@@ -11,21 +11,18 @@ use std::test::Fail;
 #[test]
 fn a_vector_is_taken_over_in_row_order_or_column_order(rt: HostRuntime) -> Result<(), Fail> {
     let rows = Array::from_shape_vec((2, 3), vec![in rt.alloc(); 1i64, 2, 3, 4, 5, 6]?)?;
-    same(
-        &rt,
-        shown(rt.alloc(), &rows.view())?.as_str(),
-        "[2, 3]: [1, 2, 3, 4, 5, 6]",
-    );
+    shows(&rt, rt.alloc(), &rows.view(), "[2, 3]: [1, 2, 3, 4, 5, 6]")?;
     let columns = Array::from_shape_vec((2, 3).f(), vec![in rt.alloc(); 1i64, 4, 2, 5, 3, 6]?)?;
-    same(
+    shows(
         &rt,
-        shown(rt.alloc(), &columns.view())?.as_str(),
+        rt.alloc(),
+        &columns.view(),
         "[2, 3]: [1, 2, 3, 4, 5, 6]",
-    );
+    )?;
     let one = Array::from_shape_vec((), vec![in rt.alloc(); 7i64]?)?;
-    same(&rt, shown(rt.alloc(), &one.view())?.as_str(), "[]: [7]");
+    shows(&rt, rt.alloc(), &one.view(), "[]: [7]")?;
     let none = Array::from_shape_vec((3, 0), Vec::<i64>::new(rt.alloc()))?;
-    same(&rt, shown(rt.alloc(), &none.view())?.as_str(), "[3, 0]: []");
+    shows(&rt, rt.alloc(), &none.view(), "[3, 0]: []")?;
     Ok(())
 }
 
@@ -52,27 +49,20 @@ fn a_vector_of_another_length_is_refused(rt: HostRuntime) -> Result<(), Fail> {
 #[test]
 fn one_element_in_each_cell(rt: HostRuntime) -> Result<(), Fail> {
     let sevens = Array::from_elem(rt.alloc(), (2, 1), 7i64)?;
-    same(
-        &rt,
-        shown(rt.alloc(), &sevens.view())?.as_str(),
-        "[2, 1]: [7, 7]",
-    );
+    shows(&rt, rt.alloc(), &sevens.view(), "[2, 1]: [7, 7]")?;
     let zeros = Array::<i64, Ix1>::zeros(rt.alloc(), 2)?;
-    same(
-        &rt,
-        shown(rt.alloc(), &zeros.view())?.as_str(),
-        "[2]: [0, 0]",
-    );
+    shows(&rt, rt.alloc(), &zeros.view(), "[2]: [0, 0]")?;
     let columns = Array::<i64, Ix2>::zeros(rt.alloc(), (2, 3).f())?;
-    same(
+    shows(
         &rt,
-        shown(rt.alloc(), &columns.view())?.as_str(),
+        rt.alloc(),
+        &columns.view(),
         "[2, 3]: [0, 0, 0, 0, 0, 0]",
-    );
+    )?;
     let none = Array::<i64, Ix2>::zeros(rt.alloc(), (0, 3))?;
-    same(&rt, shown(rt.alloc(), &none.view())?.as_str(), "[0, 3]: []");
+    shows(&rt, rt.alloc(), &none.view(), "[0, 3]: []")?;
     let one = Array::<i64, Ix0>::from_elem(rt.alloc(), (), 4)?;
-    same(&rt, shown(rt.alloc(), &one.view())?.as_str(), "[]: [4]");
+    shows(&rt, rt.alloc(), &one.view(), "[]: [4]")?;
     let many = Array::<i64, IxDyn>::zeros(rt.alloc(), IxDyn(&[1, 1, 1, 1, 1, 1, 2]))?;
     same(&rt, many.len(), 2);
     Ok(())
@@ -82,20 +72,17 @@ fn one_element_in_each_cell(rt: HostRuntime) -> Result<(), Fail> {
 fn each_layout_has_the_same_copy(rt: HostRuntime) -> Result<(), Fail> {
     for view in &layouts()? {
         let copy = view.to_owned(rt.alloc())?;
-        same(
-            &rt,
-            shown(rt.alloc(), &copy.view())?.as_str(),
-            "[2, 3]: [1, 2, 3, 4, 5, 6]",
-        );
+        shows(&rt, rt.alloc(), &copy.view(), "[2, 3]: [1, 2, 3, 4, 5, 6]")?;
         let turned = view.t().to_owned(rt.alloc())?;
-        same(
+        shows(
             &rt,
-            shown(rt.alloc(), &turned.view())?.as_str(),
+            rt.alloc(),
+            &turned.view(),
             "[3, 2]: [1, 4, 2, 5, 3, 6]",
-        );
+        )?;
     }
     let none = ArrayView::from_shape((0, 2), &[0i64; 0])?.to_owned(rt.alloc())?;
-    same(&rt, shown(rt.alloc(), &none.view())?.as_str(), "[0, 2]: []");
+    shows(&rt, rt.alloc(), &none.view(), "[0, 2]: []")?;
     Ok(())
 }
 
@@ -103,37 +90,17 @@ fn each_layout_has_the_same_copy(rt: HostRuntime) -> Result<(), Fail> {
 fn a_view_or_an_array_that_may_be_owned(rt: HostRuntime) -> Result<(), Fail> {
     let source = [1i64, 2];
     let borrowed = CowArray::from(ArrayView::from_shape(2, &source)?);
-    same(
-        &rt,
-        shown(rt.alloc(), &borrowed.view())?.as_str(),
-        "[2]: [1, 2]",
-    );
+    shows(&rt, rt.alloc(), &borrowed.view(), "[2]: [1, 2]")?;
     let copy = borrowed.into_owned(rt.alloc())?;
-    same(
-        &rt,
-        shown(rt.alloc(), &copy.view())?.as_str(),
-        "[2]: [1, 2]",
-    );
+    shows(&rt, rt.alloc(), &copy.view(), "[2]: [1, 2]")?;
     let mut array = Array::from_shape_vec((1, 2), vec![in rt.alloc(); 3i64, 4]?)?;
     array.swap_axes(0, 1);
     let owned = CowArray::from(array);
-    same(
-        &rt,
-        shown(rt.alloc(), &owned.view())?.as_str(),
-        "[2, 1]: [3, 4]",
-    );
+    shows(&rt, rt.alloc(), &owned.view(), "[2, 1]: [3, 4]")?;
     let taken = owned.into_owned(rt.alloc())?;
-    same(
-        &rt,
-        shown(rt.alloc(), &taken.view())?.as_str(),
-        "[2, 1]: [3, 4]",
-    );
+    shows(&rt, rt.alloc(), &taken.view(), "[2, 1]: [3, 4]")?;
     let again = taken.into_owned(rt.alloc())?;
-    same(
-        &rt,
-        shown(rt.alloc(), &again.view())?.as_str(),
-        "[2, 1]: [3, 4]",
-    );
+    shows(&rt, rt.alloc(), &again.view(), "[2, 1]: [3, 4]")?;
     same(&rt, source, [1, 2]);
     Ok(())
 }
@@ -144,11 +111,7 @@ fn what_is_written_is_the_cell_there_and_all_others_stay(rt: HostRuntime) -> Res
     if let Some(cell) = array.get_mut((1, 0)) {
         *cell = 7;
     }
-    same(
-        &rt,
-        shown(rt.alloc(), &array.view())?.as_str(),
-        "[2, 3]: [0, 0, 0, 7, 0, 0]",
-    );
+    shows(&rt, rt.alloc(), &array.view(), "[2, 3]: [0, 0, 0, 7, 0, 0]")?;
     holds(&rt, array.get_mut((0, 3)).is_none());
     holds(&rt, array.get_mut((2, 0)).is_none());
     let mut columns = Array::<i64, Ix2>::zeros(rt.alloc(), (2, 3).f())?;
@@ -159,11 +122,12 @@ fn what_is_written_is_the_cell_there_and_all_others_stay(rt: HostRuntime) -> Res
     if let Some(cell) = columns.get_mut((1, 2)) {
         *cell = 8;
     }
-    same(
+    shows(
         &rt,
-        shown(rt.alloc(), &columns.view())?.as_str(),
+        rt.alloc(),
+        &columns.view(),
         "[2, 3]: [0, 5, 0, 0, 0, 8]",
-    );
+    )?;
     let mut one = Array::<i64, Ix0>::zeros(rt.alloc(), ())?;
     if let Some(cell) = one.get_mut(()) {
         *cell = 3;
@@ -176,25 +140,13 @@ fn what_is_written_is_the_cell_there_and_all_others_stay(rt: HostRuntime) -> Res
 fn a_slice_in_place_hides_cells(rt: HostRuntime) -> Result<(), Fail> {
     let mut array = Array::from_shape_vec(6, vec![in rt.alloc(); 1i64, 2, 3, 4, 5, 6]?)?;
     array.slice_axis_inplace(Axis(0), Slice::new(1, None, 2));
-    same(
-        &rt,
-        shown(rt.alloc(), &array.view())?.as_str(),
-        "[3]: [2, 4, 6]",
-    );
+    shows(&rt, rt.alloc(), &array.view(), "[3]: [2, 4, 6]")?;
     if let Some(cell) = array.get_mut(1) {
         *cell = 0;
     }
-    same(
-        &rt,
-        shown(rt.alloc(), &array.view())?.as_str(),
-        "[3]: [2, 0, 6]",
-    );
+    shows(&rt, rt.alloc(), &array.view(), "[3]: [2, 0, 6]")?;
     let copy = array.to_owned(rt.alloc())?;
-    same(
-        &rt,
-        shown(rt.alloc(), &copy.view())?.as_str(),
-        "[3]: [2, 0, 6]",
-    );
+    shows(&rt, rt.alloc(), &copy.view(), "[3]: [2, 0, 6]")?;
     Ok(())
 }
 

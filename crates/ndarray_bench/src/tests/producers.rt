@@ -1,7 +1,7 @@
 //! What can be walked together, each kind of producer at a concrete type.
 
 use crate::tests::asserted::same;
-use crate::tests::shown::shown;
+use crate::tests::shown::shows;
 use ndarray::{Array, ArrayView, ArrayView1, Axis, Ix2, Zip, azip};
 use std::test::Fail;
 
@@ -53,26 +53,19 @@ fn the_items_still_to_come_along_an_axis(rt: HostRuntime) -> Result<(), Fail> {
 fn chunks_and_windows(rt: HostRuntime) -> Result<(), Fail> {
     let view = ArrayView::from_shape(6, SIX)?;
     let pairs = Zip::from(view.exact_chunks(2)).map_collect(rt.alloc(), |chunk| digits(&chunk))?;
-    same(
-        &rt,
-        shown(rt.alloc(), &pairs.view())?.as_str(),
-        "[3]: [12, 34, 56]",
-    );
+    shows(&rt, rt.alloc(), &pairs.view(), "[3]: [12, 34, 56]")?;
     let triples = Zip::from(view.windows(3)).map_collect(rt.alloc(), |window| digits(&window))?;
-    same(
+    shows(
         &rt,
-        shown(rt.alloc(), &triples.view())?.as_str(),
+        rt.alloc(),
+        &triples.view(),
         "[4]: [123, 234, 345, 456]",
-    );
+    )?;
     let steps = Zip::from(view.axis_windows_with_stride(Axis(0), 2, 3)).map_collect(
         rt.alloc(),
         |window| digits(&window),
     )?;
-    same(
-        &rt,
-        shown(rt.alloc(), &steps.view())?.as_str(),
-        "[2]: [12, 45]",
-    );
+    shows(&rt, rt.alloc(), &steps.view(), "[2]: [12, 45]")?;
     Ok(())
 }
 
@@ -81,28 +74,31 @@ fn an_array_is_written_beside_arrays_read(rt: HostRuntime) -> Result<(), Fail> {
     let mut sums = Array::<i64, Ix2>::zeros(rt.alloc(), (2, 3))?;
     let a = ArrayView::from_shape((2, 3), SIX)?;
     let b = a.t();
-    if Zip::from(&mut sums).fits(&a) {
+    if Zip::from(&a).fits(&sums.view()) {
         azip!((s in &mut sums, &x in &a) *s = x.wrapping_mul(10));
-        same(
+        shows(
             &rt,
-            shown(rt.alloc(), &sums.view())?.as_str(),
+            rt.alloc(),
+            &sums.view(),
             "[2, 3]: [10, 20, 30, 40, 50, 60]",
-        );
+        )?;
     }
-    if Zip::from(sums.view_mut().reversed_axes()).fits(&b) {
+    if Zip::from(&b).fits(&sums.view().reversed_axes()) {
         azip!((s in sums.view_mut().reversed_axes(), &x in &b) *s = s.wrapping_add(x));
-        same(
+        shows(
             &rt,
-            shown(rt.alloc(), &sums.view())?.as_str(),
+            rt.alloc(),
+            &sums.view(),
             "[2, 3]: [11, 22, 33, 44, 55, 66]",
-        );
+        )?;
     }
     azip!((index (i, j), s in &mut sums) *s = s.wrapping_add(if i == j { 100 } else { 0 }));
-    same(
+    shows(
         &rt,
-        shown(rt.alloc(), &sums.view())?.as_str(),
+        rt.alloc(),
+        &sums.view(),
         "[2, 3]: [111, 22, 33, 44, 155, 66]",
-    );
+    )?;
     Ok(())
 }
 
@@ -114,11 +110,7 @@ fn lanes_and_items_are_written(rt: HostRuntime) -> Result<(), Fail> {
             *cell = if i == 0 { 1 } else { 2 };
         }
     });
-    same(
-        &rt,
-        shown(rt.alloc(), &table.view())?.as_str(),
-        "[2, 3]: [1, 1, 1, 2, 2, 2]",
-    );
+    shows(&rt, rt.alloc(), &table.view(), "[2, 3]: [1, 1, 1, 2, 2, 2]")?;
     if table.axis_ok(Axis(1)) {
         Zip::indexed(table.axis_iter_mut(Axis(1))).for_each(|j, mut column| {
             for cell in column.iter_mut() {
@@ -126,10 +118,6 @@ fn lanes_and_items_are_written(rt: HostRuntime) -> Result<(), Fail> {
             }
         });
     }
-    same(
-        &rt,
-        shown(rt.alloc(), &table.view())?.as_str(),
-        "[2, 3]: [1, 1, 8, 2, 2, 9]",
-    );
+    shows(&rt, rt.alloc(), &table.view(), "[2, 3]: [1, 1, 8, 2, 2, 9]")?;
     Ok(())
 }

@@ -2,7 +2,7 @@
 
 use crate::tests::asserted::{holds, same};
 use crate::tests::layouts::layouts;
-use crate::tests::shown::shown;
+use crate::tests::shown::shows;
 use ndarray::{ArrayView, Axis, ErrorKind, Ix0, Ix1, Ix2, Ix3, IxDyn, Slice};
 use std::test::Fail;
 
@@ -24,7 +24,7 @@ fn every_second_index_and_back(rt: HostRuntime) -> Result<(), Fail> {
             return Err("slice".into());
         }
         let part = view.slice_axis(Axis(0), *slice);
-        same(&rt, shown(rt.alloc(), &part)?.as_str(), *want);
+        shows(&rt, rt.alloc(), &part, *want)?;
     }
     Ok(())
 }
@@ -43,7 +43,7 @@ fn negative_ends_count_from_the_length(rt: HostRuntime) -> Result<(), Fail> {
             return Err("slice".into());
         }
         let part = view.slice_axis(Axis(0), *slice);
-        same(&rt, shown(rt.alloc(), &part)?.as_str(), *want);
+        shows(&rt, rt.alloc(), &part, *want)?;
     }
     Ok(())
 }
@@ -63,7 +63,7 @@ fn slices_that_take_nothing(rt: HostRuntime) -> Result<(), Fail> {
             return Err("slice".into());
         }
         let part = view.slice_axis(Axis(0), *slice);
-        same(&rt, shown(rt.alloc(), &part)?.as_str(), "[0]: []");
+        shows(&rt, rt.alloc(), &part, "[0]: []")?;
     }
     Ok(())
 }
@@ -82,7 +82,7 @@ fn the_largest_steps_take_one_index(rt: HostRuntime) -> Result<(), Fail> {
             return Err("slice".into());
         }
         let part = view.slice_axis(Axis(0), *slice);
-        same(&rt, shown(rt.alloc(), &part)?.as_str(), *want);
+        shows(&rt, rt.alloc(), &part, *want)?;
     }
     Ok(())
 }
@@ -133,16 +133,8 @@ fn a_slice_of_one_axis_leaves_the_others(rt: HostRuntime) -> Result<(), Fail> {
             return Err("slice".into());
         }
         let part = view.slice_axis(Axis(1), last);
-        same(
-            &rt,
-            shown(rt.alloc(), &part)?.as_str(),
-            "[2, 2]: [2, 3, 5, 6]",
-        );
-        same(
-            &rt,
-            shown(rt.alloc(), view)?.as_str(),
-            "[2, 3]: [1, 2, 3, 4, 5, 6]",
-        );
+        shows(&rt, rt.alloc(), &part, "[2, 2]: [2, 3, 5, 6]")?;
+        shows(&rt, rt.alloc(), view, "[2, 3]: [1, 2, 3, 4, 5, 6]")?;
     }
     Ok(())
 }
@@ -155,13 +147,13 @@ fn a_view_is_sliced_in_place_again_and_again(rt: HostRuntime) -> Result<(), Fail
         return Err("slice".into());
     }
     view.slice_axis_inplace(Axis(0), second);
-    same(&rt, shown(rt.alloc(), &view)?.as_str(), "[4]: [1, 3, 5, 7]");
+    shows(&rt, rt.alloc(), &view, "[4]: [1, 3, 5, 7]")?;
     let back = Slice::new(1, None, -2);
     if !view.slice_ok(Axis(0), &back) {
         return Err("slice".into());
     }
     view.slice_axis_inplace(Axis(0), back);
-    same(&rt, shown(rt.alloc(), &view)?.as_str(), "[2]: [7, 3]");
+    shows(&rt, rt.alloc(), &view, "[2]: [7, 3]")?;
     Ok(())
 }
 
@@ -174,11 +166,7 @@ fn a_slice_of_a_broadcast_axis(rt: HostRuntime) -> Result<(), Fail> {
         return Err("slice".into());
     }
     let part = rows.slice_axis(Axis(0), slice);
-    same(
-        &rt,
-        shown(rt.alloc(), &part)?.as_str(),
-        "[2, 2]: [1, 2, 1, 2]",
-    );
+    shows(&rt, rt.alloc(), &part, "[2, 2]: [1, 2, 1, 2]")?;
     Ok(())
 }
 
@@ -186,11 +174,11 @@ fn a_slice_of_a_broadcast_axis(rt: HostRuntime) -> Result<(), Fail> {
 fn an_item_of_an_axis(rt: HostRuntime) -> Result<(), Fail> {
     let view = ArrayView::from_shape((2, 3), &[1i64, 2, 3, 4, 5, 6])?;
     let row = view.index_axis(Axis(0), 1);
-    same(&rt, shown(rt.alloc(), &row)?.as_str(), "[3]: [4, 5, 6]");
+    shows(&rt, rt.alloc(), &row, "[3]: [4, 5, 6]")?;
     let column = view.index_axis(Axis(1), 2);
-    same(&rt, shown(rt.alloc(), &column)?.as_str(), "[2]: [3, 6]");
+    shows(&rt, rt.alloc(), &column, "[2]: [3, 6]")?;
     let cell = row.index_axis(Axis(0), 0);
-    same(&rt, shown(rt.alloc(), &cell)?.as_str(), "[]: [4]");
+    shows(&rt, rt.alloc(), &cell, "[]: [4]")?;
     Ok(())
 }
 
@@ -201,7 +189,7 @@ fn each_layout_has_the_same_item(rt: HostRuntime) -> Result<(), Fail> {
             return Err("axis".into());
         }
         let column = view.index_axis(Axis(1), 2);
-        same(&rt, shown(rt.alloc(), &column)?.as_str(), "[2]: [3, 6]");
+        shows(&rt, rt.alloc(), &column, "[2]: [3, 6]")?;
     }
     Ok(())
 }
@@ -209,27 +197,26 @@ fn each_layout_has_the_same_item(rt: HostRuntime) -> Result<(), Fail> {
 #[test]
 fn an_axis_of_length_one_is_put_in(rt: HostRuntime) -> Result<(), Fail> {
     let view = ArrayView::from_shape((2, 2), &[1i64, 2, 3, 4])?;
-    same(
+    shows(
         &rt,
-        shown(rt.alloc(), &view.view().insert_axis(Axis(0)))?.as_str(),
+        rt.alloc(),
+        &view.view().insert_axis(Axis(0)),
         "[1, 2, 2]: [1, 2, 3, 4]",
-    );
-    same(
+    )?;
+    shows(
         &rt,
-        shown(rt.alloc(), &view.t().insert_axis(Axis(1)))?.as_str(),
+        rt.alloc(),
+        &view.t().insert_axis(Axis(1)),
         "[2, 1, 2]: [1, 3, 2, 4]",
-    );
-    same(
+    )?;
+    shows(
         &rt,
-        shown(rt.alloc(), &view.insert_axis(Axis(2)))?.as_str(),
+        rt.alloc(),
+        &view.insert_axis(Axis(2)),
         "[2, 2, 1]: [1, 2, 3, 4]",
-    );
+    )?;
     let no_axes: ArrayView<'_, i64, Ix0> = ArrayView::from_shape((), &[7])?;
-    same(
-        &rt,
-        shown(rt.alloc(), &no_axes.insert_axis(Axis(0)))?.as_str(),
-        "[1]: [7]",
-    );
+    shows(&rt, rt.alloc(), &no_axes.insert_axis(Axis(0)), "[1]: [7]")?;
     Ok(())
 }
 
@@ -237,11 +224,7 @@ fn an_axis_of_length_one_is_put_in(rt: HostRuntime) -> Result<(), Fail> {
 fn a_seventh_axis_is_put_in(rt: HostRuntime) -> Result<(), Fail> {
     let view = ArrayView::from_shape((1, 1, 1, 1, 1, 2), &[1i64, 2])?;
     let seven = view.insert_axis(Axis(6));
-    same(
-        &rt,
-        shown(rt.alloc(), &seven)?.as_str(),
-        "[1, 1, 1, 1, 1, 2, 1]: [1, 2]",
-    );
+    shows(&rt, rt.alloc(), &seven, "[1, 1, 1, 1, 1, 2, 1]: [1, 2]")?;
     Ok(())
 }
 
@@ -249,17 +232,9 @@ fn a_seventh_axis_is_put_in(rt: HostRuntime) -> Result<(), Fail> {
 fn the_same_cells_under_another_dimension(rt: HostRuntime) -> Result<(), Fail> {
     let view = ArrayView::from_shape((2, 2), &[1i64, 2, 3, 4])?;
     let any = view.t().into_dimensionality::<IxDyn>()?;
-    same(
-        &rt,
-        shown(rt.alloc(), &any)?.as_str(),
-        "[2, 2]: [1, 3, 2, 4]",
-    );
+    shows(&rt, rt.alloc(), &any, "[2, 2]: [1, 3, 2, 4]")?;
     let back = any.into_dimensionality::<Ix2>()?;
-    same(
-        &rt,
-        shown(rt.alloc(), &back)?.as_str(),
-        "[2, 2]: [1, 3, 2, 4]",
-    );
+    shows(&rt, rt.alloc(), &back, "[2, 2]: [1, 3, 2, 4]")?;
     let fewer = view.view().into_dimensionality::<Ix1>();
     same(
         &rt,
@@ -279,23 +254,11 @@ fn the_same_cells_under_another_dimension(rt: HostRuntime) -> Result<(), Fail> {
 fn two_axes_are_exchanged(rt: HostRuntime) -> Result<(), Fail> {
     let mut view = ArrayView::from_shape((1, 2, 3), &[1i64, 2, 3, 4, 5, 6])?;
     view.swap_axes(0, 2);
-    same(
-        &rt,
-        shown(rt.alloc(), &view)?.as_str(),
-        "[3, 2, 1]: [1, 4, 2, 5, 3, 6]",
-    );
+    shows(&rt, rt.alloc(), &view, "[3, 2, 1]: [1, 4, 2, 5, 3, 6]")?;
     view.swap_axes(1, 1);
-    same(
-        &rt,
-        shown(rt.alloc(), &view)?.as_str(),
-        "[3, 2, 1]: [1, 4, 2, 5, 3, 6]",
-    );
+    shows(&rt, rt.alloc(), &view, "[3, 2, 1]: [1, 4, 2, 5, 3, 6]")?;
     view.swap_axes(1, 0);
-    same(
-        &rt,
-        shown(rt.alloc(), &view)?.as_str(),
-        "[2, 3, 1]: [1, 2, 3, 4, 5, 6]",
-    );
+    shows(&rt, rt.alloc(), &view, "[2, 3, 1]: [1, 2, 3, 4, 5, 6]")?;
     Ok(())
 }
 
@@ -303,26 +266,14 @@ fn two_axes_are_exchanged(rt: HostRuntime) -> Result<(), Fail> {
 fn a_view_is_split_at_each_place(rt: HostRuntime) -> Result<(), Fail> {
     let view = ArrayView::from_shape((2, 3), &[1i64, 2, 3, 4, 5, 6])?;
     let (first, second) = view.view().split_at(Axis(1), 1);
-    same(&rt, shown(rt.alloc(), &first)?.as_str(), "[2, 1]: [1, 4]");
-    same(
-        &rt,
-        shown(rt.alloc(), &second)?.as_str(),
-        "[2, 2]: [2, 3, 5, 6]",
-    );
+    shows(&rt, rt.alloc(), &first, "[2, 1]: [1, 4]")?;
+    shows(&rt, rt.alloc(), &second, "[2, 2]: [2, 3, 5, 6]")?;
     let (first, second) = view.view().split_at(Axis(0), 0);
-    same(&rt, shown(rt.alloc(), &first)?.as_str(), "[0, 3]: []");
-    same(
-        &rt,
-        shown(rt.alloc(), &second)?.as_str(),
-        "[2, 3]: [1, 2, 3, 4, 5, 6]",
-    );
+    shows(&rt, rt.alloc(), &first, "[0, 3]: []")?;
+    shows(&rt, rt.alloc(), &second, "[2, 3]: [1, 2, 3, 4, 5, 6]")?;
     let (first, second) = view.split_at(Axis(0), 2);
-    same(
-        &rt,
-        shown(rt.alloc(), &first)?.as_str(),
-        "[2, 3]: [1, 2, 3, 4, 5, 6]",
-    );
-    same(&rt, shown(rt.alloc(), &second)?.as_str(), "[0, 3]: []");
+    shows(&rt, rt.alloc(), &first, "[2, 3]: [1, 2, 3, 4, 5, 6]")?;
+    shows(&rt, rt.alloc(), &second, "[0, 3]: []")?;
     Ok(())
 }
 
@@ -333,12 +284,8 @@ fn each_layout_is_split_into_the_same_parts(rt: HostRuntime) -> Result<(), Fail>
             return Err("axis".into());
         }
         let (first, second) = view.view().split_at(Axis(1), 1);
-        same(&rt, shown(rt.alloc(), &first)?.as_str(), "[2, 1]: [1, 4]");
-        same(
-            &rt,
-            shown(rt.alloc(), &second)?.as_str(),
-            "[2, 2]: [2, 3, 5, 6]",
-        );
+        shows(&rt, rt.alloc(), &first, "[2, 1]: [1, 4]")?;
+        shows(&rt, rt.alloc(), &second, "[2, 2]: [2, 3, 5, 6]")?;
     }
     Ok(())
 }
@@ -348,15 +295,15 @@ fn an_empty_axis_is_turned_and_sliced(rt: HostRuntime) -> Result<(), Fail> {
     let none: [i64; 0] = [];
     let mut view = ArrayView::from_shape((0, 2), &none)?;
     view.invert_axis(Axis(0));
-    same(&rt, shown(rt.alloc(), &view)?.as_str(), "[0, 2]: []");
+    shows(&rt, rt.alloc(), &view, "[0, 2]: []")?;
     let back = Slice::new(0, None, -1);
     if !view.slice_ok(Axis(0), &back) {
         return Err("slice".into());
     }
     view.slice_axis_inplace(Axis(0), back);
     view.invert_axis(Axis(1));
-    same(&rt, shown(rt.alloc(), &view)?.as_str(), "[0, 2]: []");
+    shows(&rt, rt.alloc(), &view, "[0, 2]: []")?;
     let column = view.index_axis(Axis(1), 1);
-    same(&rt, shown(rt.alloc(), &column)?.as_str(), "[0]: []");
+    shows(&rt, rt.alloc(), &column, "[0]: []")?;
     Ok(())
 }

@@ -2,20 +2,21 @@
 
 use crate::tests::asserted::{holds, same};
 use crate::tests::layouts::layouts;
-use crate::tests::shown::{all_shown, shown};
+use crate::tests::shown::{all_show, shows};
 use ndarray::{ArrayView, Axis, Ix0, Ix2, IxDyn};
 use std::test::Fail;
 
 #[test]
 fn the_items_of_an_axis_are_its_columns(rt: HostRuntime) -> Result<(), Fail> {
     let view = ArrayView::from_shape((2, 3), &[1i64, 2, 3, 4, 5, 6])?;
-    same(
+    all_show(
         &rt,
-        all_shown(rt.alloc(), view.axis_iter(Axis(1)))?.as_str(),
+        rt.alloc(),
+        view.axis_iter(Axis(1)),
         "[2]: [1, 4]; [2]: [2, 5]; [2]: [3, 6]",
-    );
+    )?;
     let last = view.axis_iter(Axis(1)).next_back().ok_or("last")?;
-    same(&rt, shown(rt.alloc(), &last)?.as_str(), "[2]: [3, 6]");
+    shows(&rt, rt.alloc(), &last, "[2]: [3, 6]")?;
     Ok(())
 }
 
@@ -25,19 +26,21 @@ fn each_layout_has_the_same_items(rt: HostRuntime) -> Result<(), Fail> {
         if !view.axis_ok(Axis(1)) {
             return Err("axis".into());
         }
-        same(
+        all_show(
             &rt,
-            all_shown(rt.alloc(), view.axis_iter(Axis(1)))?.as_str(),
+            rt.alloc(),
+            view.axis_iter(Axis(1)),
             "[2]: [1, 4]; [2]: [2, 5]; [2]: [3, 6]",
-        );
+        )?;
         if !view.axis_ok(Axis(0)) {
             return Err("axis".into());
         }
-        same(
+        all_show(
             &rt,
-            all_shown(rt.alloc(), view.outer_iter())?.as_str(),
+            rt.alloc(),
+            view.outer_iter(),
             "[3]: [1, 2, 3]; [3]: [4, 5, 6]",
-        );
+        )?;
     }
     Ok(())
 }
@@ -48,16 +51,18 @@ fn each_layout_has_the_same_items_from_the_back(rt: HostRuntime) -> Result<(), F
         if !view.axis_ok(Axis(1)) || !view.chunk_ok(Axis(1), 2) {
             return Err("axis".into());
         }
-        same(
+        all_show(
             &rt,
-            all_shown(rt.alloc(), view.axis_iter(Axis(1)).rev())?.as_str(),
+            rt.alloc(),
+            view.axis_iter(Axis(1)).rev(),
             "[2]: [3, 6]; [2]: [2, 5]; [2]: [1, 4]",
-        );
-        same(
+        )?;
+        all_show(
             &rt,
-            all_shown(rt.alloc(), view.axis_chunks_iter(Axis(1), 2).rev())?.as_str(),
+            rt.alloc(),
+            view.axis_chunks_iter(Axis(1), 2).rev(),
             "[2, 1]: [3, 6]; [2, 2]: [1, 2, 4, 5]",
-        );
+        )?;
     }
     Ok(())
 }
@@ -66,16 +71,18 @@ fn each_layout_has_the_same_items_from_the_back(rt: HostRuntime) -> Result<(), F
 fn a_broadcast_axis_repeats_its_item(rt: HostRuntime) -> Result<(), Fail> {
     let row = ArrayView::from_shape(3, &[1i64, 2, 3])?;
     let rows = row.broadcast((2, 3)).ok_or("broadcast")?;
-    same(
+    all_show(
         &rt,
-        all_shown(rt.alloc(), rows.axis_iter(Axis(0)))?.as_str(),
+        rt.alloc(),
+        rows.axis_iter(Axis(0)),
         "[3]: [1, 2, 3]; [3]: [1, 2, 3]",
-    );
-    same(
+    )?;
+    all_show(
         &rt,
-        all_shown(rt.alloc(), rows.axis_iter(Axis(1)))?.as_str(),
+        rt.alloc(),
+        rows.axis_iter(Axis(1)),
         "[2]: [1, 1]; [2]: [2, 2]; [2]: [3, 3]",
-    );
+    )?;
     Ok(())
 }
 
@@ -85,22 +92,14 @@ fn an_empty_axis_has_no_items_and_empties_the_others(rt: HostRuntime) -> Result<
     let view = ArrayView::from_shape((2, 0), &none)?;
     same(&rt, view.axis_iter(Axis(1)).len(), 0);
     holds(&rt, view.axis_iter(Axis(1)).next().is_none());
-    same(
-        &rt,
-        all_shown(rt.alloc(), view.axis_iter(Axis(0)))?.as_str(),
-        "[0]: []; [0]: []",
-    );
+    all_show(&rt, rt.alloc(), view.axis_iter(Axis(0)), "[0]: []; [0]: []")?;
     Ok(())
 }
 
 #[test]
 fn the_items_of_one_axis_are_cells_of_no_axes(rt: HostRuntime) -> Result<(), Fail> {
     let view = ArrayView::from_shape(2, &[7i64, 8])?;
-    same(
-        &rt,
-        all_shown(rt.alloc(), view.axis_iter(Axis(0)))?.as_str(),
-        "[]: [7]; []: [8]",
-    );
+    all_show(&rt, rt.alloc(), view.axis_iter(Axis(0)), "[]: [7]; []: [8]")?;
     Ok(())
 }
 
@@ -111,11 +110,12 @@ fn items_of_a_dimension_known_when_run(rt: HostRuntime) -> Result<(), Fail> {
     if !view.axis_ok(Axis(2)) {
         return Err("axis".into());
     }
-    same(
+    all_show(
         &rt,
-        all_shown(rt.alloc(), view.axis_iter(Axis(2)))?.as_str(),
+        rt.alloc(),
+        view.axis_iter(Axis(2)),
         "[2, 1]: [1, 3]; [2, 1]: [2, 4]",
-    );
+    )?;
     Ok(())
 }
 
@@ -125,13 +125,13 @@ fn both_ends_of_the_items_meet(rt: HostRuntime) -> Result<(), Fail> {
     let mut items = view.axis_iter(Axis(0));
     same(&rt, items.len(), 3);
     let first = items.next().ok_or("first")?;
-    same(&rt, shown(rt.alloc(), &first)?.as_str(), "[2]: [1, 2]");
+    shows(&rt, rt.alloc(), &first, "[2]: [1, 2]")?;
     same(&rt, items.len(), 2);
     let last = items.next_back().ok_or("last")?;
-    same(&rt, shown(rt.alloc(), &last)?.as_str(), "[2]: [5, 6]");
+    shows(&rt, rt.alloc(), &last, "[2]: [5, 6]")?;
     same(&rt, items.size_hint(), (1, Some(1)));
     let middle = items.next_back().ok_or("middle")?;
-    same(&rt, shown(rt.alloc(), &middle)?.as_str(), "[2]: [3, 4]");
+    shows(&rt, rt.alloc(), &middle, "[2]: [3, 4]")?;
     for _ in 0..2 {
         holds(&rt, items.next().is_none());
         holds(&rt, items.next_back().is_none());
@@ -147,12 +147,8 @@ fn a_clone_of_begun_items_goes_on_separately(rt: HostRuntime) -> Result<(), Fail
     holds(&rt, items.next().is_some());
     let again = items.clone()?;
     holds(&rt, items.next_back().is_some());
-    same(
-        &rt,
-        all_shown(rt.alloc(), again)?.as_str(),
-        "[]: [2]; []: [3]",
-    );
-    same(&rt, all_shown(rt.alloc(), items)?.as_str(), "[]: [2]");
+    all_show(&rt, rt.alloc(), again, "[]: [2]; []: [3]")?;
+    all_show(&rt, rt.alloc(), items, "[]: [2]")?;
     Ok(())
 }
 
@@ -164,12 +160,8 @@ fn items_are_split_at_each_place(rt: HostRuntime) -> Result<(), Fail> {
     let (first, second) = view.axis_iter(Axis(0)).split_at(3);
     same(&rt, (first.len(), second.len()), (3, 0));
     let (first, second) = view.axis_iter(Axis(0)).split_at(1);
-    same(&rt, all_shown(rt.alloc(), first)?.as_str(), "[]: [1]");
-    same(
-        &rt,
-        all_shown(rt.alloc(), second)?.as_str(),
-        "[]: [2]; []: [3]",
-    );
+    all_show(&rt, rt.alloc(), first, "[]: [1]")?;
+    all_show(&rt, rt.alloc(), second, "[]: [2]; []: [3]")?;
     Ok(())
 }
 
@@ -183,8 +175,8 @@ fn begun_items_are_split_after_the_ones_taken(rt: HostRuntime) -> Result<(), Fai
         return Err("items".into());
     }
     let (first, second) = items.split_at(1);
-    same(&rt, all_shown(rt.alloc(), first)?.as_str(), "[]: [2]");
-    same(&rt, all_shown(rt.alloc(), second)?.as_str(), "[]: [3]");
+    all_show(&rt, rt.alloc(), first, "[]: [2]")?;
+    all_show(&rt, rt.alloc(), second, "[]: [3]")?;
     Ok(())
 }
 
@@ -193,9 +185,9 @@ fn nth_leaves_items_out(rt: HostRuntime) -> Result<(), Fail> {
     let view = ArrayView::from_shape(4, &[1i64, 2, 3, 4])?;
     let mut items = view.axis_iter(Axis(0));
     let second = items.nth(1).ok_or("second")?;
-    same(&rt, shown(rt.alloc(), &second)?.as_str(), "[]: [2]");
+    shows(&rt, rt.alloc(), &second, "[]: [2]")?;
     let third = items.nth(0).ok_or("third")?;
-    same(&rt, shown(rt.alloc(), &third)?.as_str(), "[]: [3]");
+    shows(&rt, rt.alloc(), &third, "[]: [3]")?;
     holds(&rt, items.nth(1).is_none());
     holds(&rt, items.next().is_none());
     let mut items = view.axis_iter(Axis(0));
@@ -220,16 +212,17 @@ fn which_axes_there_are(rt: HostRuntime) -> Result<(), Fail> {
 #[test]
 fn the_last_chunk_has_what_is_left(rt: HostRuntime) -> Result<(), Fail> {
     let view = ArrayView::from_shape(5, &[1i64, 2, 3, 4, 5])?;
-    same(
+    all_show(
         &rt,
-        all_shown(rt.alloc(), view.axis_chunks_iter(Axis(0), 2))?.as_str(),
+        rt.alloc(),
+        view.axis_chunks_iter(Axis(0), 2),
         "[2]: [1, 2]; [2]: [3, 4]; [1]: [5]",
-    );
+    )?;
     let mut chunks = view.axis_chunks_iter(Axis(0), 2);
     let last = chunks.next_back().ok_or("last")?;
-    same(&rt, shown(rt.alloc(), &last)?.as_str(), "[1]: [5]");
+    shows(&rt, rt.alloc(), &last, "[1]: [5]")?;
     let middle = chunks.next_back().ok_or("middle")?;
-    same(&rt, shown(rt.alloc(), &middle)?.as_str(), "[2]: [3, 4]");
+    shows(&rt, rt.alloc(), &middle, "[2]: [3, 4]")?;
     Ok(())
 }
 
@@ -242,8 +235,8 @@ fn begun_chunks_are_split_after_the_ones_taken(rt: HostRuntime) -> Result<(), Fa
         return Err("chunks".into());
     }
     let (first, second) = chunks.split_at(1);
-    same(&rt, all_shown(rt.alloc(), first)?.as_str(), "[2]: [3, 4]");
-    same(&rt, all_shown(rt.alloc(), second)?.as_str(), "[1]: [5]");
+    all_show(&rt, rt.alloc(), first, "[2]: [3, 4]")?;
+    all_show(&rt, rt.alloc(), second, "[1]: [5]")?;
     Ok(())
 }
 
@@ -262,11 +255,12 @@ fn chunks_are_split_at_both_ends(rt: HostRuntime) -> Result<(), Fail> {
 #[test]
 fn the_largest_chunk_is_the_whole_axis(rt: HostRuntime) -> Result<(), Fail> {
     let view = ArrayView::from_shape(3, &[1i64, 2, 3])?;
-    same(
+    all_show(
         &rt,
-        all_shown(rt.alloc(), view.axis_chunks_iter(Axis(0), usize::MAX))?.as_str(),
+        rt.alloc(),
+        view.axis_chunks_iter(Axis(0), usize::MAX),
         "[3]: [1, 2, 3]",
-    );
+    )?;
     let none: [i64; 0] = [];
     let empty = ArrayView::from_shape(0, &none)?;
     same(&rt, empty.axis_chunks_iter(Axis(0), usize::MAX).len(), 0);
@@ -292,11 +286,12 @@ fn four_chunks_along_the_middle_of_three_axes(rt: HostRuntime) -> Result<(), Fai
 fn chunks_without_cells_have_lengths(rt: HostRuntime) -> Result<(), Fail> {
     let none: [i64; 0] = [];
     let view = ArrayView::from_shape((3, 0), &none)?;
-    same(
+    all_show(
         &rt,
-        all_shown(rt.alloc(), view.axis_chunks_iter(Axis(0), 2))?.as_str(),
+        rt.alloc(),
+        view.axis_chunks_iter(Axis(0), 2),
         "[2, 0]: []; [1, 0]: []",
-    );
+    )?;
     same(&rt, view.axis_chunks_iter(Axis(1), 2).len(), 0);
     holds(&rt, view.axis_chunks_iter(Axis(1), 2).next().is_none());
     Ok(())
@@ -308,11 +303,12 @@ fn each_layout_has_the_same_chunks(rt: HostRuntime) -> Result<(), Fail> {
         if !view.chunk_ok(Axis(1), 2) {
             return Err("chunk".into());
         }
-        same(
+        all_show(
             &rt,
-            all_shown(rt.alloc(), view.axis_chunks_iter(Axis(1), 2))?.as_str(),
+            rt.alloc(),
+            view.axis_chunks_iter(Axis(1), 2),
             "[2, 2]: [1, 2, 4, 5]; [2, 1]: [3, 6]",
-        );
+        )?;
     }
     Ok(())
 }
@@ -321,11 +317,12 @@ fn each_layout_has_the_same_chunks(rt: HostRuntime) -> Result<(), Fail> {
 fn chunks_of_a_broadcast_axis(rt: HostRuntime) -> Result<(), Fail> {
     let one = ArrayView::from_shape(1, &[7i64])?;
     let three = one.broadcast(3).ok_or("broadcast")?;
-    same(
+    all_show(
         &rt,
-        all_shown(rt.alloc(), three.axis_chunks_iter(Axis(0), 2))?.as_str(),
+        rt.alloc(),
+        three.axis_chunks_iter(Axis(0), 2),
         "[2]: [7, 7]; [1]: [7]",
-    );
+    )?;
     Ok(())
 }
 
@@ -334,12 +331,12 @@ fn both_ends_of_the_chunks_meet(rt: HostRuntime) -> Result<(), Fail> {
     let view = ArrayView::from_shape(5, &[1i64, 2, 3, 4, 5])?;
     let mut chunks = view.axis_chunks_iter(Axis(0), 2);
     let first = chunks.next().ok_or("first")?;
-    same(&rt, shown(rt.alloc(), &first)?.as_str(), "[2]: [1, 2]");
+    shows(&rt, rt.alloc(), &first, "[2]: [1, 2]")?;
     same(&rt, chunks.len(), 2);
     holds(&rt, chunks.next_back().is_some());
     same(&rt, chunks.size_hint(), (1, Some(1)));
     let middle = chunks.next_back().ok_or("middle")?;
-    same(&rt, shown(rt.alloc(), &middle)?.as_str(), "[2]: [3, 4]");
+    shows(&rt, rt.alloc(), &middle, "[2]: [3, 4]")?;
     for _ in 0..2 {
         holds(&rt, chunks.next().is_none());
         holds(&rt, chunks.next_back().is_none());
@@ -355,12 +352,8 @@ fn a_clone_of_begun_chunks_goes_on_separately(rt: HostRuntime) -> Result<(), Fai
     holds(&rt, chunks.next().is_some());
     let again = chunks.clone()?;
     holds(&rt, chunks.next().is_some());
-    same(
-        &rt,
-        all_shown(rt.alloc(), again)?.as_str(),
-        "[2]: [3, 4]; [1]: [5]",
-    );
-    same(&rt, all_shown(rt.alloc(), chunks)?.as_str(), "[1]: [5]");
+    all_show(&rt, rt.alloc(), again, "[2]: [3, 4]; [1]: [5]")?;
+    all_show(&rt, rt.alloc(), chunks, "[1]: [5]")?;
     Ok(())
 }
 
@@ -369,7 +362,7 @@ fn nth_leaves_chunks_out(rt: HostRuntime) -> Result<(), Fail> {
     let view = ArrayView::from_shape(5, &[1i64, 2, 3, 4, 5])?;
     let mut chunks = view.axis_chunks_iter(Axis(0), 2);
     let second = chunks.nth(1).ok_or("second")?;
-    same(&rt, shown(rt.alloc(), &second)?.as_str(), "[2]: [3, 4]");
+    shows(&rt, rt.alloc(), &second, "[2]: [3, 4]")?;
     same(&rt, chunks.len(), 1);
     holds(&rt, chunks.nth(usize::MAX).is_none());
     holds(&rt, chunks.next().is_none());
@@ -396,7 +389,7 @@ fn huge_axes_without_cells_are_not_gone_over(rt: HostRuntime) -> Result<(), Fail
     let mut items = view.axis_iter(Axis(0));
     same(&rt, items.len(), 1 << 62);
     let late = items.nth((1 << 62) - 2).ok_or("late")?;
-    same(&rt, shown(rt.alloc(), &late)?.as_str(), "[0]: []");
+    shows(&rt, rt.alloc(), &late, "[0]: []")?;
     same(&rt, items.len(), 1);
     same(
         &rt,
@@ -405,7 +398,7 @@ fn huge_axes_without_cells_are_not_gone_over(rt: HostRuntime) -> Result<(), Fail
     );
     let mut chunks = view.axis_chunks_iter(Axis(0), 3);
     let last = chunks.next_back().ok_or("last")?;
-    same(&rt, shown(rt.alloc(), &last)?.as_str(), "[1, 0]: []");
+    shows(&rt, rt.alloc(), &last, "[1, 0]: []")?;
     Ok(())
 }
 

@@ -2,39 +2,43 @@
 
 use crate::tests::asserted::{holds, same};
 use crate::tests::layouts::layouts;
-use crate::tests::shown::{all_shown, shown};
+use crate::tests::shown::{all_show, shows};
 use ndarray::{ArrayView, Axis, Ix0, Ix1, Ix2, IxDyn};
 use std::test::Fail;
 
 #[test]
 fn windows_overlap(rt: HostRuntime) -> Result<(), Fail> {
     let view = ArrayView::from_shape((2, 3), &[1i64, 2, 3, 4, 5, 6])?;
-    same(
+    all_show(
         &rt,
-        all_shown(rt.alloc(), view.windows((2, 2)).into_iter())?.as_str(),
+        rt.alloc(),
+        view.windows((2, 2)).into_iter(),
         "[2, 2]: [1, 2, 4, 5]; [2, 2]: [2, 3, 5, 6]",
-    );
-    same(
+    )?;
+    all_show(
         &rt,
-        all_shown(rt.alloc(), view.windows((1, 3)).into_iter())?.as_str(),
+        rt.alloc(),
+        view.windows((1, 3)).into_iter(),
         "[1, 3]: [1, 2, 3]; [1, 3]: [4, 5, 6]",
-    );
+    )?;
     Ok(())
 }
 
 #[test]
 fn windows_with_steps_of_their_length_do_not_overlap(rt: HostRuntime) -> Result<(), Fail> {
     let view = ArrayView::from_shape(5, &[1i64, 2, 3, 4, 5])?;
-    same(
+    all_show(
         &rt,
-        all_shown(rt.alloc(), view.windows_with_stride(2, 2).into_iter())?.as_str(),
+        rt.alloc(),
+        view.windows_with_stride(2, 2).into_iter(),
         "[2]: [1, 2]; [2]: [3, 4]",
-    );
-    same(
+    )?;
+    all_show(
         &rt,
-        all_shown(rt.alloc(), view.windows_with_stride(2, 3).into_iter())?.as_str(),
+        rt.alloc(),
+        view.windows_with_stride(2, 3).into_iter(),
         "[2]: [1, 2]; [2]: [4, 5]",
-    );
+    )?;
     Ok(())
 }
 
@@ -43,12 +47,13 @@ fn stepped_windows_of_a_reversed_axis(rt: HostRuntime) -> Result<(), Fail> {
     let mut view = ArrayView::from_shape((3, 4), &[1i64, 2, 3, 4, 5, 6, 7, 8, 9, 10, 11, 12])?;
     view.invert_axis(Axis(1));
     let windows = view.windows_with_stride((2, 2), (1, 2));
-    same(
+    all_show(
         &rt,
-        all_shown(rt.alloc(), windows.into_iter())?.as_str(),
+        rt.alloc(),
+        windows.into_iter(),
         "[2, 2]: [4, 3, 8, 7]; [2, 2]: [2, 1, 6, 5]; \
          [2, 2]: [8, 7, 12, 11]; [2, 2]: [6, 5, 10, 9]",
-    );
+    )?;
     Ok(())
 }
 
@@ -66,15 +71,12 @@ fn no_window_is_larger_than_its_axis(rt: HostRuntime) -> Result<(), Fail> {
 fn the_largest_windows_and_steps(rt: HostRuntime) -> Result<(), Fail> {
     let view = ArrayView::from_shape(4, &[1i64, 2, 3, 4])?;
     holds(&rt, view.windows(usize::MAX).into_iter().next().is_none());
-    same(
+    all_show(
         &rt,
-        all_shown(
-            rt.alloc(),
-            view.windows_with_stride(2, usize::MAX).into_iter(),
-        )?
-        .as_str(),
+        rt.alloc(),
+        view.windows_with_stride(2, usize::MAX).into_iter(),
         "[2]: [1, 2]",
-    );
+    )?;
     holds(
         &rt,
         view.windows_with_stride(usize::MAX, usize::MAX)
@@ -91,15 +93,12 @@ fn each_layout_has_the_same_windows(rt: HostRuntime) -> Result<(), Fail> {
         if !view.windows_ok(&Ix2(1, 2), &Ix2(1, 1)) {
             return Err("windows".into());
         }
-        same(
+        all_show(
             &rt,
-            all_shown(
-                rt.alloc(),
-                view.windows_with_stride(Ix2(1, 2), Ix2(1, 1)).into_iter(),
-            )?
-            .as_str(),
+            rt.alloc(),
+            view.windows_with_stride(Ix2(1, 2), Ix2(1, 1)).into_iter(),
             "[1, 2]: [1, 2]; [1, 2]: [2, 3]; [1, 2]: [4, 5]; [1, 2]: [5, 6]",
-        );
+        )?;
     }
     Ok(())
 }
@@ -108,11 +107,12 @@ fn each_layout_has_the_same_windows(rt: HostRuntime) -> Result<(), Fail> {
 fn windows_of_a_broadcast_row(rt: HostRuntime) -> Result<(), Fail> {
     let row = ArrayView::from_shape(2, &[1i64, 2])?;
     let rows = row.broadcast((3, 2)).ok_or("broadcast")?;
-    same(
+    all_show(
         &rt,
-        all_shown(rt.alloc(), rows.windows((2, 2)).into_iter())?.as_str(),
+        rt.alloc(),
+        rows.windows((2, 2)).into_iter(),
         "[2, 2]: [1, 2, 1, 2]; [2, 2]: [1, 2, 1, 2]",
-    );
+    )?;
     Ok(())
 }
 
@@ -130,11 +130,7 @@ fn an_empty_axis_has_no_windows(rt: HostRuntime) -> Result<(), Fail> {
 #[test]
 fn no_axes_are_one_window(rt: HostRuntime) -> Result<(), Fail> {
     let view: ArrayView<'_, i64, Ix0> = ArrayView::from_shape((), &[7])?;
-    same(
-        &rt,
-        all_shown(rt.alloc(), view.windows(()).into_iter())?.as_str(),
-        "[]: [7]",
-    );
+    all_show(&rt, rt.alloc(), view.windows(()).into_iter(), "[]: [7]")?;
     Ok(())
 }
 
@@ -161,10 +157,10 @@ fn the_hint_counts_the_windows_that_are_left(rt: HostRuntime) -> Result<(), Fail
     let mut windows = view.windows(2).into_iter();
     same(&rt, windows.size_hint(), (2, Some(2)));
     let first = windows.next().ok_or("first")?;
-    same(&rt, shown(rt.alloc(), &first)?.as_str(), "[2]: [1, 2]");
+    shows(&rt, rt.alloc(), &first, "[2]: [1, 2]")?;
     same(&rt, windows.size_hint(), (1, Some(1)));
     let second = windows.next().ok_or("second")?;
-    same(&rt, shown(rt.alloc(), &second)?.as_str(), "[2]: [2, 3]");
+    shows(&rt, rt.alloc(), &second, "[2]: [2, 3]")?;
     for _ in 0..2 {
         holds(&rt, windows.next().is_none());
         same(&rt, windows.size_hint(), (0, Some(0)));
@@ -182,28 +178,31 @@ fn clones_of_windows_go_on_separately(rt: HostRuntime) -> Result<(), Fail> {
     let left = items.clone()?;
     holds(&rt, items.next().is_some());
     holds(&rt, items.next().is_none());
-    same(&rt, all_shown(rt.alloc(), left)?.as_str(), "[2]: [2, 3]");
-    same(
+    all_show(&rt, rt.alloc(), left, "[2]: [2, 3]")?;
+    all_show(
         &rt,
-        all_shown(rt.alloc(), again.into_iter())?.as_str(),
+        rt.alloc(),
+        again.into_iter(),
         "[2]: [1, 2]; [2]: [2, 3]",
-    );
+    )?;
     Ok(())
 }
 
 #[test]
 fn windows_along_an_axis_have_the_whole_length_elsewhere(rt: HostRuntime) -> Result<(), Fail> {
     let view = ArrayView::from_shape((2, 3), &[1i64, 2, 3, 4, 5, 6])?;
-    same(
+    all_show(
         &rt,
-        all_shown(rt.alloc(), view.axis_windows(Axis(1), 2).into_iter())?.as_str(),
+        rt.alloc(),
+        view.axis_windows(Axis(1), 2).into_iter(),
         "[2, 2]: [1, 2, 4, 5]; [2, 2]: [2, 3, 5, 6]",
-    );
-    same(
+    )?;
+    all_show(
         &rt,
-        all_shown(rt.alloc(), view.axis_windows(Axis(0), 1).into_iter())?.as_str(),
+        rt.alloc(),
+        view.axis_windows(Axis(0), 1).into_iter(),
         "[1, 3]: [1, 2, 3]; [1, 3]: [4, 5, 6]",
-    );
+    )?;
     holds(
         &rt,
         view.axis_windows(Axis(0), 3).into_iter().next().is_none(),
@@ -215,17 +214,14 @@ fn windows_along_an_axis_have_the_whole_length_elsewhere(rt: HostRuntime) -> Res
 fn stepped_windows_along_an_axis(rt: HostRuntime) -> Result<(), Fail> {
     let view = ArrayView::from_shape((5, 1), &[1i64, 2, 3, 4, 5])?;
     let windows = view.axis_windows_with_stride(Axis(0), 3, 2);
-    same(
+    all_show(
         &rt,
-        all_shown(rt.alloc(), windows.into_iter())?.as_str(),
+        rt.alloc(),
+        windows.into_iter(),
         "[3, 1]: [1, 2, 3]; [3, 1]: [3, 4, 5]",
-    );
+    )?;
     let windows = view.axis_windows_with_stride(Axis(0), 3, usize::MAX);
-    same(
-        &rt,
-        all_shown(rt.alloc(), windows.into_iter())?.as_str(),
-        "[3, 1]: [1, 2, 3]",
-    );
+    all_show(&rt, rt.alloc(), windows.into_iter(), "[3, 1]: [1, 2, 3]")?;
     let windows = view.axis_windows_with_stride(Axis(0), usize::MAX, 1);
     same(&rt, windows.into_iter().size_hint(), (0, Some(0)));
     Ok(())
@@ -235,16 +231,18 @@ fn stepped_windows_along_an_axis(rt: HostRuntime) -> Result<(), Fail> {
 fn windows_without_cells_have_lengths(rt: HostRuntime) -> Result<(), Fail> {
     let none: [i64; 0] = [];
     let view = ArrayView::from_shape((4, 0), &none)?;
-    same(
+    all_show(
         &rt,
-        all_shown(rt.alloc(), view.axis_windows(Axis(0), 2).into_iter())?.as_str(),
+        rt.alloc(),
+        view.axis_windows(Axis(0), 2).into_iter(),
         "[2, 0]: []; [2, 0]: []; [2, 0]: []",
-    );
-    same(
+    )?;
+    all_show(
         &rt,
-        all_shown(rt.alloc(), view.axis_windows(Axis(0), 4).into_iter())?.as_str(),
+        rt.alloc(),
+        view.axis_windows(Axis(0), 4).into_iter(),
         "[4, 0]: []",
-    );
+    )?;
     same(
         &rt,
         view.axis_windows(Axis(0), 5).into_iter().size_hint(),
@@ -264,17 +262,19 @@ fn each_layout_has_the_same_windows_along_an_axis(rt: HostRuntime) -> Result<(),
         if !view.chunk_ok(Axis(1), 2) {
             return Err("window".into());
         }
-        same(
+        all_show(
             &rt,
-            all_shown(rt.alloc(), view.axis_windows(Axis(1), 2).into_iter())?.as_str(),
+            rt.alloc(),
+            view.axis_windows(Axis(1), 2).into_iter(),
             "[2, 2]: [1, 2, 4, 5]; [2, 2]: [2, 3, 5, 6]",
-        );
+        )?;
         let stepped = view.axis_windows_with_stride(Axis(1), 1, 2);
-        same(
+        all_show(
             &rt,
-            all_shown(rt.alloc(), stepped.into_iter())?.as_str(),
+            rt.alloc(),
+            stepped.into_iter(),
             "[2, 1]: [1, 4]; [2, 1]: [3, 6]",
-        );
+        )?;
     }
     Ok(())
 }
@@ -283,11 +283,12 @@ fn each_layout_has_the_same_windows_along_an_axis(rt: HostRuntime) -> Result<(),
 fn windows_along_a_broadcast_axis(rt: HostRuntime) -> Result<(), Fail> {
     let row = ArrayView::from_shape(2, &[1i64, 2])?;
     let rows = row.broadcast((3, 2)).ok_or("broadcast")?;
-    same(
+    all_show(
         &rt,
-        all_shown(rt.alloc(), rows.axis_windows(Axis(0), 2).into_iter())?.as_str(),
+        rt.alloc(),
+        rows.axis_windows(Axis(0), 2).into_iter(),
         "[2, 2]: [1, 2, 1, 2]; [2, 2]: [1, 2, 1, 2]",
-    );
+    )?;
     Ok(())
 }
 
@@ -324,7 +325,7 @@ fn huge_axes_without_cells_have_their_windows(rt: HostRuntime) -> Result<(), Fai
         ((1 << 62) - 1, Some((1 << 62) - 1)),
     );
     let first = windows.next().ok_or("first")?;
-    same(&rt, shown(rt.alloc(), &first)?.as_str(), "[2, 0]: []");
+    shows(&rt, rt.alloc(), &first, "[2, 0]: []")?;
     let mut windows = view.axis_windows(Axis(0), 1 << 62).into_iter();
     let whole = windows.next().ok_or("whole")?;
     same(&rt, whole.shape(), [1 << 62, 0].as_slice());
@@ -338,19 +339,16 @@ fn windows_of_a_window(rt: HostRuntime) -> Result<(), Fail> {
     let mut windows = view.windows_with_stride(4, 2).into_iter();
     let _ = windows.next();
     let window = windows.next().ok_or("window")?;
-    same(
-        &rt,
-        shown(rt.alloc(), &window)?.as_str(),
-        "[4]: [3, 4, 5, 6]",
-    );
+    shows(&rt, rt.alloc(), &window, "[4]: [3, 4, 5, 6]")?;
     if !window.windows_ok(&Ix1(2), &Ix1(2)) {
         return Err("windows".into());
     }
     let inner = window.windows_with_stride(Ix1(2), Ix1(2));
-    same(
+    all_show(
         &rt,
-        all_shown(rt.alloc(), inner.into_iter())?.as_str(),
+        rt.alloc(),
+        inner.into_iter(),
         "[2]: [3, 4]; [2]: [5, 6]",
-    );
+    )?;
     Ok(())
 }

@@ -2,7 +2,7 @@
 //! array.
 
 use crate::tests::asserted::same;
-use crate::tests::shown::shown;
+use crate::tests::shown::shows;
 use ndarray::{Array, ArrayBase, ArrayViewMut1, Axis, DataMut, Dimension, Ix0, Ix2, IxDyn};
 use std::test::Fail;
 
@@ -42,11 +42,7 @@ fn whole_chunks_are_written_and_the_rest_is_left(rt: HostRuntime) -> Result<(), 
     for mut chunk in array.exact_chunks_mut(2) {
         tenfold(&mut chunk);
     }
-    same(
-        &rt,
-        shown(rt.alloc(), &array.view())?.as_str(),
-        "[5]: [1, 10, 3, 30, 5]",
-    );
+    shows(&rt, rt.alloc(), &array.view(), "[5]: [1, 10, 3, 30, 5]")?;
     Ok(())
 }
 
@@ -59,11 +55,12 @@ fn rows_are_written_one_by_one(rt: HostRuntime) -> Result<(), Fail> {
     for mut row in array.axis_iter_mut(Axis(0)) {
         tenfold(&mut row);
     }
-    same(
+    shows(
         &rt,
-        shown(rt.alloc(), &array.view())?.as_str(),
+        rt.alloc(),
+        &array.view(),
         "[2, 3]: [1, 10, 3, 4, 40, 6]",
-    );
+    )?;
     Ok(())
 }
 
@@ -84,11 +81,12 @@ fn columns_are_written_from_both_ends(rt: HostRuntime) -> Result<(), Fail> {
         tenfold(&mut last);
         tenfold(&mut first);
     }
-    same(
+    shows(
         &rt,
-        shown(rt.alloc(), &array.view())?.as_str(),
+        rt.alloc(),
+        &array.view(),
         "[2, 3]: [8, 2, 7, 80, 5, 70]",
-    );
+    )?;
     Ok(())
 }
 
@@ -111,11 +109,12 @@ fn an_iterator_is_split_and_both_parts_write(rt: HostRuntime) -> Result<(), Fail
         tenfold(&mut last);
         tenfold(&mut row);
     }
-    same(
+    shows(
         &rt,
-        shown(rt.alloc(), &array.view())?.as_str(),
+        rt.alloc(),
+        &array.view(),
         "[3, 2]: [1, 10, 3, 4, 5, 50]",
-    );
+    )?;
     Ok(())
 }
 
@@ -125,29 +124,32 @@ fn lanes_along_each_axis_are_written(rt: HostRuntime) -> Result<(), Fail> {
     for mut row in array.rows_mut() {
         tenfold(&mut row);
     }
-    same(
+    shows(
         &rt,
-        shown(rt.alloc(), &array.view())?.as_str(),
+        rt.alloc(),
+        &array.view(),
         "[2, 3]: [1, 10, 3, 4, 40, 6]",
-    );
+    )?;
     for mut column in array.columns_mut() {
         tenfold(&mut column);
     }
-    same(
+    shows(
         &rt,
-        shown(rt.alloc(), &array.view())?.as_str(),
+        rt.alloc(),
+        &array.view(),
         "[2, 3]: [1, 10, 3, 10, 100, 30]",
-    );
+    )?;
     {
         let mut lanes = array.rows_mut().into_iter();
         let mut last = lanes.next_back().ok_or("last")?;
         begin(&mut last, 0);
     }
-    same(
+    shows(
         &rt,
-        shown(rt.alloc(), &array.view())?.as_str(),
+        rt.alloc(),
+        &array.view(),
         "[2, 3]: [1, 10, 3, 0, 100, 30]",
-    );
+    )?;
     Ok(())
 }
 
@@ -157,7 +159,7 @@ fn an_array_of_no_axes_has_one_lane_to_write_in(rt: HostRuntime) -> Result<(), F
     for mut lane in array.rows_mut() {
         begin(&mut lane, 9);
     }
-    same(&rt, shown(rt.alloc(), &array.view())?.as_str(), "[]: [9]");
+    shows(&rt, rt.alloc(), &array.view(), "[]: [9]")?;
     Ok(())
 }
 
@@ -184,11 +186,7 @@ fn chunks_along_an_axis_are_written_and_the_last_is_shorter(rt: HostRuntime) -> 
             tenfold(&mut chunk);
         }
     }
-    same(
-        &rt,
-        shown(rt.alloc(), &array.view())?.as_str(),
-        "[5]: [1, 10, 7, 4, 6]",
-    );
+    shows(&rt, rt.alloc(), &array.view(), "[5]: [1, 10, 7, 4, 6]")?;
     Ok(())
 }
 
@@ -211,11 +209,7 @@ fn both_parts_of_a_view_write(rt: HostRuntime) -> Result<(), Fail> {
         tenfold(&mut second);
         tenfold(&mut first);
     }
-    same(
-        &rt,
-        shown(rt.alloc(), &array.view())?.as_str(),
-        "[4]: [20, 2, 40, 4]",
-    );
+    shows(&rt, rt.alloc(), &array.view(), "[4]: [20, 2, 40, 4]")?;
     Ok(())
 }
 
@@ -232,11 +226,12 @@ fn chunks_of_two_axes_are_written_in_any_layout(rt: HostRuntime) -> Result<(), F
             *cell = 0;
         }
     }
-    same(
+    shows(
         &rt,
-        shown(rt.alloc(), &array.view())?.as_str(),
+        rt.alloc(),
+        &array.view(),
         "[5, 3]: [1, 6, 11, 2, 0, 12, 3, 8, 13, 4, 0, 14, 5, 10, 15]",
-    );
+    )?;
     Ok(())
 }
 
@@ -258,16 +253,8 @@ fn an_axis_without_cells_has_items_to_write_in(rt: HostRuntime) -> Result<(), Fa
 fn rows_of_an_array_and_of_a_view_are_written_alike(rt: HostRuntime) -> Result<(), Fail> {
     let mut array = Array::from_shape_vec((2, 2), vec![in rt.alloc(); 1i64, 2, 3, 4]?)?;
     begin_rows(&mut array, 5);
-    same(
-        &rt,
-        shown(rt.alloc(), &array.view())?.as_str(),
-        "[2, 2]: [5, 2, 5, 4]",
-    );
+    shows(&rt, rt.alloc(), &array.view(), "[2, 2]: [5, 2, 5, 4]")?;
     begin_rows(&mut array.view_mut().reversed_axes(), 6);
-    same(
-        &rt,
-        shown(rt.alloc(), &array.view())?.as_str(),
-        "[2, 2]: [6, 6, 5, 4]",
-    );
+    shows(&rt, rt.alloc(), &array.view(), "[2, 2]: [6, 6, 5, 4]")?;
     Ok(())
 }
