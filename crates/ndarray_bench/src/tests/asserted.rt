@@ -1,5 +1,7 @@
 //! What a test asserts, each in one call: `assert_eq!` in place makes the proof of a test four times as long.
 
+ghost use Rattle.std.specs.Prelude.{IsTrue};
+
 use std::fmt::Debug;
 use std::process::Abort;
 
@@ -9,6 +11,8 @@ pub fn same<T: PartialEq + Debug + Drop>(rt: &impl Abort, left: T, right: T) {
 }
 
 /// Ends the run unless it is so.
-pub fn holds(rt: &impl Abort, is_so: bool) {
+pub fn holds(rt: &impl Abort, is_so: bool)
+    ensures { IsTrue is_so }
+{
     assert!(rt; is_so);
 }
