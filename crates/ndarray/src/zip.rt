@@ -30,7 +30,7 @@ use std::alloc::AllocError;
 use std::marker::{Model, PhantomData};
 
 /// `K` producers of the same lengths, as one of nested pairs of their items.
-#[derive(Clone, Drop)]
+#[derive(Drop)]
 pub struct Parts<N, const K: usize> {
     /// The one producer.
     pub nested: N,
@@ -49,14 +49,16 @@ impl<P, D> Model for Zip<P, D> {
     ghost view = { λ s. s.parts };
 }
 
-impl<P: Clone, D> Clone for Zip<P, D> {
-    ghost is_clone = { λ s r. P.is_clone s r };
+impl<N: Clone, D, const K: usize> Clone for Zip<Parts<N, K>, D> {
+    ghost is_clone = { λ s r. N.is_clone s.nested r.nested };
 
-    ghost is_infallible = { λ s. P.is_infallible s };
+    ghost is_infallible = { λ s. N.is_infallible s.nested };
 
-    fn clone(&self) -> Result<Zip<P, D>, AllocError> {
+    fn clone(&self) -> Result<Zip<Parts<N, K>, D>, AllocError> {
         Ok(Zip {
-            parts: self.parts.clone()?,
+            parts: Parts {
+                nested: self.parts.nested.clone()?,
+            },
             dimension: PhantomData,
         })
     }
