@@ -1,0 +1,140 @@
+//! The same walks as plain loops over the vectors: `plain N TURNS`.
+
+use std::hint::black_box;
+use std::time::Instant;
+
+const NAMES: [&str; 20] = [
+    "sum", "iter", "iter_transposed", "iter_stepped", "iter_mut", "indexed_iter", "to_owned",
+    "into_iter_of_a_copy", "windows_3x3", "axis_iter", "columns", "zip_one_fold", "zip_two_fold",
+    "zip_three_fold", "zip_two_for_each", "zip_two_map_collect", "zip_two_map_assign_into",
+    "zip_two_fold_column_major", "zip_two_fold_mixed", "zip_two_map_collect_mixed",
+];
+
+fn main() {
+    let words: Vec<usize> = std::env::args().skip(1).map(|it| it.parse().unwrap()).collect();
+    let (n, turns) = (words[0], words[1]);
+    let (mut a, b, c) = (vec![3i64; n * n], vec![4i64; n * n], vec![5i64; n * n]);
+    for name in NAMES {
+        let (mut best, mut answers) = (u128::MAX, 0i64);
+        for _ in 0..turns {
+            let start = Instant::now();
+            let answer = walk(name, n, black_box(&mut a), black_box(&b), black_box(&c));
+            best = best.min(start.elapsed().as_nanos());
+            answers = answers.wrapping_add(black_box(answer));
+        }
+        println!("{name} {} {answers}", best * 1000 / (n * n) as u128);
+    }
+}
+
+fn added<'a>(numbers: impl Iterator<Item = &'a i64>) -> i64 {
+    numbers.fold(0, |sum, x| sum.wrapping_add(*x))
+}
+
+#[inline(never)]
+fn walk(name: &str, n: usize, a: &mut [i64], b: &[i64], c: &[i64]) -> i64 {
+    let mut sum = 0i64;
+    match name {
+        "sum" | "iter" | "zip_one_fold" => return added(a.iter()),
+        "iter_transposed" => {
+            for j in 0..n {
+                for i in 0..n {
+                    sum = sum.wrapping_add(a[i * n + j]);
+                }
+            }
+        }
+        "iter_stepped" => {
+            for row in a.chunks(n).step_by(2) {
+                for x in row.iter().step_by(2) {
+                    sum = sum.wrapping_add(*x);
+                }
+            }
+        }
+        "iter_mut" => {
+            for x in a.iter_mut() {
+                *x = x.wrapping_add(1);
+            }
+            return 1;
+        }
+        "indexed_iter" => {
+            for (i, row) in a.chunks(n).enumerate() {
+                for (j, x) in row.iter().enumerate() {
+                    sum = sum.wrapping_add(*x).wrapping_add((i < j) as i64);
+                }
+            }
+        }
+        "to_owned" => return a.to_vec()[n + 1],
+        "into_iter_of_a_copy" => {
+            for x in a.to_vec() {
+                sum = sum.wrapping_add(x);
+            }
+        }
+        "windows_3x3" => {
+            for i in 0..n - 2 {
+                for j in 0..n - 2 {
+                    for k in 0..3 {
+                        for l in 0..3 {
+                            sum = sum.wrapping_add(a[(i + k) * n + j + l]);
+                        }
+                    }
+                }
+            }
+        }
+        "axis_iter" => {
+            for row in a.chunks(n) {
+                sum = sum.wrapping_add(added(row.iter())).wrapping_mul(3);
+            }
+        }
+        "columns" => {
+            for j in 0..n {
+                for i in 0..n {
+                    sum = sum.wrapping_add(a[i * n + j]);
+                }
+                sum = sum.wrapping_mul(3);
+            }
+        }
+        "zip_two_fold" | "zip_two_fold_column_major" => {
+            for (x, y) in a.iter().zip(b) {
+                sum = sum.wrapping_add(x.wrapping_mul(*y));
+            }
+        }
+        "zip_three_fold" => {
+            for ((x, y), z) in a.iter().zip(b).zip(c) {
+                sum = sum.wrapping_add(x.wrapping_mul(*y)).wrapping_add(*z);
+            }
+        }
+        "zip_two_for_each" => {
+            for (x, y) in a.iter_mut().zip(b) {
+                *x = x.wrapping_add(*y);
+            }
+            return 1;
+        }
+        "zip_two_map_collect" => {
+            let made: Vec<i64> = a.iter().zip(b).map(|(x, y)| x.wrapping_add(*y)).collect();
+            return made[n + 1];
+        }
+        "zip_two_map_assign_into" => {
+            for ((into, x), y) in a.iter_mut().zip(b).zip(c) {
+                *into = x.wrapping_add(*y);
+            }
+            return 1;
+        }
+        "zip_two_fold_mixed" => {
+            for i in 0..n {
+                for j in 0..n {
+                    sum = sum.wrapping_add(a[i * n + j].wrapping_mul(b[j * n + i]));
+                }
+            }
+        }
+        "zip_two_map_collect_mixed" => {
+            let mut made = Vec::with_capacity(n * n);
+            for i in 0..n {
+                for j in 0..n {
+                    made.push(a[i * n + j].wrapping_add(b[j * n + i]));
+                }
+            }
+            return made[n + 1];
+        }
+        _ => {}
+    }
+    sum
+}
