@@ -1,5 +1,6 @@
 -- What only `base` speaks of: places and strides.
 pub mod Chunks
+pub mod FixedAxes
 pub mod Follows
 pub mod IndexLists
 pub mod Laws

@@ -85,6 +85,7 @@ impl<D: Lengths> Layout<D> {
         ensures start { result.start ≡ self.now.start }
         ensures dim { D.numbers result.dim ≡ D.numbers self.now.dim }
         ensures strides { D.numbers result.strides ≡ D.numbers self.now.strides }
+        ensures axes { D.has_axes (length (D.numbers self.now.dim)) }
     {
         Layout {
             start: self.start,
@@ -200,7 +201,8 @@ fn same_numbers<D: Lengths, E: Lengths>(numbers: &D) -> E
 /// The strides of a box whose cells lie side by side in the order.
 pub(crate) fn default_strides<D: Lengths>(dim: &D, order: Order) -> D
     requires { IsWithinLimit (D.numbers dim.now) }
-    ensures { AreStridesOf order (D.numbers dim.now) (D.numbers result) }
+    ensures strides { AreStridesOf order (D.numbers dim.now) (D.numbers result) }
+    ensures axes { D.has_axes (length (D.numbers dim.now)) }
 {
     let ndim = dim.ndim();
     let mut strides = D::zeros(ndim);

@@ -61,6 +61,8 @@ impl<P: NdProducer, Q: NdProducer> NdProducer for Pair<P, Q> {
 impl<P: KeepsLengths, Q: KeepsLengths> Clone for Pair<P, Q> {
     ghost is_clone = { λ s r. P.is_clone s.first r.first × Q.is_clone s.second r.second };
 
+    ghost is_infallible = { λ s. P.is_infallible s.first × Q.is_infallible s.second };
+
     fn clone(&self) -> Result<Pair<P, Q>, AllocError> {
         let first = self.first.clone()?;
         let second = self.second.clone()?;

@@ -7,8 +7,8 @@ use Rattle.ndarray.proofs.zip.collecting.collect_items.Goals as goal
 
 pub loop-x-init : goal.loop-x-init
 loop-x-init g c =
-    let e : c.in_ok-filling.filling.cells ≡ [] = ap (λ k. k.cells) c.in_ok-filling.ensures in
-    (c.run-run.ensures.can, c.run-run.ensures.finite, rw e (at_start _ _ _ _ c.run-run.ensures.gives), ap (λ k. k.lengths) c.in_ok-filling.ensures ∙ c.raw_dim.ensures.lengths, ap (λ k. k.order) c.in_ok-filling.ensures)
+    let e : c.in_ok-filling.filling.cells ≡ [] = ap (λ k. k.cells) c.in_ok-filling.ensures.room in
+    (c.run-run.ensures.can, c.run-run.ensures.finite, rw e (at_start _ _ _ _ c.run-run.ensures.gives), ap (λ k. k.lengths) c.in_ok-filling.ensures.room ∙ c.raw_dim.ensures.lengths, ap (λ k. k.order) c.in_ok-filling.ensures.room)
 
 pub call-r-requires : goal.call-r-requires
 call-r-requires g c = may_take _ _ _ c.requires.callable c.loop-x.invariant.2 c.in-Some.ensures.steps
