@@ -69,3 +69,4 @@ pub mod Walks
 pub mod WholeSums
 pub mod WholeTests
 pub mod Writes
+pub mod callers
