@@ -46,9 +46,11 @@ pub mod Readings
 pub mod Refilled
 pub mod Regrouped
 pub mod RunningSum
+pub mod Rows
 pub mod Runs
 pub mod Selections
 pub mod Sharing
+pub mod SideBySide
 pub mod Sizes
 pub mod Slices
 pub mod Slots

@@ -55,6 +55,17 @@ impl<D: Lengths> Layout<D> {
         at
     }
 
+    /// How far the next place lies on an axis; 0 for an axis that is not there.
+    pub(crate) fn stride(&self, axis: usize) -> usize
+        ensures { result ≡ slice_index (D.numbers self.now.strides) axis }
+    {
+        if axis < self.strides.ndim() {
+            self.strides.axis(axis)
+        } else {
+            0
+        }
+    }
+
     /// Whether the cells lie side by side in row order, the first one at the start. An axis of length 1
     /// may have any stride.
     ///
@@ -78,6 +89,23 @@ impl<D: Lengths> Layout<D> {
         }
         // Places are counted modulo 2^64, and none may come before the start.
         self.start.checked_add(block - 1).is_some()
+    }
+
+    /// How the cells lie: positive where those along the last axis are near, negative along the first.
+    pub(crate) fn tendency(&self) -> i32
+        requires { length (D.numbers self.now.strides) ≡ length (D.numbers self.now.dim) }
+    {
+        let ndim = self.dim.ndim();
+        if ndim < 2 {
+            return 0;
+        }
+        if self.dim.axis(ndim - 1) > 1 && self.strides.axis(ndim - 1) == 1 {
+            return 1;
+        }
+        if self.dim.axis(0) > 1 && self.strides.axis(0) == 1 {
+            return -1;
+        }
+        0
     }
 
     /// The same once more.
