@@ -20,3 +20,8 @@ both shows shown i t = shows i t.0 × shown i t.1
 pub record IsPart {X : Type 0} (axis from to : ℕ) (ns : List ℕ) (shows : List ℕ → X → Type 0) (ms : List ℕ) (shown : List ℕ → X → Type 0) : Type 0 where
   pub lengths : ms ≡ slice_set ns axis (to - from)
   pub items : (js : List ℕ) → InBox ms js → (x : X) → shown js x ↔ shows (slice_set js axis (from + slice_index js axis)) x
+
+-- a producer that shows nothing that another does not, at the same lengths
+pub record IsRefinedBy {X : Type 0} (ns : List ℕ) (shows : List ℕ → X → Type 0) (ms : List ℕ) (shown : List ℕ → X → Type 0) : Type 0 where
+  pub lengths : ms ≡ ns
+  pub items : (is : List ℕ) (x : X) → shown is x → shows is x

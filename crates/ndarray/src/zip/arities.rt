@@ -15,7 +15,7 @@ use crate::zip::assigning::assign_items;
 use crate::zip::calls::{On1, On2, On3, On4, On5, On6};
 use crate::zip::collecting::collect_items;
 use crate::zip::fold_while::FoldWhile;
-use crate::zip::producer::NdProducer;
+use crate::zip::producer::{NdProducer, preferred_order};
 use crate::zip::walks::{all_items, any_items, fold_items, fold_items_while, visit_items};
 use crate::zip::{Parts, Zip};
 use std::alloc::{AllocError, Global};
@@ -31,7 +31,8 @@ impl<N: NdProducer<Dim = D>, D: Lengths> Zip<Parts<N, 1>, D> {
             dimension: _,
         } = self;
         let Parts { nested } = parts;
-        visit_items(nested, Order::RowMajor, On1(f))
+        let order = preferred_order(&nested);
+        visit_items(nested, order, On1(f))
     }
 
     /// Calls `f` once at the total and the items of each index list; each answer is the next total, and the
@@ -45,7 +46,8 @@ impl<N: NdProducer<Dim = D>, D: Lengths> Zip<Parts<N, 1>, D> {
             dimension: _,
         } = self;
         let Parts { nested } = parts;
-        fold_items(nested, Order::RowMajor, acc, On1(f))
+        let order = preferred_order(&nested);
+        fold_items(nested, order, acc, On1(f))
     }
 
     /// As `fold`, up to the first answer that is `Done`.
@@ -104,7 +106,8 @@ impl<N: NdProducer<Dim = D>, D: Lengths> Zip<Parts<N, 1>, D> {
             dimension: _,
         } = self;
         let Parts { nested } = parts;
-        collect_items(alloc, nested, Order::RowMajor, On1(f))
+        let order = preferred_order(&nested);
+        collect_items(alloc, nested, order, On1(f))
     }
 
     /// Leaves in the cells of an array what `f` answers at the items of each index list.
@@ -140,7 +143,8 @@ impl<X, Y, N: NdProducer<Item = (X, Y), Dim = D>, D: Lengths> Zip<Parts<N, 2>, D
             dimension: _,
         } = self;
         let Parts { nested } = parts;
-        visit_items(nested, Order::RowMajor, On2(f))
+        let order = preferred_order(&nested);
+        visit_items(nested, order, On2(f))
     }
 
     /// Calls `f` once at the total and the items of each index list; each answer is the next total, and the
@@ -154,7 +158,8 @@ impl<X, Y, N: NdProducer<Item = (X, Y), Dim = D>, D: Lengths> Zip<Parts<N, 2>, D
             dimension: _,
         } = self;
         let Parts { nested } = parts;
-        fold_items(nested, Order::RowMajor, acc, On2(f))
+        let order = preferred_order(&nested);
+        fold_items(nested, order, acc, On2(f))
     }
 
     /// As `fold`, up to the first answer that is `Done`.
@@ -213,7 +218,8 @@ impl<X, Y, N: NdProducer<Item = (X, Y), Dim = D>, D: Lengths> Zip<Parts<N, 2>, D
             dimension: _,
         } = self;
         let Parts { nested } = parts;
-        collect_items(alloc, nested, Order::RowMajor, On2(f))
+        let order = preferred_order(&nested);
+        collect_items(alloc, nested, order, On2(f))
     }
 
     /// Leaves in the cells of an array what `f` answers at the items of each index list.
@@ -249,7 +255,8 @@ impl<X, Y, Z, N: NdProducer<Item = ((X, Y), Z), Dim = D>, D: Lengths> Zip<Parts<
             dimension: _,
         } = self;
         let Parts { nested } = parts;
-        visit_items(nested, Order::RowMajor, On3(f))
+        let order = preferred_order(&nested);
+        visit_items(nested, order, On3(f))
     }
 
     /// Calls `f` once at the total and the items of each index list; each answer is the next total, and the
@@ -263,7 +270,8 @@ impl<X, Y, Z, N: NdProducer<Item = ((X, Y), Z), Dim = D>, D: Lengths> Zip<Parts<
             dimension: _,
         } = self;
         let Parts { nested } = parts;
-        fold_items(nested, Order::RowMajor, acc, On3(f))
+        let order = preferred_order(&nested);
+        fold_items(nested, order, acc, On3(f))
     }
 
     /// As `fold`, up to the first answer that is `Done`.
@@ -322,7 +330,8 @@ impl<X, Y, Z, N: NdProducer<Item = ((X, Y), Z), Dim = D>, D: Lengths> Zip<Parts<
             dimension: _,
         } = self;
         let Parts { nested } = parts;
-        collect_items(alloc, nested, Order::RowMajor, On3(f))
+        let order = preferred_order(&nested);
+        collect_items(alloc, nested, order, On3(f))
     }
 
     /// Leaves in the cells of an array what `f` answers at the items of each index list.
@@ -358,7 +367,8 @@ impl<X, Y, Z, U, N: NdProducer<Item = (((X, Y), Z), U), Dim = D>, D: Lengths> Zi
             dimension: _,
         } = self;
         let Parts { nested } = parts;
-        visit_items(nested, Order::RowMajor, On4(f))
+        let order = preferred_order(&nested);
+        visit_items(nested, order, On4(f))
     }
 
     /// Calls `f` once at the total and the items of each index list; each answer is the next total, and the
@@ -372,7 +382,8 @@ impl<X, Y, Z, U, N: NdProducer<Item = (((X, Y), Z), U), Dim = D>, D: Lengths> Zi
             dimension: _,
         } = self;
         let Parts { nested } = parts;
-        fold_items(nested, Order::RowMajor, acc, On4(f))
+        let order = preferred_order(&nested);
+        fold_items(nested, order, acc, On4(f))
     }
 
     /// As `fold`, up to the first answer that is `Done`.
@@ -435,7 +446,8 @@ impl<X, Y, Z, U, N: NdProducer<Item = (((X, Y), Z), U), Dim = D>, D: Lengths> Zi
             dimension: _,
         } = self;
         let Parts { nested } = parts;
-        collect_items(alloc, nested, Order::RowMajor, On4(f))
+        let order = preferred_order(&nested);
+        collect_items(alloc, nested, order, On4(f))
     }
 
     /// Leaves in the cells of an array what `f` answers at the items of each index list.
@@ -474,7 +486,8 @@ impl<X, Y, Z, U, V, N: NdProducer<Item = ((((X, Y), Z), U), V), Dim = D>, D: Len
             dimension: _,
         } = self;
         let Parts { nested } = parts;
-        visit_items(nested, Order::RowMajor, On5(f))
+        let order = preferred_order(&nested);
+        visit_items(nested, order, On5(f))
     }
 
     /// Calls `f` once at the total and the items of each index list; each answer is the next total, and the
@@ -488,7 +501,8 @@ impl<X, Y, Z, U, V, N: NdProducer<Item = ((((X, Y), Z), U), V), Dim = D>, D: Len
             dimension: _,
         } = self;
         let Parts { nested } = parts;
-        fold_items(nested, Order::RowMajor, acc, On5(f))
+        let order = preferred_order(&nested);
+        fold_items(nested, order, acc, On5(f))
     }
 
     /// As `fold`, up to the first answer that is `Done`.
@@ -551,7 +565,8 @@ impl<X, Y, Z, U, V, N: NdProducer<Item = ((((X, Y), Z), U), V), Dim = D>, D: Len
             dimension: _,
         } = self;
         let Parts { nested } = parts;
-        collect_items(alloc, nested, Order::RowMajor, On5(f))
+        let order = preferred_order(&nested);
+        collect_items(alloc, nested, order, On5(f))
     }
 
     /// Leaves in the cells of an array what `f` answers at the items of each index list.
@@ -590,7 +605,8 @@ impl<X, Y, Z, U, V, W, N: NdProducer<Item = (((((X, Y), Z), U), V), W), Dim = D>
             dimension: _,
         } = self;
         let Parts { nested } = parts;
-        visit_items(nested, Order::RowMajor, On6(f))
+        let order = preferred_order(&nested);
+        visit_items(nested, order, On6(f))
     }
 
     /// Calls `f` once at the total and the items of each index list; each answer is the next total, and the
@@ -604,7 +620,8 @@ impl<X, Y, Z, U, V, W, N: NdProducer<Item = (((((X, Y), Z), U), V), W), Dim = D>
             dimension: _,
         } = self;
         let Parts { nested } = parts;
-        fold_items(nested, Order::RowMajor, acc, On6(f))
+        let order = preferred_order(&nested);
+        fold_items(nested, order, acc, On6(f))
     }
 
     /// As `fold`, up to the first answer that is `Done`.

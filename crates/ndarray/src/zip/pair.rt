@@ -56,6 +56,42 @@ impl<P: NdProducer, Q: NdProducer> NdProducer for Pair<P, Q> {
         let Pair { first, second } = self;
         first.run(order).zip(second.run(order))
     }
+
+    type Flat = (P::Flat, Q::Flat);
+
+    type FlatRun = Zipped<P::FlatRun, Q::FlatRun>;
+
+    ghost flat_form = { λ s o flat. P.flat_form s.first o flat.0 × Q.flat_form s.second o flat.1 };
+
+    fn tendency(&self) -> i32 {
+        self.first.tendency().saturating_add(self.second.tendency())
+    }
+
+    fn try_flat(self, order: Order) -> Result<(P::Flat, Q::Flat), Self> {
+        let Pair { first, second } = self;
+        match first.try_flat(order) {
+            Err(first) => Err(Pair { first, second }),
+            Ok(first) => match second.try_flat(order) {
+                Ok(second) => Ok((first, second)),
+                Err(second) => {
+                    let first = P::from_flat(first);
+                    Err(Pair { first, second })
+                }
+            },
+        }
+    }
+
+    fn from_flat(flat: (P::Flat, Q::Flat)) -> Self {
+        let (first, second) = flat;
+        let first = P::from_flat(first);
+        let second = Q::from_flat(second);
+        Pair { first, second }
+    }
+
+    fn run_flat(flat: (P::Flat, Q::Flat)) -> Zipped<P::FlatRun, Q::FlatRun> {
+        let (first, second) = flat;
+        P::run_flat(first).zip(Q::run_flat(second))
+    }
 }
 
 impl<P: KeepsLengths, Q: KeepsLengths> Clone for Pair<P, Q> {

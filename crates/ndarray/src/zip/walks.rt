@@ -19,10 +19,20 @@ pub(crate) fn fold_items<P: NdProducer, B, C: FoldCall<B, P::Item, Out = B>>(
     requires callable { MayFold (P.shows p) C.calls C.asks (box_in order (P.lengths p)) f init }
     ensures ran { Folds (P.shows p) C.calls (box_in order (P.lengths p)) f init result }
 {
-    let mut run = p.run(order);
     let mut acc = init;
-    while let Some(x) = run.next() {
-        acc = f.call(acc, x);
+    match p.try_flat(order) {
+        Ok(flat) => {
+            let mut run = P::run_flat(flat);
+            while let Some(y) = run.next() {
+                acc = f.call(acc, y);
+            }
+        }
+        Err(p) => {
+            let mut run = p.run(order);
+            while let Some(x) = run.next() {
+                acc = f.call(acc, x);
+            }
+        }
     }
     acc
 }
@@ -36,9 +46,19 @@ pub(crate) fn visit_items<P: NdProducer, C: ItemCall<P::Item, Out = ()>>(
     requires callable { MayVisit (P.shows p) C.calls C.asks (box_in order (P.lengths p)) f }
     ensures ran { Visits (P.shows p) C.calls (box_in order (P.lengths p)) f }
 {
-    let mut run = p.run(order);
-    while let Some(x) = run.next() {
-        f.call(x);
+    match p.try_flat(order) {
+        Ok(flat) => {
+            let mut run = P::run_flat(flat);
+            while let Some(y) = run.next() {
+                f.call(y);
+            }
+        }
+        Err(p) => {
+            let mut run = p.run(order);
+            while let Some(x) = run.next() {
+                f.call(x);
+            }
+        }
     }
 }
 

@@ -1,7 +1,9 @@
 //! Views to write in, and what is handed out to write in, as producers.
 
 ghost use Rattle.std.specs.Prelude.{◌≡◌, [], ◌∷◌, length, Some};
-ghost use Rattle.ndarray.specs.Grid.{cell, line};
+ghost use Rattle.ndarray.specs.Grid.{cell, line, IsGrid};
+ghost use Rattle.ndarray.specs.Limits.{IsWithinLimit};
+ghost use Rattle.ndarray.specs.declared.base.shape.Order.TheVariants.{RowMajor};
 
 use crate::base::array::{ArrayBase, ArrayViewMut};
 use crate::base::axis::Axis;
@@ -13,6 +15,7 @@ use crate::subviews::axis_mut::AxisIterMut;
 use crate::subviews::exact_chunks_mut::{ExactChunksIterMut, ExactChunksMut};
 use crate::subviews::lanes_mut::{LanesIterMut, LanesMut};
 use crate::zip::producer::{IntoNdProducer, NdProducer, Shaped};
+use std::slice::IterMut;
 
 impl<'a, A: 'a, D: Lengths> NdProducer for ArrayViewMut<'a, A, D> {
     type Item = &'a mut A;
@@ -33,6 +36,39 @@ impl<'a, A: 'a, D: Lengths> NdProducer for ArrayViewMut<'a, A, D> {
 
     fn run(self, order: Order) -> ElementsBaseMut<'a, A, D> {
         ElementsBaseMut::in_order(self, order)
+    }
+
+    type Flat = (&'a mut [A], D);
+
+    type FlatRun = IterMut<'a, A>;
+
+    ghost flat_form = { λ v o flat. (o ≡ RowMajor) × (flat.0.now ≡ v.cells) × (D.numbers flat.1 ≡ v.lengths) × IsGrid v × IsWithinLimit v.lengths };
+
+    fn tendency(&self) -> i32 {
+        self.layout_tendency()
+    }
+
+    fn try_flat(self, order: Order) -> Result<(&'a mut [A], D), Self> {
+        match order {
+            Order::RowMajor => {
+                let dim = self.raw_dim();
+                match self.try_into_slice() {
+                    Ok(slice) => Ok((slice, dim)),
+                    Err(view) => Err(view),
+                }
+            }
+            Order::ColumnMajor => Err(self),
+        }
+    }
+
+    fn from_flat(flat: (&'a mut [A], D)) -> Self {
+        let (slice, dim) = flat;
+        ArrayBase::from_slice(slice, dim)
+    }
+
+    fn run_flat(flat: (&'a mut [A], D)) -> IterMut<'a, A> {
+        let (slice, _) = flat;
+        slice.iter_mut()
     }
 }
 
@@ -77,6 +113,28 @@ impl<'a, A, D: Lengths> NdProducer for AxisIterMut<'a, A, D> {
     fn run(self, _order: Order) -> AxisIterMut<'a, A, D> {
         self
     }
+
+    type Flat = Self;
+
+    type FlatRun = AxisIterMut<'a, A, D>;
+
+    ghost flat_form = { λ s o flat. (flat ≡ s) × (o ≡ RowMajor) };
+
+    fn tendency(&self) -> i32 {
+        0
+    }
+
+    fn try_flat(self, _order: Order) -> Result<Self, Self> {
+        Err(self)
+    }
+
+    fn from_flat(flat: Self) -> Self {
+        flat
+    }
+
+    fn run_flat(flat: Self) -> AxisIterMut<'a, A, D> {
+        flat.run(Order::RowMajor)
+    }
 }
 
 impl<'a, A, D: Lengths> Shaped for LanesMut<'a, A, D> {
@@ -105,6 +163,28 @@ impl<'a, A, D: Lengths> NdProducer for LanesMut<'a, A, D> {
         LanesIterMut {
             items: self.tiles.run(order),
         }
+    }
+
+    type Flat = Self;
+
+    type FlatRun = LanesIterMut<'a, A, D>;
+
+    ghost flat_form = { λ s o flat. (flat ≡ s) × (o ≡ RowMajor) };
+
+    fn tendency(&self) -> i32 {
+        0
+    }
+
+    fn try_flat(self, _order: Order) -> Result<Self, Self> {
+        Err(self)
+    }
+
+    fn from_flat(flat: Self) -> Self {
+        flat
+    }
+
+    fn run_flat(flat: Self) -> LanesIterMut<'a, A, D> {
+        flat.run(Order::RowMajor)
     }
 }
 
@@ -137,5 +217,27 @@ impl<'a, A, D: Lengths> NdProducer for ExactChunksMut<'a, A, D> {
         ExactChunksIterMut {
             items: self.tiles.run(order),
         }
+    }
+
+    type Flat = Self;
+
+    type FlatRun = ExactChunksIterMut<'a, A, D>;
+
+    ghost flat_form = { λ s o flat. (flat ≡ s) × (o ≡ RowMajor) };
+
+    fn tendency(&self) -> i32 {
+        0
+    }
+
+    fn try_flat(self, _order: Order) -> Result<Self, Self> {
+        Err(self)
+    }
+
+    fn from_flat(flat: Self) -> Self {
+        flat
+    }
+
+    fn run_flat(flat: Self) -> ExactChunksIterMut<'a, A, D> {
+        flat.run(Order::RowMajor)
     }
 }
