@@ -60,7 +60,8 @@ impl<N: NdProducer<Dim = D>, D: Lengths> Zip<Parts<N, 1>, D> {
             dimension: _,
         } = self;
         let Parts { nested } = parts;
-        fold_items_while(nested, Order::RowMajor, acc, On1(f))
+        let order = preferred_order(&nested);
+        fold_items_while(nested, order, acc, On1(f))
     }
 
     /// Whether `f` answers `true` at the items of each index list; it stops at the first `false`.
@@ -73,7 +74,8 @@ impl<N: NdProducer<Dim = D>, D: Lengths> Zip<Parts<N, 1>, D> {
             dimension: _,
         } = self;
         let Parts { nested } = parts;
-        all_items(nested, Order::RowMajor, On1(f))
+        let order = preferred_order(&nested);
+        all_items(nested, order, On1(f))
     }
 
     /// Whether `f` answers `true` at the items of some index list; it stops at the first `true`.
@@ -86,7 +88,8 @@ impl<N: NdProducer<Dim = D>, D: Lengths> Zip<Parts<N, 1>, D> {
             dimension: _,
         } = self;
         let Parts { nested } = parts;
-        any_items(nested, Order::RowMajor, On1(f))
+        let order = preferred_order(&nested);
+        any_items(nested, order, On1(f))
     }
 
     /// The array that has at each index list what `f` answers at the items there.
@@ -172,7 +175,8 @@ impl<X, Y, N: NdProducer<Item = (X, Y), Dim = D>, D: Lengths> Zip<Parts<N, 2>, D
             dimension: _,
         } = self;
         let Parts { nested } = parts;
-        fold_items_while(nested, Order::RowMajor, acc, On2(f))
+        let order = preferred_order(&nested);
+        fold_items_while(nested, order, acc, On2(f))
     }
 
     /// Whether `f` answers `true` at the items of each index list; it stops at the first `false`.
@@ -185,7 +189,8 @@ impl<X, Y, N: NdProducer<Item = (X, Y), Dim = D>, D: Lengths> Zip<Parts<N, 2>, D
             dimension: _,
         } = self;
         let Parts { nested } = parts;
-        all_items(nested, Order::RowMajor, On2(f))
+        let order = preferred_order(&nested);
+        all_items(nested, order, On2(f))
     }
 
     /// Whether `f` answers `true` at the items of some index list; it stops at the first `true`.
@@ -198,7 +203,8 @@ impl<X, Y, N: NdProducer<Item = (X, Y), Dim = D>, D: Lengths> Zip<Parts<N, 2>, D
             dimension: _,
         } = self;
         let Parts { nested } = parts;
-        any_items(nested, Order::RowMajor, On2(f))
+        let order = preferred_order(&nested);
+        any_items(nested, order, On2(f))
     }
 
     /// The array that has at each index list what `f` answers at the items there.
@@ -284,7 +290,8 @@ impl<X, Y, Z, N: NdProducer<Item = ((X, Y), Z), Dim = D>, D: Lengths> Zip<Parts<
             dimension: _,
         } = self;
         let Parts { nested } = parts;
-        fold_items_while(nested, Order::RowMajor, acc, On3(f))
+        let order = preferred_order(&nested);
+        fold_items_while(nested, order, acc, On3(f))
     }
 
     /// Whether `f` answers `true` at the items of each index list; it stops at the first `false`.
@@ -297,7 +304,8 @@ impl<X, Y, Z, N: NdProducer<Item = ((X, Y), Z), Dim = D>, D: Lengths> Zip<Parts<
             dimension: _,
         } = self;
         let Parts { nested } = parts;
-        all_items(nested, Order::RowMajor, On3(f))
+        let order = preferred_order(&nested);
+        all_items(nested, order, On3(f))
     }
 
     /// Whether `f` answers `true` at the items of some index list; it stops at the first `true`.
@@ -310,7 +318,8 @@ impl<X, Y, Z, N: NdProducer<Item = ((X, Y), Z), Dim = D>, D: Lengths> Zip<Parts<
             dimension: _,
         } = self;
         let Parts { nested } = parts;
-        any_items(nested, Order::RowMajor, On3(f))
+        let order = preferred_order(&nested);
+        any_items(nested, order, On3(f))
     }
 
     /// The array that has at each index list what `f` answers at the items there.
@@ -400,7 +409,8 @@ impl<X, Y, Z, U, N: NdProducer<Item = (((X, Y), Z), U), Dim = D>, D: Lengths> Zi
             dimension: _,
         } = self;
         let Parts { nested } = parts;
-        fold_items_while(nested, Order::RowMajor, acc, On4(f))
+        let order = preferred_order(&nested);
+        fold_items_while(nested, order, acc, On4(f))
     }
 
     /// Whether `f` answers `true` at the items of each index list; it stops at the first `false`.
@@ -413,7 +423,8 @@ impl<X, Y, Z, U, N: NdProducer<Item = (((X, Y), Z), U), Dim = D>, D: Lengths> Zi
             dimension: _,
         } = self;
         let Parts { nested } = parts;
-        all_items(nested, Order::RowMajor, On4(f))
+        let order = preferred_order(&nested);
+        all_items(nested, order, On4(f))
     }
 
     /// Whether `f` answers `true` at the items of some index list; it stops at the first `true`.
@@ -426,7 +437,8 @@ impl<X, Y, Z, U, N: NdProducer<Item = (((X, Y), Z), U), Dim = D>, D: Lengths> Zi
             dimension: _,
         } = self;
         let Parts { nested } = parts;
-        any_items(nested, Order::RowMajor, On4(f))
+        let order = preferred_order(&nested);
+        any_items(nested, order, On4(f))
     }
 
     /// The array that has at each index list what `f` answers at the items there.
@@ -519,7 +531,8 @@ impl<X, Y, Z, U, V, N: NdProducer<Item = ((((X, Y), Z), U), V), Dim = D>, D: Len
             dimension: _,
         } = self;
         let Parts { nested } = parts;
-        fold_items_while(nested, Order::RowMajor, acc, On5(f))
+        let order = preferred_order(&nested);
+        fold_items_while(nested, order, acc, On5(f))
     }
 
     /// Whether `f` answers `true` at the items of each index list; it stops at the first `false`.
@@ -532,7 +545,8 @@ impl<X, Y, Z, U, V, N: NdProducer<Item = ((((X, Y), Z), U), V), Dim = D>, D: Len
             dimension: _,
         } = self;
         let Parts { nested } = parts;
-        all_items(nested, Order::RowMajor, On5(f))
+        let order = preferred_order(&nested);
+        all_items(nested, order, On5(f))
     }
 
     /// Whether `f` answers `true` at the items of some index list; it stops at the first `true`.
@@ -545,7 +559,8 @@ impl<X, Y, Z, U, V, N: NdProducer<Item = ((((X, Y), Z), U), V), Dim = D>, D: Len
             dimension: _,
         } = self;
         let Parts { nested } = parts;
-        any_items(nested, Order::RowMajor, On5(f))
+        let order = preferred_order(&nested);
+        any_items(nested, order, On5(f))
     }
 
     /// The array that has at each index list what `f` answers at the items there.
@@ -638,7 +653,8 @@ impl<X, Y, Z, U, V, W, N: NdProducer<Item = (((((X, Y), Z), U), V), W), Dim = D>
             dimension: _,
         } = self;
         let Parts { nested } = parts;
-        fold_items_while(nested, Order::RowMajor, acc, On6(f))
+        let order = preferred_order(&nested);
+        fold_items_while(nested, order, acc, On6(f))
     }
 
     /// Whether `f` answers `true` at the items of each index list; it stops at the first `false`.
@@ -651,7 +667,8 @@ impl<X, Y, Z, U, V, W, N: NdProducer<Item = (((((X, Y), Z), U), V), W), Dim = D>
             dimension: _,
         } = self;
         let Parts { nested } = parts;
-        all_items(nested, Order::RowMajor, On6(f))
+        let order = preferred_order(&nested);
+        all_items(nested, order, On6(f))
     }
 
     /// Whether `f` answers `true` at the items of some index list; it stops at the first `true`.
@@ -664,6 +681,7 @@ impl<X, Y, Z, U, V, W, N: NdProducer<Item = (((((X, Y), Z), U), V), W), Dim = D>
             dimension: _,
         } = self;
         let Parts { nested } = parts;
-        any_items(nested, Order::RowMajor, On6(f))
+        let order = preferred_order(&nested);
+        any_items(nested, order, On6(f))
     }
 }
