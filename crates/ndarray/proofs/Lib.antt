@@ -15,6 +15,7 @@ pub mod Filled
 pub mod Folded
 pub mod Gathered
 pub mod Images
+pub mod InOrder
 pub mod IndexLists
 pub mod Indexed
 pub mod Items
@@ -45,8 +46,8 @@ pub mod Reached
 pub mod Readings
 pub mod Refilled
 pub mod Regrouped
-pub mod RunningSum
 pub mod Rows
+pub mod RunningSum
 pub mod Runs
 pub mod Selections
 pub mod Sharing

@@ -1,7 +1,7 @@
 //! Two producers as one.
 
 ghost use Rattle.std.specs.Prelude.{◌≡◌};
-ghost use Rattle.ndarray.specs.Producers.{both};
+ghost use Rattle.ndarray.specs.Producers.{both, steps_of_both};
 
 use crate::base::axis::Axis;
 use crate::order::Order;
@@ -28,7 +28,7 @@ impl<P: NdProducer, Q: NdProducer> NdProducer for Pair<P, Q> {
 
     type Dim = P::Dim;
 
-    type Run = Zipped<P::Run, Q::Run>;
+    type Run = PairRun<P::Run, Q::Run>;
 
     ghost shows = { λ s. both (P.shows s.first) (Q.shows s.second) };
 
@@ -52,9 +52,12 @@ impl<P: NdProducer, Q: NdProducer> NdProducer for Pair<P, Q> {
         )
     }
 
-    fn run(self, order: Order) -> Zipped<P::Run, Q::Run> {
+    fn run(self, order: Order) -> PairRun<P::Run, Q::Run> {
         let Pair { first, second } = self;
-        first.run(order).zip(second.run(order))
+        PairRun {
+            first: first.run(order),
+            second: second.run(order),
+        }
     }
 
     type Flat = (P::Flat, Q::Flat);
@@ -91,6 +94,37 @@ impl<P: NdProducer, Q: NdProducer> NdProducer for Pair<P, Q> {
     fn run_flat(flat: (P::Flat, Q::Flat)) -> Zipped<P::FlatRun, Q::FlatRun> {
         let (first, second) = flat;
         P::run_flat(first).zip(Q::run_flat(second))
+    }
+}
+
+/// The items of two runs, side by side. Its step is inlined, where that of the standard library's is a call.
+#[derive(Drop)]
+pub struct PairRun<R, S> {
+    first: R,
+    second: S,
+}
+
+impl<R: Iterator, S: Iterator> Iterator for PairRun<R, S>
+where
+    R::Item: Drop,
+{
+    type Item = (R::Item, S::Item);
+
+    ghost can_next = { λ s. R.can_next s.first × S.can_next s.second };
+
+    ghost next_gives = { steps_of_both (λ s. s.first) (λ s. s.second) R.next_gives S.next_gives };
+
+    ghost remaining = { λ s. R.remaining s.first };
+
+    #[inline(always)]
+    fn next(&mut self) -> Option<(R::Item, S::Item)> {
+        let Some(x) = self.first.next() else {
+            return None;
+        };
+        let Some(y) = self.second.next() else {
+            return None;
+        };
+        Some((x, y))
     }
 }
 

@@ -3,6 +3,7 @@
 ghost use Rattle.std.specs.Prelude.{◌≡◌, [], ◌∷◌, length, Some};
 ghost use Rattle.ndarray.specs.Grid.{cell, line, IsGrid};
 ghost use Rattle.ndarray.specs.Limits.{IsWithinLimit};
+ghost use Rattle.ndarray.specs.Orders.{cells_in};
 ghost use Rattle.ndarray.specs.declared.base.shape.Order.TheVariants.{RowMajor};
 
 use crate::base::array::{ArrayBase, ArrayViewMut};
@@ -38,38 +39,40 @@ impl<'a, A: 'a, D: Lengths> NdProducer for ArrayViewMut<'a, A, D> {
         ElementsBaseMut::in_order(self, order)
     }
 
-    type Flat = (&'a mut [A], D);
+    type Flat = FlatCells<'a, A, D>;
 
     type FlatRun = IterMut<'a, A>;
 
-    ghost flat_form = { λ v o flat. (o ≡ RowMajor) × (flat.0.now ≡ v.cells) × (D.numbers flat.1 ≡ v.lengths) × IsGrid v × IsWithinLimit v.lengths };
+    ghost flat_form = { λ v o flat. (flat.order ≡ o) × (flat.slice.now ≡ cells_in o v) × (D.numbers flat.dim ≡ v.lengths) × IsGrid v × IsWithinLimit v.lengths };
 
     fn tendency(&self) -> i32 {
         self.layout_tendency()
     }
 
-    fn try_flat(self, order: Order) -> Result<(&'a mut [A], D), Self> {
-        match order {
-            Order::RowMajor => {
-                let dim = self.raw_dim();
-                match self.try_into_slice() {
-                    Ok(slice) => Ok((slice, dim)),
-                    Err(view) => Err(view),
-                }
-            }
-            Order::ColumnMajor => Err(self),
+    fn try_flat(self, order: Order) -> Result<FlatCells<'a, A, D>, Self> {
+        let dim = self.raw_dim();
+        match self.try_into_slice_in(order) {
+            Ok(slice) => Ok(FlatCells { slice, dim, order }),
+            Err(view) => Err(view),
         }
     }
 
-    fn from_flat(flat: (&'a mut [A], D)) -> Self {
-        let (slice, dim) = flat;
-        ArrayBase::from_slice(slice, dim)
+    fn from_flat(flat: FlatCells<'a, A, D>) -> Self {
+        let FlatCells { slice, dim, order } = flat;
+        ArrayBase::from_slice(slice, dim, order)
     }
 
-    fn run_flat(flat: (&'a mut [A], D)) -> IterMut<'a, A> {
-        let (slice, _) = flat;
-        slice.iter_mut()
+    fn run_flat(flat: FlatCells<'a, A, D>) -> IterMut<'a, A> {
+        flat.slice.iter_mut()
     }
+}
+
+/// The cells of a view to write in, side by side in an order.
+#[derive(Drop)]
+pub struct FlatCells<'a, A, D> {
+    slice: &'a mut [A],
+    dim: D,
+    order: Order,
 }
 
 impl<'b, S: DataMut, D: Lengths> IntoNdProducer for &'b mut ArrayBase<S, D>
