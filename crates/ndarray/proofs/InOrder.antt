@@ -1,7 +1,9 @@
 -- Arrays and their cells in an order.
-use Rattle.std.proofs.Common.{◌≡◌, ℕ, List, map, length, Option, Some, refl, sym, ◌∙◌, ap, subst}
-use Rattle.std.specs.Prelude.{reverse}
-use Rattle.std.proofs.lemmas.List.{reverse-reverse, length-reverse}
+use Rattle.std.proofs.Common.{◌≡◌, ℕ, zero, suc, List, [], ◌∷◌, map, length, Some, sym, ◌∙◌, ap, subst}
+use Rattle.std.specs.Prelude.{reverse, slice_get, filter_map, All}
+use Rattle.std.specs.List.{AllZip}
+use Rattle.std.proofs.lemmas.List.Elements.{All-head, All-tail}
+use Rattle.std.proofs.lemmas.List.{reverse-reverse}
 use Rattle.ndarray.specs.Index.{InBox, size, row_order}
 use Rattle.ndarray.specs.Grid.{Grid, IsGrid, grid, cell}
 use Rattle.ndarray.specs.Orders.{box_in, cells_in, IsListOfCells}
@@ -10,7 +12,8 @@ use Rattle.ndarray.specs.Views.{transposed}
 use Rattle.ndarray.specs.declared.base.shape.Order.{Order}
 use Rattle.ndarray.specs.declared.base.shape.Order.TheVariants.{RowMajor, ColumnMajor}
 use Rattle.ndarray.proofs.Boxes.{InBox-reverse}
-use Rattle.ndarray.proofs.Cells.{cells_in-HasInOrder, length-along, tabulate-cell, tabulate-is}
+use Rattle.ndarray.specs.order.Steps.{rank}
+use Rattle.ndarray.proofs.Cells.{along-row_order, cell-Some, cell-within, cells_in-HasInOrder, length-along, tabulate-cell, tabulate-is}
 use Rattle.ndarray.proofs.Orders.{box_in-is, box_in-within, length-box_in}
 use Rattle.ndarray.proofs.Permutations.{IsBoxIn-rearranges}
 use Rattle.ndarray.proofs.Sizes.{size-reverse}
@@ -55,3 +58,51 @@ cells_in-list o g xs whole e = record {
   once = IsBoxIn-rearranges o g.lengths (row_order g.lengths) (box_in o g.lengths) (box_in-is RowMajor g.lengths) (box_in-is o g.lengths);
   cells = cells_in-HasInOrder o g whole (box_in o g.lengths) (box_in-is o g.lengths) ∙ ap (map Some) (sym e);
 }
+
+module _ {A : Type 0} (R : A → A → Type 0) where
+  at_place : (xs ys : List A) (k : ℕ) (x y : A) → AllZip R xs ys → slice_get xs k ≡ Some x → slice_get ys k ≡ Some y → R x y
+  at_place [] [] k x y h e f = cc
+  at_place [] (b ∷ ys) k x y h e f = absurd h
+  at_place (a ∷ xs) [] k x y h e f = absurd h
+  at_place (a ∷ xs) (b ∷ ys) zero x y h e f =
+      let p : a ≡ x = cc in
+      let q : b ≡ y = cc in
+      subst (λ v. R v y) p (subst (R a) q h.0)
+  at_place (a ∷ xs) (b ∷ ys) (suc k) x y h e f = at_place xs ys k x y h.1 e f
+
+  module _ (g h : Grid A) (wg : IsGrid g) (wh : IsGrid h) (same_lengths : h.lengths ≡ g.lengths) where
+    there : (is : List ℕ) → InBox g.lengths is → InBox h.lengths is
+    there is b = subst (λ ns. InBox ns is) (sym same_lengths) b
+
+    -- cells at one index list, from cells at one place
+    at_index : AllZip R g.cells h.cells → (is : List ℕ) → InBox g.lengths is → (x y : A) → cell g is ≡ Some x → cell h is ≡ Some y → R x y
+    at_index z is b x y e f =
+        at_place g.cells h.cells (rank g.lengths is) x y z (sym (cell-within g wg is b) ∙ e) (ap (λ ns. slice_get h.cells (rank ns is)) (sym same_lengths) ∙ (sym (cell-within h wh is (there is b)) ∙ f))
+
+    module _ (alike : (is : List ℕ) → InBox g.lengths is → (x y : A) → cell g is ≡ Some x → cell h is ≡ Some y → R x y) where
+      along : (ys : List (List ℕ)) → All (InBox g.lengths) ys → AllZip R (filter_map (cell g) ys) (filter_map (cell h) ys)
+      along [] w = tt
+      along (is ∷ ys) w =
+          let b = All-head (InBox g.lengths) is ys w in
+          let x = cell-Some g wg is b in
+          let y = cell-Some h wh is (there is b) in
+          rw (x.1, y.1) (alike is b x.0 y.0 x.1 y.1, along ys (All-tail (InBox g.lengths) is ys w))
+
+      -- and back
+      at_places : AllZip R g.cells h.cells
+      at_places =
+          let inside : All (InBox g.lengths) (row_order g.lengths) = box_in-within RowMajor g.lengths in
+          let e : filter_map (cell h) (row_order g.lengths) ≡ h.cells = ap (λ ns. filter_map (cell h) (row_order ns)) (sym same_lengths) ∙ along-row_order h wh in
+          subst (λ xs. AllZip R xs h.cells) (along-row_order g wg) (subst (AllZip R (filter_map (cell g) (row_order g.lengths))) e (along (row_order g.lengths) inside))
+
+  -- what holds of the cells of two arrays in an order, place by place, holds of their cells
+  pub AllZip-cells : (o : Order) (g h : Grid A) → IsGrid g → IsGrid h → h.lengths ≡ g.lengths → AllZip R (cells_in o g) (cells_in o h) → AllZip R g.cells h.cells
+  AllZip-cells RowMajor g h wg wh e z = subst (λ xs. AllZip R xs h.cells) (row-cells g wg) (subst (AllZip R (cells_in RowMajor g)) (row-cells h wh) z)
+  AllZip-cells ColumnMajor g h wg wh e z =
+      let tz : AllZip R (transposed g).cells (transposed h).cells = subst (λ xs. AllZip R xs (transposed h).cells) (sym (transposed-cells g)) (subst (AllZip R (cells_in ColumnMajor g)) (sym (transposed-cells h)) z) in
+      let tg = transposed-whole g wg in
+      let th = transposed-whole h wh in
+      let seen : (k : Grid A) → IsGrid k → IsGrid (transposed k) → (is : List ℕ) → InBox k.lengths is → cell (transposed k) (reverse is) ≡ cell k is = λ k w t is b.
+      tabulate-cell (reverse k.lengths) (λ js. cell k (reverse js)) (reverse is) t (InBox-reverse k.lengths is b) ∙ ap (cell k) (reverse-reverse is) in
+      at_places g h wg wh e (λ is b x y p q.
+      at_index (transposed g) (transposed h) tg th (ap reverse e) tz (reverse is) (InBox-reverse g.lengths is b) x y (seen g wg tg is b ∙ p) (seen h wh th is (there g h wg wh e is b) ∙ q))

@@ -44,6 +44,7 @@ pub mod Portions
 pub mod Producers
 pub mod Reached
 pub mod Readings
+pub mod Rearranged
 pub mod Refilled
 pub mod Regrouped
 pub mod Rows

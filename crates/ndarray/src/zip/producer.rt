@@ -143,9 +143,5 @@ impl<P: NdProducer> IntoNdProducer for P {
 
 /// The order in which a producer is walked.
 pub(crate) fn preferred_order<P: NdProducer>(p: &P) -> Order {
-    if p.tendency() < 0 {
-        Order::ColumnMajor
-    } else {
-        Order::RowMajor
-    }
+    Order::by_tendency(p.tendency())
 }

@@ -1,5 +1,4 @@
-use Rattle.std.proofs.Common.{◌∙◌, ap, subst}
-use Rattle.ndarray.specs.Orders.{cells_in}
+use Rattle.std.proofs.Common.{◌∙◌}
 use Rattle.ndarray.proofs.Producers.{Gives-slice_mut}
 use Rattle.ndarray.proofs.zip.writing.ArrayViewMutNdProducer.run_flat.Goals as goal
 
