@@ -22,6 +22,11 @@ impl<A: Clone + Drop, S: Data<Elem = A>, D: Lengths> ArrayBase<S, D> {
         ensures whole { IfOk result IsGrid }
         ensures same { IfOk result (λ a. ((x y : A) → A.is_clone x y → y ≡ x) → a ≡ self.now) }
     {
+        let order = self.fast_order();
+        if let Some(cells) = self.view().slice_in(order) {
+            let items = cells.to_vec(alloc)?;
+            return Ok(ArrayBase::from_elements(self.raw_dim(), order, items));
+        }
         let mut filling = Filling::with_capacity(alloc, self.raw_dim(), Order::RowMajor)?;
         for cell in ElementsBase::new(self.view()) {
             filling.push(cell.clone()?);
