@@ -13,6 +13,7 @@ pub mod Portions
 pub mod Pushed
 pub mod Slots
 pub mod Spots
+pub mod Strided
 pub mod Storage
 pub mod Strewn
 pub mod Strides

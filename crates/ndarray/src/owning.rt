@@ -25,6 +25,11 @@ impl<A: Clone + Drop, S: Data<Elem = A>, D: Lengths> ArrayBase<S, D> {
         ensures same { IfOk result (λ a. ((x y : A) → A.is_clone x y → y ≡ x) → a ≡ self.now) }
         ensures empty { size self.now.lengths ≡ 0 → IsOk result }
     {
+        let order = self.fast_order();
+        if let Some(cells) = self.view().slice_in(order) {
+            let items = clones_of(alloc, cells)?;
+            return Ok(ArrayBase::from_elements(self.raw_dim(), order, items));
+        }
         let mut filling = Filling::with_capacity(alloc, self.raw_dim(), Order::RowMajor)?;
         for cell in ElementsBase::new(self.view()) {
             filling.push(cell.clone()?);
@@ -50,4 +55,15 @@ impl<A: Clone + Drop, S: Data<Elem = A>, D: Lengths> ArrayBase<S, D> {
             Err(storage) => ArrayBase { storage, layout }.to_owned(alloc),
         }
     }
+}
+
+/// A vector of clones of the elements of a slice. Of none it asks for no memory.
+fn clones_of<A: Clone + Drop>(alloc: Global, cells: &[A]) -> Result<Vec<A>, AllocError>
+    ensures ok { IfOk result (λ v. AllZip A.is_clone cells.now v.items) }
+    ensures empty { length cells.now ≡ 0 → IsOk result }
+{
+    if cells.is_empty() {
+        return Ok(Vec::new(alloc));
+    }
+    cells.to_vec(alloc)
 }

@@ -180,7 +180,8 @@ impl<S: DataMut, D: Dimension> ArrayBase<S, D> {
 impl<'a, A, D: Lengths> ArrayView<'a, A, D> {
     /// The same view once more.
     pub(crate) fn again(&self) -> ArrayView<'a, A, D>
-        ensures { result ≡ self.now }
+        ensures same { result ≡ self.now }
+        ensures whole { IsGrid result }
     {
         ArrayBase {
             storage: self.storage,

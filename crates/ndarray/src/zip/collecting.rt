@@ -27,10 +27,22 @@ pub(crate) fn collect_items<P: NdProducer, R: Drop, C: ItemCall<P::Item, Out = R
     ensures empty { size (P.lengths p) ≡ 0 → IsOk result }
 {
     let mut filling = Filling::with_capacity(alloc, p.raw_dim(), order)?;
-    let mut run = p.run(order);
-    while let Some(x) = run.next() {
-        let r = f.call(x);
-        filling.push(r);
+    match p.try_flat(order) {
+        Ok(flat) => {
+            let mut run = P::run_flat(flat);
+            while let Some(y) = run.next() {
+                let r = f.call(y);
+                filling.push(r);
+            }
+            Ok(filling.finish())
+        }
+        Err(p) => {
+            let mut run = p.run(order);
+            while let Some(x) = run.next() {
+                let r = f.call(x);
+                filling.push(r);
+            }
+            Ok(filling.finish())
+        }
     }
-    Ok(filling.finish())
 }
