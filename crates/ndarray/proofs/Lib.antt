@@ -15,6 +15,7 @@ pub mod Filled
 pub mod Folded
 pub mod Gathered
 pub mod Images
+pub mod InOrder
 pub mod IndexLists
 pub mod Indexed
 pub mod Items
@@ -43,12 +44,15 @@ pub mod Portions
 pub mod Producers
 pub mod Reached
 pub mod Readings
+pub mod Rearranged
 pub mod Refilled
 pub mod Regrouped
+pub mod Rows
 pub mod RunningSum
 pub mod Runs
 pub mod Selections
 pub mod Sharing
+pub mod SideBySide
 pub mod Sizes
 pub mod Slices
 pub mod Slots
@@ -69,3 +73,4 @@ pub mod Walks
 pub mod WholeSums
 pub mod WholeTests
 pub mod Writes
+pub mod callers

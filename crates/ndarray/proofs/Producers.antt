@@ -1,35 +1,43 @@
 -- What producers give: the items of two together, and those of a list.
-use Rattle.std.proofs.Common.{◌≡◌, ℕ, ◌+◌, ◌-◌, ap, List, [], ◌∷◌, Option, Some, refl, sym, subst, ◌∙◌, inl, inr}
+use Rattle.std.proofs.Common.{◌≡◌, ℕ, ◌+◌, ◌-◌, ap, List, [], ◌∷◌, Option, Some, None, refl, sym, subst, ◌∙◌, inl, inr, Iter, Bor, MutBor}
 use Rattle.std.specs.Iterator.{YieldsFirstBy}
+use Rattle.std.specs.declared.slice.IterMut.{IterMut}
+use Rattle.std.specs.Slice.Iter.{iter_steps, iter_mut_steps, iter_mut_rest}
+use Rattle.std.proofs.lemmas.List.{nil_from_length}
 use Rattle.std.specs.Iterator.Adapters.{zip_steps, zip_first, zip_second}
 use Rattle.std.specs.declared.iter.Zip.{Zip}
 use Rattle.std.specs.Prelude.{filter_map, slice_set, slice_index}
 use Rattle.ndarray.specs.Index.{InBox}
 use Rattle.ndarray.specs.Grid.{Grid, IsGrid, HasCells, cell}
 use Rattle.ndarray.specs.Orders.{box_in, cells_in}
-use Rattle.ndarray.specs.Producers.{Gives, GivesFrom, IsPart, both}
+use Rattle.ndarray.specs.Producers.{Gives, GivesFrom, IsPart, both, steps_of_both}
 use Rattle.ndarray.specs.Views.{axis_part}
 use Rattle.ndarray.specs.declared.base.shape.Order.{Order}
 use Rattle.ndarray.proofs.Cells.{cell-Some, along-first, HasCells-first, HasCells-box_in, tabulate-cell}
 
-module _ {S T A B : Type 0} (next : S → Option A → S → Type 0) (others : T → Option B → T → Type 0) (shows : List ℕ → A → Type 0) (shown : List ℕ → B → Type 0) where
-  pairs : (is : List (List ℕ)) (z : Zip S T)
-      → GivesFrom next shows (zip_first z) is → GivesFrom others shown (zip_second z) is
-      → GivesFrom (zip_steps next others) (both shows shown) z is
-  pairs [] z v w = λ t j st. v t.0 (zip_first j) st.0
+module _ {P S T A B : Type 0} (first : P → S) (second : P → T) (next : S → Option A → S → Type 0) (others : T → Option B → T → Type 0) (shows : List ℕ → A → Type 0) (shown : List ℕ → B → Type 0) where
+  pairs : (is : List (List ℕ)) (z : P)
+      → GivesFrom next shows (first z) is → GivesFrom others shown (second z) is
+      → GivesFrom (steps_of_both first second next others) (both shows shown) z is
+  pairs [] z v w = λ t j st. v t.0 (first j) st.0
   pairs (i ∷ is) z v w = (
     (λ j n. elim n [ inl h ↦ v.0 h.0 h.1 | inr h ↦ w.0 h.0 h.1 ]),
-    (λ t j st. let a = v.1 t.0 (zip_first j) st.0 in let b = w.1 t.1 (zip_second j) st.1 in ((a.0, b.0), pairs is j a.1 b.1)),
+    (λ t j st. let a = v.1 t.0 (first j) st.0 in let b = w.1 t.1 (second j) st.1 in ((a.0, b.0), pairs is j a.1 b.1)),
   )
 
   -- two runs over the same index lists, side by side
-  pub Gives-both : {is is' : List (List ℕ)} (s : S) (t : T) (z : Zip S T) → zip_first z ≡ s → zip_second z ≡ t → is ≡ is'
-      → Gives next shows s is → Gives others shown t is' → Gives (zip_steps next others) (both shows shown) z is
-  Gives-both {is} s t z e f k v w = record {
-    from =
-        pairs is z (subst (λ a. GivesFrom next shows a is) (sym e) v.from)
-        (subst (λ b. GivesFrom others shown b is) (sym f) (subst (λ l. GivesFrom others shown t l) (sym k) w.from));
+  pub Gives-pairs : {is is' : List (List ℕ)} (z : P) → is ≡ is'
+      → Gives next shows (first z) is → Gives others shown (second z) is' → Gives (steps_of_both first second next others) (both shows shown) z is
+  Gives-pairs {is} z k v w = record {
+    from = pairs is z v.from (subst (λ l. GivesFrom others shown (second z) l) (sym k) w.from);
   }
+
+-- the same of the standard library's pairs of runs
+pub Gives-both : {S T A B : Type 0} (next : S → Option A → S → Type 0) (others : T → Option B → T → Type 0) (shows : List ℕ → A → Type 0) (shown : List ℕ → B → Type 0)
+    {is is' : List (List ℕ)} (s : S) (t : T) (z : Zip S T) → zip_first z ≡ s → zip_second z ≡ t → is ≡ is'
+    → Gives next shows s is → Gives others shown t is' → Gives (zip_steps next others) (both shows shown) z is
+Gives-both next others shows shown {is} {is'} s t z e f k v w =
+    Gives-pairs zip_first zip_second next others shows shown z k (subst (λ a. Gives next shows a is) (sym e) v) (subst (λ b. Gives others shown b is') (sym f) w)
 
 module _ {A B : Type 0} (view : A → B) (shows : List ℕ → A → Type 0) where
   -- an item that reads as the value beside an index list may stand there
@@ -81,3 +89,32 @@ module _ {A B : Type 0} (view : A → B) (g : Grid B) where
             ap (λ k. cell k js) e ∙ tabulate-cell ns _ js (subst IsGrid e whole) (subst (λ k. InBox k.lengths js) e b) in
             ((λ k. sym c ∙ k), (λ k. c ∙ k));
       }
+
+module _ {S A : Type 0} (next other : S → Option A → S → Type 0) (shows : List ℕ → A → Type 0) (as_other : (s : S) (r : Option A) (t : S) → next s r t → other s r t) where
+  steps_as : (is : List (List ℕ)) (s : S) → GivesFrom other shows s is → GivesFrom next shows s is
+  steps_as [] s v = λ x t st. v x t (as_other s (Some x) t st)
+  steps_as (i ∷ is) s v = ((λ t st. v.0 t (as_other s None t st)), (λ x t st. let w = v.1 x t (as_other s (Some x) t st) in (w.0, steps_as is t w.1)))
+
+  -- what calls that are also calls of another kind give
+  pub Gives-steps : {is : List (List ℕ)} {s : S} → Gives other shows s is → Gives next shows s is
+  Gives-steps {is} {s} w = record { from = steps_as is s w.from }
+
+-- the elements of a slice stand beside the index lists of an array whose cells they are
+pub Gives-slice : {A : Type 0} (g : Grid A) (o : Order) (s : Iter A) → IsGrid g → s.rest.now ≡ cells_in o g
+    → Gives iter_steps (λ i x. cell g i ≡ Some x.now) s (box_in o g.lengths)
+Gives-slice {A} g o s whole e =
+    Gives-steps iter_steps (YieldsFirstBy (λ x. x.now) (λ t. t.rest.now)) (λ i x. cell g i ≡ Some x.now) (λ t r u st. first t r u st) (Gives-cells (λ x. x.now) g (λ t. t.rest.now) o whole e)
+  where
+    first : (t : Iter A) (r : Option (Bor A)) (u : Iter A) → iter_steps t r u → YieldsFirstBy (λ x. x.now) (λ w. w.rest.now) t r u
+    first t None u st = let e = nil_from_length t.rest.now st.0 in (e, ap (λ w. w.rest.now) st.1 ∙ e)
+    first t (Some x) u st = st
+
+-- the same of what is lent to write to
+pub Gives-slice_mut : {A : Type 0} (g : Grid A) (o : Order) (s : IterMut A) → IsGrid g → iter_mut_rest s ≡ cells_in o g
+    → Gives iter_mut_steps (λ i x. cell g i ≡ Some x.now) s (box_in o g.lengths)
+Gives-slice_mut {A} g o s whole e =
+    Gives-steps iter_mut_steps (YieldsFirstBy (λ x. x.now) iter_mut_rest) (λ i x. cell g i ≡ Some x.now) (λ t r u st. first t r u st) (Gives-cells (λ x. x.now) g iter_mut_rest o whole e)
+  where
+    first : (t : IterMut A) (r : Option (MutBor A)) (u : IterMut A) → iter_mut_steps t r u → YieldsFirstBy (λ x. x.now) iter_mut_rest t r u
+    first t None u st = (nil_from_length (iter_mut_rest t) st.0, nil_from_length (iter_mut_rest u) st.1)
+    first t (Some x) u st = st

@@ -2,7 +2,9 @@
 use Rattle.std.proofs.Common.{◌≡◌, ℕ, List, [], ◌∷◌, ◌++◌, Option, Some, None, refl, sym, subst, ◌∙◌, append-nil, inl, inr, append_assoc}
 use Rattle.std.proofs.lemmas.Fn.{FoldsTo-push}
 use Rattle.std.specs.List.{FoldsTo}
-use Rattle.ndarray.specs.Producers.{Gives, GivesFrom}
+use Rattle.ndarray.specs.Orders.{box_in}
+use Rattle.ndarray.specs.Producers.{Gives, GivesFrom, IsRefinedBy}
+use Rattle.ndarray.specs.declared.base.shape.Order.{Order}
 use Rattle.ndarray.specs.Runs.{RunsUntil, MayTurnAt, TurnAt, TakesAt}
 
 module _ {S A P : Type 0} (next : S → Option A → S → Type 0) (shows : List ℕ → A → Type 0) (turn : P → A → P → Type 0) where
@@ -65,3 +67,14 @@ module _ {S A P : Type 0} (next : S → Option A → S → Type 0) (shows : List
   pub stopped_at : {is : List (List ℕ)} {t u : S} {p q : P} {x : A} (Stop : P → A → Type 0) (ended : P → Type 0) → Reached is t p q → next t (Some x) u → Stop q x
       → RunsUntil (TurnAt shows turn) (λ r i. (y : A) × shows i y × Stop r y) ended p is
   stopped_at {q = q} {x = x} Stop ended b st h = let k = found b st in (k.done, q, k.turns, inr (k.place, k.rest, k.parts, (x, k.stands, h)))
+
+-- what a run of a producer gives at index lists, one that shows no less gives
+gives_as : {S A : Type 0} (next : S → Option A → S → Type 0) (shows shown : List ℕ → A → Type 0) → ((i : List ℕ) (x : A) → shown i x → shows i x)
+    → (is : List (List ℕ)) (s : S) → GivesFrom next shown s is → GivesFrom next shows s is
+gives_as next shows shown less [] s v = v
+gives_as next shows shown less (i ∷ is) s v = (v.0, λ x t st. let w = v.1 x t st in (less i x w.0, gives_as next shows shown less is t w.1))
+
+pub Gives-less : {S A : Type 0} {next : S → Option A → S → Type 0} {s : S} {ns ms : List ℕ} {shows shown : List ℕ → A → Type 0} (o : Order)
+    → IsRefinedBy ns shows ms shown → Gives next shown s (box_in o ms) → Gives next shows s (box_in o ns)
+Gives-less {next = next} {s = s} {ns = ns} {shows = shows} {shown = shown} o less w =
+    record { from = gives_as next shows shown less.items (box_in o ns) s (subst (λ l. GivesFrom next shown s (box_in o l)) less.lengths w.from) }

@@ -1,12 +1,12 @@
 -- One step of a walk.
-use Rattle.std.proofs.Common.{◌≡◌, ℕ, ◌+◌, ◌-◌, ◌*◌, ◌<◌, ◌≤◌, ◌^◌, suc, zero, List, [], ◌∷◌, ◌++◌, length, take, drop, set, get_or, replicate, refl, sym, ◌∙◌, ap, arith, subst}
-use Rattle.std.proofs.lemmas.List.{take-take, drop-drop, drop-take, take_all, drop_all, length-take-le, length-drop, get_or-take, get_or-drop, get_or_default}
+use Rattle.std.proofs.Common.{◌≡◌, ℕ, ◌+◌, ◌-◌, ◌*◌, ◌<◌, ◌≤◌, ◌^◌, suc, zero, List, [], ◌∷◌, ◌++◌, length, take, drop, set, get_or, replicate, refl, sym, ◌∙◌, ap, arith, subst, min}
+use Rattle.std.proofs.lemmas.List.{take-take, drop-drop, drop-take, take_all, drop_all, length-take-le, length-drop, get_or-take, get_or-drop, get_or_default, get_or-set_same}
 use Rattle.std.proofs.Math.Seq.{take-suc, drop-cons}
 use Rattle.std.specs.Prelude.{Contains}
 use Rattle.ndarray.specs.Index.{InBox, size}
 use Rattle.ndarray.specs.Limits.{IsWithinLimit}
 use Rattle.ndarray.specs.Orders.{box_in}
-use Rattle.ndarray.specs.order.Steps.{rank, column_rank, rank_in, axis_in, block_in, walk_rest, WalkStands}
+use Rattle.ndarray.specs.order.Steps.{rank, column_rank, rank_in, axis_in, block_in, walk_rest, WalkStands, row_from}
 use Rattle.ndarray.specs.declared.base.shape.Order.{Order}
 use Rattle.ndarray.specs.declared.base.shape.Order.TheVariants.{RowMajor, ColumnMajor}
 use Rattle.ndarray.proofs.Boxes.{InBox-length, InBox-get, InBox-set, InBox-zeros}
@@ -252,3 +252,76 @@ module _ (o : Order) (ns is js : List ℕ) (left : ℕ) (h : WalkStands o ns is 
       let k : ℕ = rank_in o ns js - rank_in o ns is in
       let e : rank_in o ns is + k ≡ rank_in o ns js = omega arith in
       (k, omega arith, rest-get k js (omega arith) ∙ (ap (λ x. get_or (box_in o ns) x js) e ∙ box_in-at o ns js js b))
+
+-- ---- rows
+
+-- what is left behind the first `count`
+pub walk-skip : (o : Order) (ns is js : List ℕ) (count left rest : ℕ) → WalkStands o ns is left → count + rest ≡ left → (0 < rest → rank_in o ns js ≡ rank_in o ns is + count) → walk_rest o ns js rest ≡ drop count (walk_rest o ns is left)
+walk-skip o ns is js count left zero h e at =
+    let l = length-walk_rest o ns is left h in
+    sym (drop_all count (walk_rest o ns is left) (omega arith))
+walk-skip o ns is js count left (suc rest) h e at =
+    let ranks = at (omega arith) in
+    let box : List (List ℕ) = box_in o ns in
+    ap (λ r. take (suc rest) (drop r box)) ranks
+    ∙ (ap (take (suc rest)) (sym (drop-drop count (rank_in o ns is) box))
+    ∙ (sym (drop-take count (suc rest) (drop (rank_in o ns is) box))
+    ∙ ap (λ m. drop count (take m (drop (rank_in o ns is) box))) e))
+
+module _ (o : Order) (ns : List ℕ) (k : ℕ) (some : 0 < length ns) (ek : k ≡ axis_in o (length ns) 0) where
+  -- the rank of another index list on the row
+  pub row-rank : (is : List ℕ) (v : ℕ) → InBox ns is → rank_in o ns (set is k v) + get_or is k 0 ≡ rank_in o ns is + v
+  row-rank is v b =
+      let m = rank_in-set o ns is 0 v (InBox-length ns is b) some in
+      let one = block_in-none o ns in
+      let P : ℕ → Type 0 = λ x. rank_in o ns (set is x v) + get_or is x 0 ≡ rank_in o ns is + v in
+      let here : ℕ = axis_in o (length ns) 0 in
+      let a : get_or is here 0 * block_in o ns 0 ≡ get_or is here 0 * 1 = ap (λ x. get_or is here 0 * x) one in
+      let c : v * block_in o ns 0 ≡ v * 1 = ap (λ x. v * x) one in
+      subst P (sym ek) (omega arith)
+
+  -- what is left on a row
+  pub row-walk : (count : ℕ) (is : List ℕ) → WalkStands o ns is count → get_or is k 0 + count ≤ get_or ns k 0 → walk_rest o ns is count ≡ row_from is k count
+  row-walk zero is h room = refl
+  row-walk (suc c) is h room =
+      let inside = h.within (omega arith) in
+      let f = h.fits (omega arith) in
+      let js : List ℕ = set is k (get_or is k 0 + 1) in
+      let r = row-rank is (get_or is k 0 + 1) inside in
+      let next : rank_in o ns js ≡ rank_in o ns is + 1 = omega arith in
+      let e : suc c ≡ c + 1 = omega arith in
+      let l = InBox-length ns is inside in
+      let a = axis_in-lt o (length ns) 0 some in
+      let ij : get_or js k 0 ≡ get_or is k 0 + 1 = get_or-set_same is k (get_or is k 0 + 1) 0 (omega arith) in
+      let stands : WalkStands o ns js c = record { limit = h.limit; within = λ p. InBox-set ns is k (get_or is k 0 + 1) inside (omega arith); fits = λ p. omega arith } in
+      let ih = row-walk c js stands (omega arith) in
+      ap (λ x. walk_rest o ns is x) e ∙ (walk_rest-more o ns is js c (subst (WalkStands o ns is) e h) (λ p. next) ∙ ap (λ x. is ∷ x) ih)
+
+-- a box of no axes has one index list
+pub walk-no_axes : (o : Order) (ns is : List ℕ) (left : ℕ) → length ns ≡ 0 → 0 < left → WalkStands o ns is left → left ≡ 1
+walk-no_axes o [] is left e some h = let f = h.fits some in omega arith
+walk-no_axes o (n ∷ ns) is left e some h = absurd (omega arith)
+
+-- a step to the next row
+module _ (o : Order) (ns is : List ℕ) (left k end i count : ℕ) (h : WalkStands o ns is left) (go : 0 < left) (some : 0 < length ns) (ek : k ≡ axis_in o (length ns) 0)
+    (ee : end ≡ get_or ns k 0) (ei : i ≡ get_or is k 0) (ec : count ≡ min (end - i) left) where
+  axis-below : k < length ns
+  axis-below = let a = axis_in-lt o (length ns) 0 some in omega arith
+
+  pub row-inside : i < end
+  row-inside = let g = InBox-get ns is k (h.within go) axis-below in omega arith
+
+  pub row-taken : (0 < count) × (take count (walk_rest o ns is left) ≡ row_from is k count)
+  row-taken =
+      let lt = row-inside in
+      let le : count ≤ left = omega arith in
+      (omega arith, sym (walk-first o ns is count left le) ∙ row-walk o ns k some ek count is (WalkStands-fewer o ns is left count h le) (omega arith))
+
+  -- the last index list of the row
+  pub row-last : 0 < left - count → InBox ns (set is k (end - 1)) × (rank_in o ns (set is k (end - 1)) + 1 ≡ rank_in o ns is + count) × (rank_in o ns (set is k (end - 1)) + 1 < size ns)
+  row-last more =
+      let lt = row-inside in
+      let inside = h.within go in
+      let f = h.fits go in
+      let r = row-rank o ns k some ek is (end - 1) inside in
+      (InBox-set ns is k (end - 1) inside (omega arith), omega arith, omega arith)

@@ -3,6 +3,7 @@ pub mod Calls
 pub mod Collected
 pub mod Dimensions
 pub mod Errors
+pub mod FixedAxes
 pub mod FoldWhiles
 pub mod Grid
 pub mod Index

@@ -1,5 +1,5 @@
 -- The two orders of a box by their names.
-use Rattle.std.specs.Prelude.{◌≡◌, ℕ, List, Some, map, filter_map}
+use Rattle.std.specs.Prelude.{◌≡◌, ℕ, List, Some, map, filter_map, IsPermutation}
 use Rattle.ndarray.specs.Index.{row_order, column_order, IsRowOrder, IsColumnOrder}
 use Rattle.ndarray.specs.Grid.{Grid, cell}
 use Rattle.ndarray.specs.declared.base.shape.Order.{Order}
@@ -22,3 +22,9 @@ cells_in order g = filter_map (cell g) (box_in order g.lengths)
 -- along the box in the named order, the array's cells are xs
 abbrev pub HasInOrder : {A : Type 0} → Order → Grid A → List A → Type 0
 HasInOrder order g xs = (is : List (List ℕ)) → IsBoxIn order g.lengths is → map (cell g) is ≡ map Some xs
+
+-- xs are the cells at index lists that are those of the box, each once, in some order
+pub record IsListOfCells {A : Type 0} (g : Grid A) (xs : List A) : Type 0 where
+  pub indices : List (List ℕ)
+  pub once : IsPermutation (row_order g.lengths) indices
+  pub cells : map (cell g) indices ≡ map Some xs

@@ -1,5 +1,5 @@
 -- Producers: lengths, and the items that may be handed out at each index list.
-use Rattle.std.specs.Prelude.{◌≡◌, ◌↔◌, ℕ, ◌+◌, ◌-◌, List, [], ◌∷◌, Option, Some, None, slice_index, slice_set}
+use Rattle.std.specs.Prelude.{◌≡◌, ◌↔◌, ℕ, ◌+◌, ◌-◌, List, [], ◌∷◌, Option, Some, None, MatchOption, ◌⊎◌, slice_index, slice_set}
 use Rattle.ndarray.specs.Index.{InBox}
 
 module _ {S A : Type 0} (next : S → Option A → S → Type 0) (shows : List ℕ → A → Type 0) where
@@ -12,6 +12,13 @@ module _ {S A : Type 0} (next : S → Option A → S → Type 0) (shows : List �
   pub record Gives (s : S) (is : List (List ℕ)) : Type 0 where
     pub from : GivesFrom s is
 
+module _ {P S T A B : Type 0} (first : P → S) (second : P → T) (next : S → Option A → S → Type 0) (others : T → Option B → T → Type 0) where
+  -- both sides give an item, or one of them has ended
+  abbrev pub steps_of_both : P → Option (A × B) → P → Type 0
+  steps_of_both s r t = MatchOption r
+      (((u : S) × next (first s) None u) ⊎ ((u : T) × others (second s) None u))
+      (λ p. next (first s) (Some p.0) (first t) × others (second s) (Some p.1) (second t))
+
 -- the items of two producers at an index list
 abbrev pub both : {X Y : Type 0} → (List ℕ → X → Type 0) → (List ℕ → Y → Type 0) → List ℕ → X × Y → Type 0
 both shows shown i t = shows i t.0 × shown i t.1
@@ -20,3 +27,8 @@ both shows shown i t = shows i t.0 × shown i t.1
 pub record IsPart {X : Type 0} (axis from to : ℕ) (ns : List ℕ) (shows : List ℕ → X → Type 0) (ms : List ℕ) (shown : List ℕ → X → Type 0) : Type 0 where
   pub lengths : ms ≡ slice_set ns axis (to - from)
   pub items : (js : List ℕ) → InBox ms js → (x : X) → shown js x ↔ shows (slice_set js axis (from + slice_index js axis)) x
+
+-- a producer that shows nothing that another does not, at the same lengths
+pub record IsRefinedBy {X : Type 0} (ns : List ℕ) (shows : List ℕ → X → Type 0) (ms : List ℕ) (shown : List ℕ → X → Type 0) : Type 0 where
+  pub lengths : ms ≡ ns
+  pub items : (is : List ℕ) (x : X) → shown is x → shows is x

@@ -1,5 +1,6 @@
 -- What only `base` speaks of: places and strides.
 pub mod Chunks
+pub mod FixedAxes
 pub mod Follows
 pub mod IndexLists
 pub mod Laws
@@ -12,6 +13,7 @@ pub mod Portions
 pub mod Pushed
 pub mod Slots
 pub mod Spots
+pub mod Strided
 pub mod Storage
 pub mod Strewn
 pub mod Strides

@@ -3,6 +3,7 @@
 pub mod array;
 pub mod axes;
 pub mod axis;
+pub mod contiguous;
 pub mod dim_max;
 pub mod dimension;
 pub mod error;
@@ -20,5 +21,6 @@ pub mod region;
 pub mod shape;
 pub mod slice;
 pub mod storage;
+pub mod strided;
 pub mod views;
 pub mod writing;

@@ -113,6 +113,7 @@ impl<'a, A, D: Lengths> Iterator for Iter<'a, A, D> {
 
     ghost remaining = { item_count (λ rest. rest) };
 
+    #[inline(always)]
     fn next(&mut self) -> Option<&'a A> {
         self.elements.next()
     }

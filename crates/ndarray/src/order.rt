@@ -1,12 +1,12 @@
 //! The two orders of a box, and the walk over its index lists.
 
-ghost use Rattle.std.specs.Prelude.{◌≡◌, List, ℕ, ◌+◌, ◌<◌, ◌≤◌, ◌^◌, length, take, drop, ⊤, ◌↔◌, Contains, IfSome, IsPermutation, IsTrue};
+ghost use Rattle.std.specs.Prelude.{◌≡◌, List, ℕ, ◌+◌, ◌<◌, ◌≤◌, ◌^◌, length, take, drop, ⊤, ◌↔◌, Contains, IfSome, IsPermutation, IsTrue, MatchOption, []};
 ghost use Rattle.std.specs.Iterator.{YieldsFirstBy, YieldsLastBy, UpTo, item_count};
 ghost use Rattle.std.specs.Iterator.SizeHint.{IsExactHint, IsWithinCount};
 ghost use Rattle.ndarray.specs.Index.{InBox, size, IsRowOrder};
 ghost use Rattle.ndarray.specs.Limits.{IsWithinLimit};
 ghost use Rattle.ndarray.specs.Orders.{box_in, IsBoxIn};
-ghost use Rattle.ndarray.specs.order.Steps.{rank_in, axis_in};
+ghost use Rattle.ndarray.specs.order.Steps.{rank_in, axis_in, TakesRow};
 
 use crate::base::dimension::{Dim, Ix1, Lengths};
 use crate::base::layout::{Layout, default_strides};
@@ -130,6 +130,56 @@ impl<D: Lengths> Walk<D> {
     }
 }
 
+/// Some index lists, each with an index on the axis that is one larger than that of the one before.
+#[derive(Drop)]
+pub(crate) struct Row<D> {
+    pub(crate) first: D,
+    pub(crate) axis: usize,
+    pub(crate) count: usize,
+}
+
+impl<D: Lengths> Walk<D> {
+    /// The same once more.
+    pub(crate) fn again(&self) -> Self
+        ensures { result ≡ self.now }
+    {
+        Walk {
+            dim: self.dim.copied(),
+            index: self.index.copied(),
+            left: self.left,
+            order: self.order,
+        }
+    }
+
+    /// Takes the index lists still to come that are on one row with the next one.
+    pub(crate) fn next_row(&mut self) -> Option<Row<D>>
+        ensures { MatchOption result ((self.old ≡ []) × (self.new ≡ [])) (λ row. TakesRow self.old self.new (D.numbers row.first) row.axis row.count) }
+    {
+        if self.left == 0 {
+            return None;
+        }
+        let first = self.index.copied();
+        let ndim = self.dim.ndim();
+        if ndim == 0 {
+            self.left = 0;
+            return Some(Row {
+                first,
+                axis: 0,
+                count: 1,
+            });
+        }
+        let axis = axis_at(self.order, ndim, 0);
+        let end = self.dim.axis(axis);
+        let count = (end - first.axis(axis)).min(self.left);
+        self.left -= count;
+        if self.left > 0 {
+            self.index.set_axis(axis, end - 1);
+            advance(self.order, &self.dim, &mut self.index);
+        }
+        Some(Row { first, axis, count })
+    }
+}
+
 impl Walk<Ix1> {
     /// Takes the first `count` index lists still to come.
     pub(crate) fn take_first(&mut self, count: usize) -> Self
@@ -204,11 +254,6 @@ impl<D: Lengths> Clone for Walk<D> {
     ghost is_infallible = { λ _. ⊤ };
 
     fn clone(&self) -> Result<Walk<D>, AllocError> {
-        Ok(Walk {
-            dim: self.dim.copied(),
-            index: self.index.copied(),
-            left: self.left,
-            order: self.order,
-        })
+        Ok(self.again())
     }
 }

@@ -1,8 +1,9 @@
 //! Arrays of their own from arrays and views of any kind.
 
-ghost use Rattle.std.specs.Prelude.{◌≡◌, ◌⊎◌, IfOk, IsOk};
+ghost use Rattle.std.specs.Prelude.{◌≡◌, ◌⊎◌, IfOk, IsOk, length};
 ghost use Rattle.std.specs.List.{AllZip};
 ghost use Rattle.ndarray.specs.Grid.{IsGrid};
+ghost use Rattle.ndarray.specs.Index.{size};
 
 use crate::base::array::{Array, ArrayBase};
 use crate::base::dimension::Lengths;
@@ -18,10 +19,17 @@ impl<A: Clone + Drop, S: Data<Elem = A>, D: Lengths> ArrayBase<S, D> {
     /// The error is want of memory, for the array or for a clone.
     pub fn to_owned(&self, alloc: Global) -> Result<Array<A, D>, AllocError>
         ensures lengths { IfOk result (λ a. a.lengths ≡ self.now.lengths) }
+        ensures axes { IfOk result (λ a. D.has_axes (length a.lengths)) }
         ensures cells { IfOk result (λ a. AllZip A.is_clone self.now.cells a.cells) }
         ensures whole { IfOk result IsGrid }
         ensures same { IfOk result (λ a. ((x y : A) → A.is_clone x y → y ≡ x) → a ≡ self.now) }
+        ensures empty { size self.now.lengths ≡ 0 → IsOk result }
     {
+        let order = self.fast_order();
+        if let Some(cells) = self.view().slice_in(order) {
+            let items = clones_of(alloc, cells)?;
+            return Ok(ArrayBase::from_elements(self.raw_dim(), order, items));
+        }
         let mut filling = Filling::with_capacity(alloc, self.raw_dim(), Order::RowMajor)?;
         for cell in ElementsBase::new(self.view()) {
             filling.push(cell.clone()?);
@@ -39,6 +47,7 @@ impl<A: Clone + Drop, S: Data<Elem = A>, D: Lengths> ArrayBase<S, D> {
         ensures cells { IfOk result (λ a. (a ≡ self) ⊎ AllZip A.is_clone self.cells a.cells) }
         ensures whole { IfOk result IsGrid }
         ensures same { IfOk result (λ a. ((x y : A) → A.is_clone x y → y ≡ x) → a ≡ self) }
+        ensures empty { size self.lengths ≡ 0 → IsOk result }
     {
         let ArrayBase { storage, layout } = self;
         match storage.try_into_owned() {
@@ -46,4 +55,15 @@ impl<A: Clone + Drop, S: Data<Elem = A>, D: Lengths> ArrayBase<S, D> {
             Err(storage) => ArrayBase { storage, layout }.to_owned(alloc),
         }
     }
+}
+
+/// A vector of clones of the elements of a slice. Of none it asks for no memory.
+fn clones_of<A: Clone + Drop>(alloc: Global, cells: &[A]) -> Result<Vec<A>, AllocError>
+    ensures ok { IfOk result (λ v. AllZip A.is_clone cells.now v.items) }
+    ensures empty { length cells.now ≡ 0 → IsOk result }
+{
+    if cells.is_empty() {
+        return Ok(Vec::new(alloc));
+    }
+    cells.to_vec(alloc)
 }

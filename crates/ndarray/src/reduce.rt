@@ -29,12 +29,27 @@ impl<A: SumElem, S: Data<Elem = A>, D: Lengths> ArrayBase<S, D> {
         requires { IsSummable A.plus A.InRange (map A.meaning self.now.cells) }
         ensures { A.meaning result ≡ total A.plus (map A.meaning self.now.cells) }
     {
+        if let Some(cells) = self.as_slice_memory_order() {
+            return sum_of(cells);
+        }
         let mut sum = A::zero();
         for x in self.iter() {
             sum = sum + *x;
         }
         sum
     }
+}
+
+/// The sum of the elements of a slice, in their order.
+fn sum_of<A: SumElem>(cells: &[A]) -> A
+    requires { IsSummable A.plus A.InRange (map A.meaning cells.now) }
+    ensures { A.meaning result ≡ total A.plus (map A.meaning cells.now) }
+{
+    let mut sum = A::zero();
+    for x in cells {
+        sum = sum + *x;
+    }
+    sum
 }
 
 impl<A: PrimInt, S: Data<Elem = A>, D: Lengths> ArrayBase<S, D> {

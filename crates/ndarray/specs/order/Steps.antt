@@ -1,5 +1,5 @@
 -- Inside `order`: where a walk stands in its box.
-use Rattle.std.specs.Prelude.{ℕ, ◌+◌, ◌-◌, ◌*◌, ◌<◌, ◌≤◌, List, [], ◌∷◌, length, take, drop}
+use Rattle.std.specs.Prelude.{◌≡◌, ℕ, zero, suc, ◌+◌, ◌-◌, ◌*◌, ◌<◌, ◌≤◌, List, [], ◌∷◌, length, take, drop, slice_set, slice_index}
 use Rattle.ndarray.specs.Index.{InBox, size}
 use Rattle.ndarray.specs.Limits.{IsWithinLimit}
 use Rattle.ndarray.specs.Orders.{box_in}
@@ -41,3 +41,14 @@ pub record WalkStands (order : Order) (ns is : List ℕ) (left : ℕ) : Type 0 w
   pub limit : IsWithinLimit ns
   pub within : 0 < left → InBox ns is
   pub fits : 0 < left → rank_in order ns is + left ≤ size ns
+
+-- n index lists from is on, each with an index on the axis that is one larger
+abbrev pub row_from : List ℕ → ℕ → ℕ → List (List ℕ)
+row_from is axis zero = []
+row_from is axis (suc n) = is ∷ row_from (slice_set is axis (slice_index is axis + 1)) axis n
+
+-- the first `count` of the index lists are a row, and the others stay
+pub record TakesRow (old new : List (List ℕ)) (first : List ℕ) (axis count : ℕ) : Type 0 where
+  pub some : 0 < count
+  pub row : take count old ≡ row_from first axis count
+  pub rest : new ≡ drop count old

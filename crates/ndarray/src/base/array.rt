@@ -59,14 +59,16 @@ impl<S: Data, D: Lengths> Model for ArrayBase<S, D> {
 impl<S: Data, D: Lengths> ArrayBase<S, D> {
     /// The number of axes.
     pub fn ndim(&self) -> usize
-        ensures { result ≡ length self.now.lengths }
+        ensures value { result ≡ length self.now.lengths }
+        ensures axes { D.has_axes (length self.now.lengths) }
     {
         self.layout.dim.ndim()
     }
 
     /// The lengths, that of axis 0 first.
     pub fn shape(&self) -> &[usize]
-        ensures { result.now ≡ self.now.lengths }
+        ensures value { result.now ≡ self.now.lengths }
+        ensures axes { D.has_axes (length self.now.lengths) }
     {
         self.layout.dim.slice()
     }
@@ -74,6 +76,7 @@ impl<S: Data, D: Lengths> ArrayBase<S, D> {
     /// The lengths as a dimension.
     pub fn raw_dim(&self) -> D
         ensures lengths { D.numbers result ≡ self.now.lengths }
+        ensures axes { D.has_axes (length self.now.lengths) }
         ensures limit { IsWithinLimit self.now.lengths }
         ensures whole { IsGrid self.now }
     {
@@ -113,6 +116,7 @@ impl<S: Data, D: Lengths> ArrayBase<S, D> {
     /// An array is known by its lengths and its cells, so the view is the same array.
     pub fn view(&self) -> ArrayView<'_, S::Elem, D>
         ensures same { result ≡ self.now }
+        ensures axes { D.has_axes (length self.now.lengths) }
         ensures whole { IsGrid result }
         ensures known { IsKnownByCells result }
     {
@@ -176,7 +180,8 @@ impl<S: DataMut, D: Dimension> ArrayBase<S, D> {
 impl<'a, A, D: Lengths> ArrayView<'a, A, D> {
     /// The same view once more.
     pub(crate) fn again(&self) -> ArrayView<'a, A, D>
-        ensures { result ≡ self.now }
+        ensures same { result ≡ self.now }
+        ensures whole { IsGrid result }
     {
         ArrayBase {
             storage: self.storage,

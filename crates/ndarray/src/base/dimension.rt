@@ -1,10 +1,12 @@
 //! Dimensions: lists of lengths or of indices, one number for each axis.
 
-ghost use Rattle.std.specs.Prelude.{◌≡◌, ◌⊎◌, List, ℕ, [], ◌∷◌, length, ◌<◌, ◌≤◌, ◌+◌, slice_index, slice_set, replicate, insert, remove, IsTrue, ◌↔◌};
+ghost use Rattle.std.specs.Prelude.{◌≡◌, ◌⊎◌, List, ℕ, [], ◌∷◌, length, ◌<◌, ◌≤◌, ◌+◌, ◌-◌, slice_index, slice_set, replicate, insert, remove, IsTrue, ◌↔◌};
 ghost use Rattle.std.specs.Borrow.{Lends, sem, Array as SliceOf, usize as word};
 ghost use Rattle.std.proofs.Common.{rules, refl};
 ghost use Rattle.std.proofs.lemmas.Grind.{common_steps};
+ghost use Rattle.ndarray.specs.base.FixedAxes.{dynamic-not-fixed, fixed-larger, fixed-larger-none, fixed-smaller};
 ghost use Rattle.ndarray.specs.Dimensions.{held_numbers, with_held};
+ghost use Rattle.ndarray.specs.FixedAxes.{IsFixed};
 ghost use Rattle.ndarray.specs.Index.{size};
 ghost use Rattle.ndarray.specs.Limits.{IsWithinLimit};
 
@@ -42,7 +44,8 @@ pub trait Lengths: Drop + Sized {
 
     /// The numbers as a slice.
     fn slice(&self) -> &[usize]
-        ensures { result.now ≡ numbers self.now };
+        ensures value { result.now ≡ numbers self.now }
+        ensures has { has_axes (length (numbers self.now)) };
 
     /// The numbers as a slice, to write to.
     fn slice_mut(&mut self) -> &mut [usize]
@@ -51,7 +54,8 @@ pub trait Lengths: Drop + Sized {
 
     /// The same list once more, without memory.
     fn copied(&self) -> Self
-        ensures { numbers result ≡ numbers self.now };
+        ensures value { numbers result ≡ numbers self.now }
+        ensures has { has_axes (length (numbers self.now)) };
 
     /// The number of an axis, which the caller owes to be below the number of axes.
     fn axis(&self, axis: usize) -> usize
@@ -170,6 +174,10 @@ pub trait Dimension: Lengths {
     ghost smaller_has_none: { Self.has_axes 0 → Self.Smaller.has_axes 0 };
 
     ghost larger_has: { (n : ℕ) → n < 32 → Self.has_axes n → Self.Larger.has_axes (n + 1) };
+
+    ghost smaller_is_fixed: { (n : ℕ) → IsFixed Self.has_axes n → IsFixed Self.Smaller.has_axes (n - 1) };
+
+    ghost larger_is_fixed: { (n : ℕ) → n < 6 → IsFixed Self.has_axes n → IsFixed Self.Larger.has_axes (n + 1) };
 }
 
 /// A dimension that may lose an axis: all but `Ix0`.
@@ -370,6 +378,10 @@ impl Dimension for Dim<[usize; 0]> {
 
     ghost larger_has = { Prim.search rules };
 
+    ghost smaller_is_fixed = { fixed-smaller 0 };
+
+    ghost larger_is_fixed = { fixed-larger 0 };
+
     fn into_pattern(self) {}
 }
 
@@ -387,6 +399,10 @@ impl Dimension for Dim<[usize; 1]> {
     ghost smaller_has_none = { Prim.search rules };
 
     ghost larger_has = { Prim.search rules };
+
+    ghost smaller_is_fixed = { fixed-smaller 1 };
+
+    ghost larger_is_fixed = { fixed-larger 1 };
 
     fn into_pattern(self) -> usize {
         let Dim([a]) = self;
@@ -409,6 +425,10 @@ impl Dimension for Dim<[usize; 2]> {
 
     ghost larger_has = { Prim.search rules };
 
+    ghost smaller_is_fixed = { fixed-smaller 2 };
+
+    ghost larger_is_fixed = { fixed-larger 2 };
+
     fn into_pattern(self) -> (usize, usize) {
         let Dim([a, b]) = self;
         (a, b)
@@ -429,6 +449,10 @@ impl Dimension for Dim<[usize; 3]> {
     ghost smaller_has_none = { Prim.search rules };
 
     ghost larger_has = { Prim.search rules };
+
+    ghost smaller_is_fixed = { fixed-smaller 3 };
+
+    ghost larger_is_fixed = { fixed-larger 3 };
 
     fn into_pattern(self) -> (usize, usize, usize) {
         let Dim([a, b, c]) = self;
@@ -451,6 +475,10 @@ impl Dimension for Dim<[usize; 4]> {
 
     ghost larger_has = { Prim.search rules };
 
+    ghost smaller_is_fixed = { fixed-smaller 4 };
+
+    ghost larger_is_fixed = { fixed-larger 4 };
+
     fn into_pattern(self) -> (usize, usize, usize, usize) {
         let Dim([a, b, c, d]) = self;
         (a, b, c, d)
@@ -471,6 +499,10 @@ impl Dimension for Dim<[usize; 5]> {
     ghost smaller_has_none = { Prim.search rules };
 
     ghost larger_has = { Prim.search rules };
+
+    ghost smaller_is_fixed = { fixed-smaller 5 };
+
+    ghost larger_is_fixed = { fixed-larger 5 };
 
     fn into_pattern(self) -> (usize, usize, usize, usize, usize) {
         let Dim([a, b, c, d, e]) = self;
@@ -493,6 +525,10 @@ impl Dimension for Dim<[usize; 6]> {
 
     ghost larger_has = { Prim.search rules };
 
+    ghost smaller_is_fixed = { fixed-smaller 6 };
+
+    ghost larger_is_fixed = { fixed-larger-none _ };
+
     fn into_pattern(self) -> (usize, usize, usize, usize, usize, usize) {
         let Dim([a, b, c, d, e, f]) = self;
         (a, b, c, d, e, f)
@@ -513,6 +549,10 @@ impl Dimension for Dim<DynLengths> {
     ghost smaller_has_none = { Prim.search rules };
 
     ghost larger_has = { Prim.search rules };
+
+    ghost smaller_is_fixed = { λ n fixed. absurd (dynamic-not-fixed n fixed) };
+
+    ghost larger_is_fixed = { λ n _ fixed. absurd (dynamic-not-fixed n fixed) };
 
     fn into_pattern(self) -> IxDyn {
         self

@@ -1,6 +1,6 @@
 //! Arrays that are filled one cell after another.
 
-ghost use Rattle.std.specs.Prelude.{◌≡◌, ◌<◌, ◌++◌, ◌∷◌, [], length, IfOk};
+ghost use Rattle.std.specs.Prelude.{◌≡◌, ◌<◌, ◌++◌, ◌∷◌, [], length, IfOk, IsOk};
 ghost use Rattle.ndarray.specs.base.Pushed.{pushed_to};
 ghost use Rattle.ndarray.specs.Grid.{IsGrid};
 ghost use Rattle.ndarray.specs.Index.{size};
@@ -36,10 +36,12 @@ impl<A, D: Lengths> Model for Filling<A, D> {
 }
 
 impl<A: Drop, D: Lengths> Filling<A, D> {
-    /// Room for all cells of the lengths, which the caller owes to be within the limit.
+    /// Room for all cells of the lengths, which the caller owes to be within the limit. No memory is asked for where
+    /// there are none.
     pub(crate) fn with_capacity(alloc: Global, dim: D, order: Order) -> Result<Self, AllocError>
         requires { IsWithinLimit (D.numbers dim) }
-        ensures { IfOk result (λ f. f ≡ record { lengths = D.numbers dim; order = order; cells = [] }) }
+        ensures room { IfOk result (λ f. f ≡ record { lengths = D.numbers dim; order = order; cells = [] }) }
+        ensures empty { size (D.numbers dim) ≡ 0 → IsOk result }
     {
         let items = Vec::with_capacity(alloc, dim.size())?;
         Ok(Filling { items, dim, order })
@@ -58,6 +60,7 @@ impl<A: Drop, D: Lengths> Filling<A, D> {
     pub(crate) fn finish<S: DataOwned<Elem = A>>(self) -> ArrayBase<S, D>
         requires { length self.cells ≡ size self.lengths }
         ensures lengths { result.lengths ≡ self.lengths }
+        ensures axes { D.has_axes (length result.lengths) }
         ensures cells { HasInOrder self.order result self.cells }
         ensures list { cells_in self.order result ≡ self.cells }
         ensures whole { IsGrid result }

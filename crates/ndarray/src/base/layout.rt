@@ -55,6 +55,17 @@ impl<D: Lengths> Layout<D> {
         at
     }
 
+    /// How far the next place lies on an axis; 0 for an axis that is not there.
+    pub(crate) fn stride(&self, axis: usize) -> usize
+        ensures { result ≡ slice_index (D.numbers self.now.strides) axis }
+    {
+        if axis < self.strides.ndim() {
+            self.strides.axis(axis)
+        } else {
+            0
+        }
+    }
+
     /// Whether the cells lie side by side in row order, the first one at the start. An axis of length 1
     /// may have any stride.
     ///
@@ -80,11 +91,77 @@ impl<D: Lengths> Layout<D> {
         self.start.checked_add(block - 1).is_some()
     }
 
+    /// Which way the cells lie: 2 where they are side by side in row order, -2 in column order, else -1 or 1
+    /// where those along the first or the last axis are; else 0. It is 0 too where at most one axis is
+    /// longer than 1 and both orders are one.
+    pub(crate) fn tendency(&self) -> i32
+        requires as_many { length (D.numbers self.now.strides) ≡ length (D.numbers self.now.dim) }
+        requires limit { IsWithinLimit (D.numbers self.now.dim) }
+    {
+        let ndim = self.dim.ndim();
+        if self.is_contiguous() {
+            return if self.has_long_axes() { 2 } else { 0 };
+        }
+        if ndim < 2 {
+            return 0;
+        }
+        if self.reversed_axes().is_contiguous() {
+            return -2;
+        }
+        if self.dim.axis(0) > 1 && self.strides.axis(0) == 1 {
+            return -1;
+        }
+        if self.dim.axis(ndim - 1) > 1 && self.strides.axis(ndim - 1) == 1 {
+            return 1;
+        }
+        0
+    }
+
+    /// Whether the cells lie side by side in row order, as no cells do.
+    fn is_contiguous(&self) -> bool
+        requires as_many { length (D.numbers self.now.strides) ≡ length (D.numbers self.now.dim) }
+        requires limit { IsWithinLimit (D.numbers self.now.dim) }
+    {
+        if self.dim.size() == 0 {
+            return true;
+        }
+        self.is_row_major()
+    }
+
+    /// Whether two or more axes are longer than 1.
+    fn has_long_axes(&self) -> bool {
+        let mut long = false;
+        for k in 0..self.dim.ndim() {
+            if self.dim.axis(k) > 1 {
+                if long {
+                    return true;
+                }
+                long = true;
+            }
+        }
+        false
+    }
+
+    /// The same with its axes from the last to the first.
+    pub(crate) fn reversed_axes(&self) -> Self
+        ensures start { result.start ≡ self.now.start }
+        ensures dim { D.numbers result.dim ≡ reverse (D.numbers self.now.dim) }
+        ensures strides { D.numbers result.strides ≡ reverse (D.numbers self.now.strides) }
+    {
+        let start = self.start;
+        Layout {
+            start,
+            dim: reversed(&self.dim),
+            strides: reversed(&self.strides),
+        }
+    }
+
     /// The same once more.
     pub(crate) fn copied(&self) -> Self
         ensures start { result.start ≡ self.now.start }
         ensures dim { D.numbers result.dim ≡ D.numbers self.now.dim }
         ensures strides { D.numbers result.strides ≡ D.numbers self.now.strides }
+        ensures axes { D.has_axes (length (D.numbers self.now.dim)) }
     {
         Layout {
             start: self.start,
@@ -200,7 +277,8 @@ fn same_numbers<D: Lengths, E: Lengths>(numbers: &D) -> E
 /// The strides of a box whose cells lie side by side in the order.
 pub(crate) fn default_strides<D: Lengths>(dim: &D, order: Order) -> D
     requires { IsWithinLimit (D.numbers dim.now) }
-    ensures { AreStridesOf order (D.numbers dim.now) (D.numbers result) }
+    ensures strides { AreStridesOf order (D.numbers dim.now) (D.numbers result) }
+    ensures axes { D.has_axes (length (D.numbers dim.now)) }
 {
     let ndim = dim.ndim();
     let mut strides = D::zeros(ndim);

@@ -34,6 +34,7 @@ impl<'a, A, D: Dimension> ArrayView<'a, A, D> {
         ensures overflow { IsErrOf result (refusal Overflow) ↔ (IsWithinLimit (Sh.shape_lengths shape) → ⊥) }
         ensures short { IsErrOf result (refusal OutOfBounds) ↔ (IsWithinLimit (Sh.shape_lengths shape) × (length slice.now < size (Sh.shape_lengths shape))) }
         ensures lengths { IfOk result (λ v. v.lengths ≡ Sh.shape_lengths shape) }
+        ensures axes { IfOk result (λ v. D.has_axes (length v.lengths)) }
         ensures cells { IfOk result (λ v. HasInOrder (Sh.shape_order shape) v (take (size v.lengths) slice.now)) }
         ensures list { IfOk result (λ v. cells_in (Sh.shape_order shape) v ≡ take (size v.lengths) slice.now) }
         ensures whole { IfOk result IsGrid }

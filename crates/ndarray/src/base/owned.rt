@@ -25,6 +25,7 @@ impl<A, S: DataOwned<Elem = A>, D: Lengths> ArrayBase<S, D> {
         requires limit { IsWithinLimit (D.numbers dim) }
         requires many { length items.items ≡ size (D.numbers dim) }
         ensures lengths { result.lengths ≡ D.numbers dim }
+        ensures axes { D.has_axes (length result.lengths) }
         ensures cells { HasInOrder order result items.items }
         ensures list { cells_in order result ≡ items.items }
         ensures whole { IsGrid result }
@@ -59,6 +60,7 @@ impl<A: Drop, S: DataOwned<Elem = A>, D: Dimension> ArrayBase<S, D> {
         ensures overflow { IsErrOf result (refusal Overflow) ↔ (IsWithinLimit (Sh.shape_lengths shape) → ⊥) }
         ensures other { IsErrOf result (refusal OutOfBounds) ↔ (IsWithinLimit (Sh.shape_lengths shape) × (size (Sh.shape_lengths shape) ≢ length v.items)) }
         ensures lengths { IfOk result (λ a. a.lengths ≡ Sh.shape_lengths shape) }
+        ensures axes { IfOk result (λ a. D.has_axes (length a.lengths)) }
         ensures cells { IfOk result (λ a. HasInOrder (Sh.shape_order shape) a v.items) }
         ensures list { IfOk result (λ a. cells_in (Sh.shape_order shape) a ≡ v.items) }
         ensures whole { IfOk result IsGrid }
@@ -90,14 +92,29 @@ impl<A: Clone + Drop, S: DataOwned<Elem = A>, D: Dimension> ArrayBase<S, D> {
     ) -> Result<Self, AllocError>
         requires { IsWithinLimit (Sh.shape_lengths shape) }
         ensures lengths { IfOk result (λ a. a.lengths ≡ Sh.shape_lengths shape) }
+        ensures axes { IfOk result (λ a. D.has_axes (length a.lengths)) }
         ensures cells { IfOk result (λ a. AllClonesOf A.is_clone elem a.cells) }
         ensures whole { IfOk result IsGrid }
         ensures same { IfOk result (λ a. ((y : A) → A.is_clone elem y → y ≡ elem) → a.cells ≡ replicate (size a.lengths) elem) }
+        ensures empty { size (Sh.shape_lengths shape) ≡ 0 → IsOk result }
     {
         let Shape { dim, order } = shape.into_shape_with_order();
-        let items = Vec::from_elem(alloc, elem, dim.size())?;
+        let items = repeated(alloc, elem, dim.size())?;
         Ok(ArrayBase::from_elements(dim, order, items))
     }
+}
+
+/// A vector of as many clones of an element, the element itself among them. Of none it asks for no memory.
+fn repeated<A: Clone + Drop>(alloc: Global, elem: A, count: usize) -> Result<Vec<A>, AllocError>
+    ensures len { IfOk result (λ v. length v.items ≡ count) }
+    ensures clones { IfOk result (λ v. AllClonesOf A.is_clone elem v.items) }
+    ensures same { IfOk result (λ v. ((y : A) → A.is_clone elem y → y ≡ elem) → v.items ≡ replicate count elem) }
+    ensures empty { count ≡ 0 → IsOk result }
+{
+    if count == 0 {
+        return Ok(Vec::new(alloc));
+    }
+    Vec::from_elem(alloc, elem, count)
 }
 
 impl<A: Zero + Drop, S: DataOwned<Elem = A>, D: Dimension> ArrayBase<S, D> {
@@ -112,8 +129,10 @@ impl<A: Zero + Drop, S: DataOwned<Elem = A>, D: Dimension> ArrayBase<S, D> {
     pub fn zeros<Sh: ShapeBuilder<Dim = D>>(alloc: Global, shape: Sh) -> Result<Self, AllocError>
         requires { IsWithinLimit (Sh.shape_lengths shape) }
         ensures lengths { IfOk result (λ a. a.lengths ≡ Sh.shape_lengths shape) }
+        ensures axes { IfOk result (λ a. D.has_axes (length a.lengths)) }
         ensures cells { IfOk result (λ a. a.cells ≡ replicate (size a.lengths) A.zero) }
         ensures whole { IfOk result IsGrid }
+        ensures empty { size (Sh.shape_lengths shape) ≡ 0 → IsOk result }
     {
         let Shape { dim, order } = shape.into_shape_with_order();
         let size = dim.size();

@@ -17,6 +17,17 @@ pub enum Order {
     ColumnMajor,
 }
 
+impl Order {
+    /// The order for cells of a tendency: column order where it is negative.
+    pub(crate) fn by_tendency(tendency: i32) -> Order {
+        if tendency < 0 {
+            Order::ColumnMajor
+        } else {
+            Order::RowMajor
+        }
+    }
+}
+
 /// Lengths, and the order in which the cells of an array are stored.
 #[derive(Clone, Copy, Drop, PartialEq, Eq, Debug)]
 pub struct Shape<D> {

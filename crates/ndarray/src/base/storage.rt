@@ -1,6 +1,6 @@
 //! What arrays keep their elements in.
 
-ghost use Rattle.std.specs.Prelude.{◌≡◌, ◌≢◌, ◌↔◌, ℕ, slice_get, Some, Option, IsTrue, IsOk, IfOk, IfErr, ⊤};
+ghost use Rattle.std.specs.Prelude.{◌≡◌, ◌≢◌, ◌↔◌, ◌<◌, ◌+◌, ℕ, length, slice_get, Some, Option, IsTrue, IsOk, IfOk, IfErr, ⊤};
 ghost use Rattle.std.specs.Option.{is_some};
 ghost use Rattle.std.specs.Borrow.{sem};
 ghost use Rattle.ndarray.specs.Grid.{IsGrid};
@@ -113,6 +113,22 @@ impl<'a, A> ViewRepr<'a, A> {
         match *self {
             ViewRepr::Slice(slice) => &slice[place],
             ViewRepr::Part(reading) => reading.get(place),
+        }
+    }
+
+    /// The `len` elements from a place on, each of which is there.
+    pub(crate) fn elements_from(&self, from: usize, len: usize) -> &'a [A]
+        requires some { 0 < len }
+        requires there { (k : ℕ) → k < len → IsTrue (is_some (seen_at self.now (from + k))) }
+        ensures many { length result.now ≡ len }
+        ensures each { (k : ℕ) → k < len → slice_get result.now k ≡ seen_at self.now (from + k) }
+    {
+        match *self {
+            ViewRepr::Slice(slice) => {
+                let rest = &slice[from..];
+                &rest[..len]
+            }
+            ViewRepr::Part(reading) => reading.slice(from, len),
         }
     }
 }

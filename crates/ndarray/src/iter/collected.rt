@@ -1,7 +1,7 @@
 //! Vectors of what an iterator that knows its length gives.
 
-ghost use Rattle.std.specs.Prelude.{◌≡◌, List, IfOk, length, map};
-ghost use Rattle.std.specs.Iterator.{ActsAs, CallableOnAll, Drains};
+ghost use Rattle.std.specs.Prelude.{◌≡◌, List, IfOk, IsOk, length, map};
+ghost use Rattle.std.specs.Iterator.{ActsAs, CallableOnAll, Drains, size};
 ghost use Rattle.std.specs.Iterator.Runs.{WholeRun};
 ghost use Rattle.ndarray.specs.Collected.{GivesEach};
 
@@ -22,6 +22,7 @@ where
     requires { I.can_next iter }
     ensures ran { IfOk result (λ v. Drains I.next_gives iter v.items) }
     ensures runs { IfOk result (λ v. WholeRun I.next_gives iter (λ p. v.items ≡ p.items)) }
+    ensures empty { size (I.remaining iter) ≡ 0 → IsOk result }
 {
     let mut items = Vec::with_capacity(alloc, iter.len())?;
     for item in iter {
@@ -48,6 +49,7 @@ pub fn to_vec_mapped<I: ExactSizeIterator, F: FnMut(I::Item) -> B, B: Drop>(
     requires callable { CallableOnAll I.next_gives F.FnMut iter f }
     ensures ran { IfOk result (λ v. (xs : List I.Item) × (last : F) × Drains I.next_gives iter xs × GivesEach F.FnMut f xs v.items last) }
     ensures runs { IfOk result (λ v. WholeRun I.next_gives iter (λ p. (length v.items ≡ p.len) × ((h : I.Item → B) → ActsAs F.FnMut f h → v.items ≡ map h p.items))) }
+    ensures empty { size (I.remaining iter) ≡ 0 → IsOk result }
 {
     to_vec(alloc, iter.map(f))
 }

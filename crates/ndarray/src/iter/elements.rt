@@ -1,14 +1,16 @@
 //! The walk that the iterators over cells stand on.
 
-ghost use Rattle.std.specs.Prelude.{◌≡◌, ◌<◌, ◌^◌, length, ⊤, IfSome};
+ghost use Rattle.std.specs.Prelude.{◌≡◌, [], ◌<◌, ◌^◌, length, ⊤, IfSome, MatchOption};
 ghost use Rattle.std.specs.Iterator.{YieldsFirstRef, YieldsLastRef, UpTo, item_count};
 ghost use Rattle.std.specs.Iterator.SizeHint.{IsExactHint, IsWithinCount};
-ghost use Rattle.ndarray.specs.Grid.{IsGrid};
+ghost use Rattle.ndarray.specs.Grid.{IsGrid, HasCells};
+ghost use Rattle.ndarray.specs.base.Strided.{SplitsOffRow};
 ghost use Rattle.ndarray.specs.Orders.{HasInOrder, cells_in};
 ghost use Rattle.ndarray.specs.declared.base.shape.Order.TheVariants.{RowMajor};
 
 use crate::base::array::ArrayView;
 use crate::base::dimension::{Ix1, Lengths};
+use crate::base::strided::Strided;
 use crate::order::{Order, Walk};
 use std::alloc::AllocError;
 use std::iter::ExactSizeIterator;
@@ -19,19 +21,20 @@ use std::marker::Model;
 /// An iterator takes no memory, and neither does any of its steps.
 #[derive(Drop)]
 pub struct ElementsBase<'a, A, D: Lengths> {
+    row: Strided<'a, A>,
     view: ArrayView<'a, A, D>,
     walk: Walk<D>,
 }
 
 impl<'a, A, D: Lengths> Model for ElementsBase<'a, A, D> {
-    ghost use Rattle.std.specs.Prelude.{List, filter_map};
+    ghost use Rattle.std.specs.Prelude.{List, filter_map, ◌++◌, ◌+◌, ◌<◌, ◌^◌, length};
     ghost use Rattle.ndarray.specs.Grid.{cell, HasCells};
 
     ghost Value = { List A };
 
-    ghost view = { λ s. filter_map (cell s.view) s.walk };
+    ghost view = { λ s. s.row ++ filter_map (cell s.view) s.walk };
 
-    ghost invariant = { λ s. HasCells s.view s.walk };
+    ghost invariant = { λ s. HasCells s.view s.walk × (length s.row + length s.walk < 2 ^ 63) };
 }
 
 impl<'a, A, D: Lengths> ElementsBase<'a, A, D> {
@@ -52,8 +55,37 @@ impl<'a, A, D: Lengths> ElementsBase<'a, A, D> {
         ensures whole { IsGrid v.entry }
     {
         let walk = Walk::new(v.raw_dim(), order);
-        ElementsBase { view: v, walk }
+        ElementsBase {
+            row: v.no_cells(),
+            view: v,
+            walk,
+        }
     }
+}
+
+/// A row of cells, and the index lists behind it.
+#[derive(Drop)]
+struct RowAndRest<'a, A, D: Lengths> {
+    row: Strided<'a, A>,
+    walk: Walk<D>,
+}
+
+/// The next row of a walk over cells of a view.
+#[inline(always)]
+fn next_row<'a, A, D: Lengths>(
+    view: ArrayView<'a, A, D>,
+    mut walk: Walk<D>,
+) -> Option<RowAndRest<'a, A, D>>
+    requires { HasCells view walk }
+    ensures { MatchOption result (walk ≡ []) (λ t. SplitsOffRow view.entry walk t.row t.walk) }
+{
+    let Some(row) = walk.next_row() else {
+        return None;
+    };
+    Some(RowAndRest {
+        row: view.cells_along(&row.first, row.axis, row.count),
+        walk,
+    })
 }
 
 impl<'a, A, D: Lengths> Iterator for ElementsBase<'a, A, D> {
@@ -63,11 +95,22 @@ impl<'a, A, D: Lengths> Iterator for ElementsBase<'a, A, D> {
 
     ghost remaining = { item_count (λ rest. rest) };
 
+    #[inline(always)]
     fn next(&mut self) -> Option<&'a A> {
-        let Some(index) = self.walk.next() else {
+        if let Some(x) = self.row.next() {
+            return Some(x);
+        }
+        // Copies are handed on, so that the iterator itself may live in registers.
+        let Some(taken) = next_row(self.view.again(), self.walk.again()) else {
             return None;
         };
-        Some(self.view.item(&index))
+        let RowAndRest { row, walk } = taken;
+        self.row = row;
+        self.walk = walk;
+        let Some(x) = self.row.next() else {
+            unreachable!()
+        };
+        Some(x)
     }
 
     fn size_hint(&self) -> (usize, Option<usize>)
@@ -82,7 +125,7 @@ impl<'a, A, D: Lengths> Iterator for ElementsBase<'a, A, D> {
 
 impl<'a, A, D: Lengths> ExactSizeIterator for ElementsBase<'a, A, D> {
     fn len(&self) -> usize {
-        self.walk.len()
+        self.row.len() + self.walk.len()
     }
 }
 
@@ -90,10 +133,10 @@ impl<'a, A> DoubleEndedIterator for ElementsBase<'a, A, Ix1> {
     ghost next_back_gives = { YieldsLastRef (λ rest. rest) };
 
     fn next_back(&mut self) -> Option<&'a A> {
-        let Some(index) = self.walk.next_back() else {
-            return None;
-        };
-        Some(self.view.item(&index))
+        match self.walk.next_back() {
+            Some(index) => Some(self.view.item(&index)),
+            None => self.row.next_back(),
+        }
     }
 }
 
@@ -104,6 +147,7 @@ impl<'a, A, D: Lengths> Clone for ElementsBase<'a, A, D> {
 
     fn clone(&self) -> Result<ElementsBase<'a, A, D>, AllocError> {
         Ok(ElementsBase {
+            row: self.row.again(),
             view: self.view.again(),
             walk: self.walk.clone()?,
         })

@@ -1,9 +1,10 @@
 //! Iterators that give the cells of an array themselves.
 
-ghost use Rattle.std.specs.Prelude.{◌≡◌, ◌⊎◌, ◌<◌, ◌^◌, length, IfOk, IfSome};
+ghost use Rattle.std.specs.Prelude.{◌≡◌, ◌⊎◌, ◌<◌, ◌^◌, length, IfOk, IfSome, IsOk};
 ghost use Rattle.std.specs.Iterator.{UpTo, YieldsFirst, item_count};
 ghost use Rattle.std.specs.Iterator.SizeHint.{IsExactHint, IsWithinCount};
 ghost use Rattle.std.specs.List.{AllZip};
+ghost use Rattle.ndarray.specs.Index.{size};
 
 use crate::base::array::{Array, CowArray};
 use crate::base::dimension::Lengths;
@@ -61,6 +62,7 @@ impl<'a, A: Clone + Drop, D: Lengths> CowArray<'a, A, D> {
         ensures cells { IfOk result (λ it. (it ≡ self.entry.cells) ⊎ AllZip A.is_clone self.entry.cells it) }
         ensures fits { IfOk result (λ it. length it < 2 ^ 63) }
         ensures same { IfOk result (λ it. ((x y : A) → A.is_clone x y → y ≡ x) → it ≡ self.entry.cells) }
+        ensures empty { size self.entry.lengths ≡ 0 → IsOk result }
     {
         let array = self.into_owned(alloc)?;
         Ok(array.into_iter())

@@ -15,7 +15,7 @@ use crate::zip::assigning::assign_items;
 use crate::zip::calls::{On1, On2, On3, On4, On5, On6};
 use crate::zip::collecting::collect_items;
 use crate::zip::fold_while::FoldWhile;
-use crate::zip::producer::NdProducer;
+use crate::zip::producer::{NdProducer, preferred_order};
 use crate::zip::walks::{all_items, any_items, fold_items, fold_items_while, visit_items};
 use crate::zip::{Parts, Zip};
 use std::alloc::{AllocError, Global};
@@ -31,7 +31,8 @@ impl<N: NdProducer<Dim = D>, D: Lengths> Zip<Parts<N, 1>, D> {
             dimension: _,
         } = self;
         let Parts { nested } = parts;
-        visit_items(nested, Order::RowMajor, On1(f))
+        let order = preferred_order(&nested);
+        visit_items(nested, order, On1(f))
     }
 
     /// Calls `f` once at the total and the items of each index list; each answer is the next total, and the
@@ -45,7 +46,8 @@ impl<N: NdProducer<Dim = D>, D: Lengths> Zip<Parts<N, 1>, D> {
             dimension: _,
         } = self;
         let Parts { nested } = parts;
-        fold_items(nested, Order::RowMajor, acc, On1(f))
+        let order = preferred_order(&nested);
+        fold_items(nested, order, acc, On1(f))
     }
 
     /// As `fold`, up to the first answer that is `Done`.
@@ -58,7 +60,8 @@ impl<N: NdProducer<Dim = D>, D: Lengths> Zip<Parts<N, 1>, D> {
             dimension: _,
         } = self;
         let Parts { nested } = parts;
-        fold_items_while(nested, Order::RowMajor, acc, On1(f))
+        let order = preferred_order(&nested);
+        fold_items_while(nested, order, acc, On1(f))
     }
 
     /// Whether `f` answers `true` at the items of each index list; it stops at the first `false`.
@@ -71,7 +74,8 @@ impl<N: NdProducer<Dim = D>, D: Lengths> Zip<Parts<N, 1>, D> {
             dimension: _,
         } = self;
         let Parts { nested } = parts;
-        all_items(nested, Order::RowMajor, On1(f))
+        let order = preferred_order(&nested);
+        all_items(nested, order, On1(f))
     }
 
     /// Whether `f` answers `true` at the items of some index list; it stops at the first `true`.
@@ -84,7 +88,8 @@ impl<N: NdProducer<Dim = D>, D: Lengths> Zip<Parts<N, 1>, D> {
             dimension: _,
         } = self;
         let Parts { nested } = parts;
-        any_items(nested, Order::RowMajor, On1(f))
+        let order = preferred_order(&nested);
+        any_items(nested, order, On1(f))
     }
 
     /// The array that has at each index list what `f` answers at the items there.
@@ -104,7 +109,8 @@ impl<N: NdProducer<Dim = D>, D: Lengths> Zip<Parts<N, 1>, D> {
             dimension: _,
         } = self;
         let Parts { nested } = parts;
-        collect_items(alloc, nested, Order::RowMajor, On1(f))
+        let order = preferred_order(&nested);
+        collect_items(alloc, nested, order, On1(f))
     }
 
     /// Leaves in the cells of an array what `f` answers at the items of each index list.
@@ -140,7 +146,8 @@ impl<X, Y, N: NdProducer<Item = (X, Y), Dim = D>, D: Lengths> Zip<Parts<N, 2>, D
             dimension: _,
         } = self;
         let Parts { nested } = parts;
-        visit_items(nested, Order::RowMajor, On2(f))
+        let order = preferred_order(&nested);
+        visit_items(nested, order, On2(f))
     }
 
     /// Calls `f` once at the total and the items of each index list; each answer is the next total, and the
@@ -154,7 +161,8 @@ impl<X, Y, N: NdProducer<Item = (X, Y), Dim = D>, D: Lengths> Zip<Parts<N, 2>, D
             dimension: _,
         } = self;
         let Parts { nested } = parts;
-        fold_items(nested, Order::RowMajor, acc, On2(f))
+        let order = preferred_order(&nested);
+        fold_items(nested, order, acc, On2(f))
     }
 
     /// As `fold`, up to the first answer that is `Done`.
@@ -167,7 +175,8 @@ impl<X, Y, N: NdProducer<Item = (X, Y), Dim = D>, D: Lengths> Zip<Parts<N, 2>, D
             dimension: _,
         } = self;
         let Parts { nested } = parts;
-        fold_items_while(nested, Order::RowMajor, acc, On2(f))
+        let order = preferred_order(&nested);
+        fold_items_while(nested, order, acc, On2(f))
     }
 
     /// Whether `f` answers `true` at the items of each index list; it stops at the first `false`.
@@ -180,7 +189,8 @@ impl<X, Y, N: NdProducer<Item = (X, Y), Dim = D>, D: Lengths> Zip<Parts<N, 2>, D
             dimension: _,
         } = self;
         let Parts { nested } = parts;
-        all_items(nested, Order::RowMajor, On2(f))
+        let order = preferred_order(&nested);
+        all_items(nested, order, On2(f))
     }
 
     /// Whether `f` answers `true` at the items of some index list; it stops at the first `true`.
@@ -193,7 +203,8 @@ impl<X, Y, N: NdProducer<Item = (X, Y), Dim = D>, D: Lengths> Zip<Parts<N, 2>, D
             dimension: _,
         } = self;
         let Parts { nested } = parts;
-        any_items(nested, Order::RowMajor, On2(f))
+        let order = preferred_order(&nested);
+        any_items(nested, order, On2(f))
     }
 
     /// The array that has at each index list what `f` answers at the items there.
@@ -213,7 +224,8 @@ impl<X, Y, N: NdProducer<Item = (X, Y), Dim = D>, D: Lengths> Zip<Parts<N, 2>, D
             dimension: _,
         } = self;
         let Parts { nested } = parts;
-        collect_items(alloc, nested, Order::RowMajor, On2(f))
+        let order = preferred_order(&nested);
+        collect_items(alloc, nested, order, On2(f))
     }
 
     /// Leaves in the cells of an array what `f` answers at the items of each index list.
@@ -249,7 +261,8 @@ impl<X, Y, Z, N: NdProducer<Item = ((X, Y), Z), Dim = D>, D: Lengths> Zip<Parts<
             dimension: _,
         } = self;
         let Parts { nested } = parts;
-        visit_items(nested, Order::RowMajor, On3(f))
+        let order = preferred_order(&nested);
+        visit_items(nested, order, On3(f))
     }
 
     /// Calls `f` once at the total and the items of each index list; each answer is the next total, and the
@@ -263,7 +276,8 @@ impl<X, Y, Z, N: NdProducer<Item = ((X, Y), Z), Dim = D>, D: Lengths> Zip<Parts<
             dimension: _,
         } = self;
         let Parts { nested } = parts;
-        fold_items(nested, Order::RowMajor, acc, On3(f))
+        let order = preferred_order(&nested);
+        fold_items(nested, order, acc, On3(f))
     }
 
     /// As `fold`, up to the first answer that is `Done`.
@@ -276,7 +290,8 @@ impl<X, Y, Z, N: NdProducer<Item = ((X, Y), Z), Dim = D>, D: Lengths> Zip<Parts<
             dimension: _,
         } = self;
         let Parts { nested } = parts;
-        fold_items_while(nested, Order::RowMajor, acc, On3(f))
+        let order = preferred_order(&nested);
+        fold_items_while(nested, order, acc, On3(f))
     }
 
     /// Whether `f` answers `true` at the items of each index list; it stops at the first `false`.
@@ -289,7 +304,8 @@ impl<X, Y, Z, N: NdProducer<Item = ((X, Y), Z), Dim = D>, D: Lengths> Zip<Parts<
             dimension: _,
         } = self;
         let Parts { nested } = parts;
-        all_items(nested, Order::RowMajor, On3(f))
+        let order = preferred_order(&nested);
+        all_items(nested, order, On3(f))
     }
 
     /// Whether `f` answers `true` at the items of some index list; it stops at the first `true`.
@@ -302,7 +318,8 @@ impl<X, Y, Z, N: NdProducer<Item = ((X, Y), Z), Dim = D>, D: Lengths> Zip<Parts<
             dimension: _,
         } = self;
         let Parts { nested } = parts;
-        any_items(nested, Order::RowMajor, On3(f))
+        let order = preferred_order(&nested);
+        any_items(nested, order, On3(f))
     }
 
     /// The array that has at each index list what `f` answers at the items there.
@@ -322,7 +339,8 @@ impl<X, Y, Z, N: NdProducer<Item = ((X, Y), Z), Dim = D>, D: Lengths> Zip<Parts<
             dimension: _,
         } = self;
         let Parts { nested } = parts;
-        collect_items(alloc, nested, Order::RowMajor, On3(f))
+        let order = preferred_order(&nested);
+        collect_items(alloc, nested, order, On3(f))
     }
 
     /// Leaves in the cells of an array what `f` answers at the items of each index list.
@@ -358,7 +376,8 @@ impl<X, Y, Z, U, N: NdProducer<Item = (((X, Y), Z), U), Dim = D>, D: Lengths> Zi
             dimension: _,
         } = self;
         let Parts { nested } = parts;
-        visit_items(nested, Order::RowMajor, On4(f))
+        let order = preferred_order(&nested);
+        visit_items(nested, order, On4(f))
     }
 
     /// Calls `f` once at the total and the items of each index list; each answer is the next total, and the
@@ -372,7 +391,8 @@ impl<X, Y, Z, U, N: NdProducer<Item = (((X, Y), Z), U), Dim = D>, D: Lengths> Zi
             dimension: _,
         } = self;
         let Parts { nested } = parts;
-        fold_items(nested, Order::RowMajor, acc, On4(f))
+        let order = preferred_order(&nested);
+        fold_items(nested, order, acc, On4(f))
     }
 
     /// As `fold`, up to the first answer that is `Done`.
@@ -389,7 +409,8 @@ impl<X, Y, Z, U, N: NdProducer<Item = (((X, Y), Z), U), Dim = D>, D: Lengths> Zi
             dimension: _,
         } = self;
         let Parts { nested } = parts;
-        fold_items_while(nested, Order::RowMajor, acc, On4(f))
+        let order = preferred_order(&nested);
+        fold_items_while(nested, order, acc, On4(f))
     }
 
     /// Whether `f` answers `true` at the items of each index list; it stops at the first `false`.
@@ -402,7 +423,8 @@ impl<X, Y, Z, U, N: NdProducer<Item = (((X, Y), Z), U), Dim = D>, D: Lengths> Zi
             dimension: _,
         } = self;
         let Parts { nested } = parts;
-        all_items(nested, Order::RowMajor, On4(f))
+        let order = preferred_order(&nested);
+        all_items(nested, order, On4(f))
     }
 
     /// Whether `f` answers `true` at the items of some index list; it stops at the first `true`.
@@ -415,7 +437,8 @@ impl<X, Y, Z, U, N: NdProducer<Item = (((X, Y), Z), U), Dim = D>, D: Lengths> Zi
             dimension: _,
         } = self;
         let Parts { nested } = parts;
-        any_items(nested, Order::RowMajor, On4(f))
+        let order = preferred_order(&nested);
+        any_items(nested, order, On4(f))
     }
 
     /// The array that has at each index list what `f` answers at the items there.
@@ -435,7 +458,8 @@ impl<X, Y, Z, U, N: NdProducer<Item = (((X, Y), Z), U), Dim = D>, D: Lengths> Zi
             dimension: _,
         } = self;
         let Parts { nested } = parts;
-        collect_items(alloc, nested, Order::RowMajor, On4(f))
+        let order = preferred_order(&nested);
+        collect_items(alloc, nested, order, On4(f))
     }
 
     /// Leaves in the cells of an array what `f` answers at the items of each index list.
@@ -474,7 +498,8 @@ impl<X, Y, Z, U, V, N: NdProducer<Item = ((((X, Y), Z), U), V), Dim = D>, D: Len
             dimension: _,
         } = self;
         let Parts { nested } = parts;
-        visit_items(nested, Order::RowMajor, On5(f))
+        let order = preferred_order(&nested);
+        visit_items(nested, order, On5(f))
     }
 
     /// Calls `f` once at the total and the items of each index list; each answer is the next total, and the
@@ -488,7 +513,8 @@ impl<X, Y, Z, U, V, N: NdProducer<Item = ((((X, Y), Z), U), V), Dim = D>, D: Len
             dimension: _,
         } = self;
         let Parts { nested } = parts;
-        fold_items(nested, Order::RowMajor, acc, On5(f))
+        let order = preferred_order(&nested);
+        fold_items(nested, order, acc, On5(f))
     }
 
     /// As `fold`, up to the first answer that is `Done`.
@@ -505,7 +531,8 @@ impl<X, Y, Z, U, V, N: NdProducer<Item = ((((X, Y), Z), U), V), Dim = D>, D: Len
             dimension: _,
         } = self;
         let Parts { nested } = parts;
-        fold_items_while(nested, Order::RowMajor, acc, On5(f))
+        let order = preferred_order(&nested);
+        fold_items_while(nested, order, acc, On5(f))
     }
 
     /// Whether `f` answers `true` at the items of each index list; it stops at the first `false`.
@@ -518,7 +545,8 @@ impl<X, Y, Z, U, V, N: NdProducer<Item = ((((X, Y), Z), U), V), Dim = D>, D: Len
             dimension: _,
         } = self;
         let Parts { nested } = parts;
-        all_items(nested, Order::RowMajor, On5(f))
+        let order = preferred_order(&nested);
+        all_items(nested, order, On5(f))
     }
 
     /// Whether `f` answers `true` at the items of some index list; it stops at the first `true`.
@@ -531,7 +559,8 @@ impl<X, Y, Z, U, V, N: NdProducer<Item = ((((X, Y), Z), U), V), Dim = D>, D: Len
             dimension: _,
         } = self;
         let Parts { nested } = parts;
-        any_items(nested, Order::RowMajor, On5(f))
+        let order = preferred_order(&nested);
+        any_items(nested, order, On5(f))
     }
 
     /// The array that has at each index list what `f` answers at the items there.
@@ -551,7 +580,8 @@ impl<X, Y, Z, U, V, N: NdProducer<Item = ((((X, Y), Z), U), V), Dim = D>, D: Len
             dimension: _,
         } = self;
         let Parts { nested } = parts;
-        collect_items(alloc, nested, Order::RowMajor, On5(f))
+        let order = preferred_order(&nested);
+        collect_items(alloc, nested, order, On5(f))
     }
 
     /// Leaves in the cells of an array what `f` answers at the items of each index list.
@@ -590,7 +620,8 @@ impl<X, Y, Z, U, V, W, N: NdProducer<Item = (((((X, Y), Z), U), V), W), Dim = D>
             dimension: _,
         } = self;
         let Parts { nested } = parts;
-        visit_items(nested, Order::RowMajor, On6(f))
+        let order = preferred_order(&nested);
+        visit_items(nested, order, On6(f))
     }
 
     /// Calls `f` once at the total and the items of each index list; each answer is the next total, and the
@@ -604,7 +635,8 @@ impl<X, Y, Z, U, V, W, N: NdProducer<Item = (((((X, Y), Z), U), V), W), Dim = D>
             dimension: _,
         } = self;
         let Parts { nested } = parts;
-        fold_items(nested, Order::RowMajor, acc, On6(f))
+        let order = preferred_order(&nested);
+        fold_items(nested, order, acc, On6(f))
     }
 
     /// As `fold`, up to the first answer that is `Done`.
@@ -621,7 +653,8 @@ impl<X, Y, Z, U, V, W, N: NdProducer<Item = (((((X, Y), Z), U), V), W), Dim = D>
             dimension: _,
         } = self;
         let Parts { nested } = parts;
-        fold_items_while(nested, Order::RowMajor, acc, On6(f))
+        let order = preferred_order(&nested);
+        fold_items_while(nested, order, acc, On6(f))
     }
 
     /// Whether `f` answers `true` at the items of each index list; it stops at the first `false`.
@@ -634,7 +667,8 @@ impl<X, Y, Z, U, V, W, N: NdProducer<Item = (((((X, Y), Z), U), V), W), Dim = D>
             dimension: _,
         } = self;
         let Parts { nested } = parts;
-        all_items(nested, Order::RowMajor, On6(f))
+        let order = preferred_order(&nested);
+        all_items(nested, order, On6(f))
     }
 
     /// Whether `f` answers `true` at the items of some index list; it stops at the first `true`.
@@ -647,6 +681,7 @@ impl<X, Y, Z, U, V, W, N: NdProducer<Item = (((((X, Y), Z), U), V), W), Dim = D>
             dimension: _,
         } = self;
         let Parts { nested } = parts;
-        any_items(nested, Order::RowMajor, On6(f))
+        let order = preferred_order(&nested);
+        any_items(nested, order, On6(f))
     }
 }

@@ -1,7 +1,8 @@
 //! Arrays of what a closure answers at the items of a producer.
 
-ghost use Rattle.std.specs.Prelude.{IfOk};
+ghost use Rattle.std.specs.Prelude.{◌≡◌, IfOk, IsOk, length};
 ghost use Rattle.ndarray.specs.Grid.{IsGrid};
+ghost use Rattle.ndarray.specs.Index.{size};
 ghost use Rattle.ndarray.specs.Orders.{box_in};
 ghost use Rattle.ndarray.specs.Runs.{MayGather, Collects};
 
@@ -21,13 +22,27 @@ pub(crate) fn collect_items<P: NdProducer, R: Drop, C: ItemCall<P::Item, Out = R
 ) -> Result<Array<R, P::Dim>, AllocError>
     requires callable { MayGather (P.shows p) C.calls C.asks (box_in order (P.lengths p)) f }
     ensures ran { IfOk result (λ g. Collects (P.shows p) C.calls order (P.lengths p) f g) }
+    ensures axes { IfOk result (λ g. P.Dim.has_axes (length g.lengths)) }
     ensures whole { IfOk result IsGrid }
+    ensures empty { size (P.lengths p) ≡ 0 → IsOk result }
 {
     let mut filling = Filling::with_capacity(alloc, p.raw_dim(), order)?;
-    let mut run = p.run(order);
-    while let Some(x) = run.next() {
-        let r = f.call(x);
-        filling.push(r);
+    match p.try_flat(order) {
+        Ok(flat) => {
+            let mut run = P::run_flat(flat);
+            while let Some(y) = run.next() {
+                let r = f.call(y);
+                filling.push(r);
+            }
+            Ok(filling.finish())
+        }
+        Err(p) => {
+            let mut run = p.run(order);
+            while let Some(x) = run.next() {
+                let r = f.call(x);
+                filling.push(r);
+            }
+            Ok(filling.finish())
+        }
     }
-    Ok(filling.finish())
 }

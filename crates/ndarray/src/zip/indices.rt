@@ -4,6 +4,7 @@ ghost use Rattle.std.specs.Prelude.{◌≡◌, Some};
 ghost use Rattle.std.specs.Iterator.{YieldsFirstBy, item_count};
 ghost use Rattle.std.proofs.Common.{ap};
 ghost use Rattle.ndarray.specs.Grid.{cell};
+ghost use Rattle.ndarray.specs.declared.base.shape.Order.TheVariants.{RowMajor};
 
 use crate::base::axis::Axis;
 use crate::base::dimension::{Dimension, Lengths};
@@ -71,6 +72,28 @@ impl<D: Dimension> NdProducer for Indices<D> {
     fn run(self, order: Order) -> Patterns<D> {
         let walk = Walk::new(self.raw_dim(), order);
         Patterns { lists: self, walk }
+    }
+
+    type Flat = Self;
+
+    type FlatRun = Patterns<D>;
+
+    ghost flat_form = { λ s o flat. (flat ≡ s) × (o ≡ RowMajor) };
+
+    fn tendency(&self) -> i32 {
+        0
+    }
+
+    fn try_flat(self, _order: Order) -> Result<Self, Self> {
+        Err(self)
+    }
+
+    fn from_flat(flat: Self) -> Self {
+        flat
+    }
+
+    fn run_flat(flat: Self) -> Patterns<D> {
+        flat.run(Order::RowMajor)
     }
 }
 

@@ -1,11 +1,12 @@
 //! What can be walked together: producers, and what becomes one.
 
-ghost use Rattle.std.specs.Prelude.{◌≡◌, ℕ, ◌<◌, ◌≤◌, List, length, slice_index};
+ghost use Rattle.std.specs.Prelude.{◌≡◌, ℕ, ◌<◌, ◌≤◌, List, length, slice_index, IfOk, IfErr};
 ghost use Rattle.std.specs.Iterator.{IsFinite};
 ghost use Rattle.ndarray.specs.Broadcast.{BroadcastsTo};
 ghost use Rattle.ndarray.specs.Limits.{IsWithinLimit};
 ghost use Rattle.ndarray.specs.Orders.{box_in};
-ghost use Rattle.ndarray.specs.Producers.{Gives, IsPart};
+ghost use Rattle.ndarray.specs.Producers.{Gives, IsPart, IsRefinedBy};
+ghost use Rattle.ndarray.specs.declared.base.shape.Order.{Order};
 
 use crate::base::axis::Axis;
 use crate::base::dimension::Lengths;
@@ -51,6 +52,36 @@ pub trait NdProducer: Shaped + Drop + Sized {
         ensures can { Self.Run.can_next result }
         ensures finite { IsFinite (Self.Run.remaining result) }
         ensures gives { Gives Self.Run.next_gives (shows self) result (box_in order (Self.lengths self)) };
+
+    /// The same producer where its items lie side by side in an order, so that a run over them takes no
+    /// strides.
+    type Flat: Drop;
+
+    /// The items of such a producer, one after another.
+    type FlatRun: Iterator<Item = Self::Item> + Drop;
+
+    // Whether a flat form is that of a producer, with its items side by side in the order.
+    ghost flat_form: { Self → Order → Self.Flat → Type 0 };
+
+    /// Which order is fast: row order where it is positive, column order where it is negative. No contract
+    /// speaks of it.
+    fn tendency(&self) -> i32;
+
+    /// The flat form, where the items lie side by side in the order; else the producer.
+    fn try_flat(self, order: Order) -> Result<Self::Flat, Self>
+        ensures flat { IfOk result (λ flat. flat_form self order flat) }
+        ensures back { IfErr result (λ p. IsRefinedBy (Self.lengths self) (shows self) (Self.lengths p) (shows p)) };
+
+    /// The producer of a flat form.
+    fn from_flat(flat: Self::Flat) -> Self
+        requires { (p : Self) × ((o : Order) × flat_form p o flat) }
+        ensures { (p : Self) (o : Order) → flat_form p o flat → IsRefinedBy (Self.lengths p) (shows p) (Self.lengths result) (shows result) };
+
+    /// An item at each index list, in the order in which they lie.
+    fn run_flat(flat: Self::Flat) -> Self::FlatRun
+        ensures can { Self.FlatRun.can_next result }
+        ensures finite { IsFinite (Self.FlatRun.remaining result) }
+        ensures gives { (p : Self) (o : Order) → flat_form p o flat → Gives Self.FlatRun.next_gives (shows p) result (box_in o (Self.lengths p)) };
 }
 
 /// A producer whose clones have its lengths.
@@ -108,4 +139,9 @@ impl<P: NdProducer> IntoNdProducer for P {
     fn into_producer(self) -> P {
         self
     }
+}
+
+/// The order in which a producer is walked.
+pub(crate) fn preferred_order<P: NdProducer>(p: &P) -> Order {
+    Order::by_tendency(p.tendency())
 }

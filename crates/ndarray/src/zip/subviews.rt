@@ -3,6 +3,7 @@
 ghost use Rattle.std.specs.Prelude.{◌≡◌, ◌∷◌, [], length, Some};
 ghost use Rattle.std.proofs.Common.{ap};
 ghost use Rattle.ndarray.specs.Grid.{cell, line};
+ghost use Rattle.ndarray.specs.declared.base.shape.Order.TheVariants.{RowMajor};
 
 use crate::base::array::ArrayView;
 use crate::base::axis::Axis;
@@ -41,6 +42,28 @@ impl<'a, A, D: Lengths> NdProducer for Lanes<'a, A, D> {
             items: self.tiles.run(order),
         }
     }
+
+    type Flat = Self;
+
+    type FlatRun = LanesIter<'a, A, D>;
+
+    ghost flat_form = { λ s o flat. (flat ≡ s) × (o ≡ RowMajor) };
+
+    fn tendency(&self) -> i32 {
+        0
+    }
+
+    fn try_flat(self, _order: Order) -> Result<Self, Self> {
+        Err(self)
+    }
+
+    fn from_flat(flat: Self) -> Self {
+        flat
+    }
+
+    fn run_flat(flat: Self) -> LanesIter<'a, A, D> {
+        flat.run(Order::RowMajor)
+    }
 }
 
 impl<'a, A, D: Lengths> Shaped for ExactChunks<'a, A, D> {
@@ -70,6 +93,28 @@ impl<'a, A, D: Lengths> NdProducer for ExactChunks<'a, A, D> {
             items: self.tiles.run(order),
         }
     }
+
+    type Flat = Self;
+
+    type FlatRun = ExactChunksIter<'a, A, D>;
+
+    ghost flat_form = { λ s o flat. (flat ≡ s) × (o ≡ RowMajor) };
+
+    fn tendency(&self) -> i32 {
+        0
+    }
+
+    fn try_flat(self, _order: Order) -> Result<Self, Self> {
+        Err(self)
+    }
+
+    fn from_flat(flat: Self) -> Self {
+        flat
+    }
+
+    fn run_flat(flat: Self) -> ExactChunksIter<'a, A, D> {
+        flat.run(Order::RowMajor)
+    }
 }
 
 impl<'a, A, D: Lengths> Shaped for Windows<'a, A, D> {
@@ -98,6 +143,28 @@ impl<'a, A, D: Lengths> NdProducer for Windows<'a, A, D> {
         WindowsIter {
             items: self.tiles.run(order),
         }
+    }
+
+    type Flat = Self;
+
+    type FlatRun = WindowsIter<'a, A, D>;
+
+    ghost flat_form = { λ s o flat. (flat ≡ s) × (o ≡ RowMajor) };
+
+    fn tendency(&self) -> i32 {
+        0
+    }
+
+    fn try_flat(self, _order: Order) -> Result<Self, Self> {
+        Err(self)
+    }
+
+    fn from_flat(flat: Self) -> Self {
+        flat
+    }
+
+    fn run_flat(flat: Self) -> WindowsIter<'a, A, D> {
+        flat.run(Order::RowMajor)
     }
 }
 
@@ -135,6 +202,28 @@ impl<'a, A, D: Lengths> NdProducer for AxisWindows<'a, A, D> {
             items: self.tiles.into_iter(),
         }
     }
+
+    type Flat = Self;
+
+    type FlatRun = WindowsIter<'a, A, D>;
+
+    ghost flat_form = { λ s o flat. (flat ≡ s) × (o ≡ RowMajor) };
+
+    fn tendency(&self) -> i32 {
+        0
+    }
+
+    fn try_flat(self, _order: Order) -> Result<Self, Self> {
+        Err(self)
+    }
+
+    fn from_flat(flat: Self) -> Self {
+        flat
+    }
+
+    fn run_flat(flat: Self) -> WindowsIter<'a, A, D> {
+        flat.run(Order::RowMajor)
+    }
 }
 
 impl<'a, A, D: Lengths> Shaped for AxisIter<'a, A, D> {
@@ -160,6 +249,28 @@ impl<'a, A, D: Lengths> NdProducer for AxisIter<'a, A, D> {
 
     fn run(self, _order: Order) -> AxisIter<'a, A, D> {
         self
+    }
+
+    type Flat = Self;
+
+    type FlatRun = AxisIter<'a, A, D>;
+
+    ghost flat_form = { λ s o flat. (flat ≡ s) × (o ≡ RowMajor) };
+
+    fn tendency(&self) -> i32 {
+        0
+    }
+
+    fn try_flat(self, _order: Order) -> Result<Self, Self> {
+        Err(self)
+    }
+
+    fn from_flat(flat: Self) -> Self {
+        flat
+    }
+
+    fn run_flat(flat: Self) -> AxisIter<'a, A, D> {
+        flat.run(Order::RowMajor)
     }
 }
 

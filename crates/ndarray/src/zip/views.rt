@@ -2,7 +2,8 @@
 
 ghost use Rattle.std.specs.Prelude.{◌≡◌, Some};
 ghost use Rattle.std.proofs.Common.{ap};
-ghost use Rattle.ndarray.specs.Grid.{cell};
+ghost use Rattle.ndarray.specs.Grid.{cell, IsGrid};
+ghost use Rattle.ndarray.specs.Orders.{cells_in};
 ghost use Rattle.ndarray.specs.Views.{broadcast_to};
 
 use crate::base::array::{ArrayBase, ArrayView};
@@ -36,6 +37,31 @@ impl<'a, A, D: Lengths> NdProducer for ArrayView<'a, A, D> {
 
     fn run(self, order: Order) -> ElementsBase<'a, A, D> {
         ElementsBase::in_order(self, order)
+    }
+
+    type Flat = (Self, &'a [A]);
+
+    type FlatRun = std::slice::Iter<'a, A>;
+
+    ghost flat_form = { λ v o flat. (flat.0 ≡ v) × (flat.1.now ≡ cells_in o v) × IsGrid v };
+
+    fn tendency(&self) -> i32 {
+        self.layout_tendency()
+    }
+
+    fn try_flat(self, order: Order) -> Result<(Self, &'a [A]), Self> {
+        match self.slice_in(order) {
+            Some(slice) => Ok((self, slice)),
+            None => Err(self),
+        }
+    }
+
+    fn from_flat(flat: (Self, &'a [A])) -> Self {
+        flat.0
+    }
+
+    fn run_flat(flat: (Self, &'a [A])) -> std::slice::Iter<'a, A> {
+        flat.1.iter()
     }
 }
 

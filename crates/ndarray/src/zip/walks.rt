@@ -19,10 +19,20 @@ pub(crate) fn fold_items<P: NdProducer, B, C: FoldCall<B, P::Item, Out = B>>(
     requires callable { MayFold (P.shows p) C.calls C.asks (box_in order (P.lengths p)) f init }
     ensures ran { Folds (P.shows p) C.calls (box_in order (P.lengths p)) f init result }
 {
-    let mut run = p.run(order);
     let mut acc = init;
-    while let Some(x) = run.next() {
-        acc = f.call(acc, x);
+    match p.try_flat(order) {
+        Ok(flat) => {
+            let mut run = P::run_flat(flat);
+            while let Some(y) = run.next() {
+                acc = f.call(acc, y);
+            }
+        }
+        Err(p) => {
+            let mut run = p.run(order);
+            while let Some(x) = run.next() {
+                acc = f.call(acc, x);
+            }
+        }
     }
     acc
 }
@@ -36,9 +46,19 @@ pub(crate) fn visit_items<P: NdProducer, C: ItemCall<P::Item, Out = ()>>(
     requires callable { MayVisit (P.shows p) C.calls C.asks (box_in order (P.lengths p)) f }
     ensures ran { Visits (P.shows p) C.calls (box_in order (P.lengths p)) f }
 {
-    let mut run = p.run(order);
-    while let Some(x) = run.next() {
-        f.call(x);
+    match p.try_flat(order) {
+        Ok(flat) => {
+            let mut run = P::run_flat(flat);
+            while let Some(y) = run.next() {
+                f.call(y);
+            }
+        }
+        Err(p) => {
+            let mut run = p.run(order);
+            while let Some(x) = run.next() {
+                f.call(x);
+            }
+        }
     }
 }
 
@@ -51,10 +71,22 @@ pub(crate) fn all_items<P: NdProducer, C: ItemCall<P::Item, Out = bool>>(
     requires callable { MayTest (P.shows p) C.calls C.asks (box_in order (P.lengths p)) f true }
     ensures ran { TestsUntil (P.shows p) C.calls (box_in order (P.lengths p)) f true false result }
 {
-    let mut run = p.run(order);
-    while let Some(x) = run.next() {
-        if !f.call(x) {
-            return false;
+    match p.try_flat(order) {
+        Ok(flat) => {
+            let mut run = P::run_flat(flat);
+            while let Some(y) = run.next() {
+                if !f.call(y) {
+                    return false;
+                }
+            }
+        }
+        Err(p) => {
+            let mut run = p.run(order);
+            while let Some(x) = run.next() {
+                if !f.call(x) {
+                    return false;
+                }
+            }
         }
     }
     true
@@ -69,10 +101,22 @@ pub(crate) fn any_items<P: NdProducer, C: ItemCall<P::Item, Out = bool>>(
     requires callable { MayTest (P.shows p) C.calls C.asks (box_in order (P.lengths p)) f false }
     ensures ran { TestsUntil (P.shows p) C.calls (box_in order (P.lengths p)) f false true result }
 {
-    let mut run = p.run(order);
-    while let Some(x) = run.next() {
-        if f.call(x) {
-            return true;
+    match p.try_flat(order) {
+        Ok(flat) => {
+            let mut run = P::run_flat(flat);
+            while let Some(y) = run.next() {
+                if f.call(y) {
+                    return true;
+                }
+            }
+        }
+        Err(p) => {
+            let mut run = p.run(order);
+            while let Some(x) = run.next() {
+                if f.call(x) {
+                    return true;
+                }
+            }
         }
     }
     false
@@ -88,12 +132,25 @@ pub(crate) fn fold_items_while<P: NdProducer, B, C: FoldCall<B, P::Item, Out = F
     requires callable { MayFoldWhile (P.shows p) C.calls C.asks (box_in order (P.lengths p)) f init }
     ensures ran { FoldsWhile (P.shows p) C.calls (box_in order (P.lengths p)) f init result }
 {
-    let mut run = p.run(order);
     let mut acc = init;
-    while let Some(x) = run.next() {
-        match f.call(acc, x) {
-            FoldWhile::Continue(next) => acc = next,
-            FoldWhile::Done(last) => return FoldWhile::Done(last),
+    match p.try_flat(order) {
+        Ok(flat) => {
+            let mut run = P::run_flat(flat);
+            while let Some(y) = run.next() {
+                match f.call(acc, y) {
+                    FoldWhile::Continue(next) => acc = next,
+                    FoldWhile::Done(last) => return FoldWhile::Done(last),
+                }
+            }
+        }
+        Err(p) => {
+            let mut run = p.run(order);
+            while let Some(x) = run.next() {
+                match f.call(acc, x) {
+                    FoldWhile::Continue(next) => acc = next,
+                    FoldWhile::Done(last) => return FoldWhile::Done(last),
+                }
+            }
         }
     }
     FoldWhile::Continue(acc)

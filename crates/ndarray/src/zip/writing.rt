@@ -1,7 +1,10 @@
 //! Views to write in, and what is handed out to write in, as producers.
 
 ghost use Rattle.std.specs.Prelude.{◌≡◌, [], ◌∷◌, length, Some};
-ghost use Rattle.ndarray.specs.Grid.{cell, line};
+ghost use Rattle.ndarray.specs.Grid.{cell, line, IsGrid};
+ghost use Rattle.ndarray.specs.Limits.{IsWithinLimit};
+ghost use Rattle.ndarray.specs.Orders.{cells_in};
+ghost use Rattle.ndarray.specs.declared.base.shape.Order.TheVariants.{RowMajor};
 
 use crate::base::array::{ArrayBase, ArrayViewMut};
 use crate::base::axis::Axis;
@@ -13,6 +16,7 @@ use crate::subviews::axis_mut::AxisIterMut;
 use crate::subviews::exact_chunks_mut::{ExactChunksIterMut, ExactChunksMut};
 use crate::subviews::lanes_mut::{LanesIterMut, LanesMut};
 use crate::zip::producer::{IntoNdProducer, NdProducer, Shaped};
+use std::slice::IterMut;
 
 impl<'a, A: 'a, D: Lengths> NdProducer for ArrayViewMut<'a, A, D> {
     type Item = &'a mut A;
@@ -34,6 +38,41 @@ impl<'a, A: 'a, D: Lengths> NdProducer for ArrayViewMut<'a, A, D> {
     fn run(self, order: Order) -> ElementsBaseMut<'a, A, D> {
         ElementsBaseMut::in_order(self, order)
     }
+
+    type Flat = FlatCells<'a, A, D>;
+
+    type FlatRun = IterMut<'a, A>;
+
+    ghost flat_form = { λ v o flat. (flat.order ≡ o) × (flat.slice.now ≡ cells_in o v) × (D.numbers flat.dim ≡ v.lengths) × IsGrid v × IsWithinLimit v.lengths };
+
+    fn tendency(&self) -> i32 {
+        self.layout_tendency()
+    }
+
+    fn try_flat(self, order: Order) -> Result<FlatCells<'a, A, D>, Self> {
+        let dim = self.raw_dim();
+        match self.try_into_slice_in(order) {
+            Ok(slice) => Ok(FlatCells { slice, dim, order }),
+            Err(view) => Err(view),
+        }
+    }
+
+    fn from_flat(flat: FlatCells<'a, A, D>) -> Self {
+        let FlatCells { slice, dim, order } = flat;
+        ArrayBase::from_slice(slice, dim, order)
+    }
+
+    fn run_flat(flat: FlatCells<'a, A, D>) -> IterMut<'a, A> {
+        flat.slice.iter_mut()
+    }
+}
+
+/// The cells of a view to write in, side by side in an order.
+#[derive(Drop)]
+pub struct FlatCells<'a, A, D> {
+    slice: &'a mut [A],
+    dim: D,
+    order: Order,
 }
 
 impl<'b, S: DataMut, D: Lengths> IntoNdProducer for &'b mut ArrayBase<S, D>
@@ -77,6 +116,28 @@ impl<'a, A, D: Lengths> NdProducer for AxisIterMut<'a, A, D> {
     fn run(self, _order: Order) -> AxisIterMut<'a, A, D> {
         self
     }
+
+    type Flat = Self;
+
+    type FlatRun = AxisIterMut<'a, A, D>;
+
+    ghost flat_form = { λ s o flat. (flat ≡ s) × (o ≡ RowMajor) };
+
+    fn tendency(&self) -> i32 {
+        0
+    }
+
+    fn try_flat(self, _order: Order) -> Result<Self, Self> {
+        Err(self)
+    }
+
+    fn from_flat(flat: Self) -> Self {
+        flat
+    }
+
+    fn run_flat(flat: Self) -> AxisIterMut<'a, A, D> {
+        flat.run(Order::RowMajor)
+    }
 }
 
 impl<'a, A, D: Lengths> Shaped for LanesMut<'a, A, D> {
@@ -105,6 +166,28 @@ impl<'a, A, D: Lengths> NdProducer for LanesMut<'a, A, D> {
         LanesIterMut {
             items: self.tiles.run(order),
         }
+    }
+
+    type Flat = Self;
+
+    type FlatRun = LanesIterMut<'a, A, D>;
+
+    ghost flat_form = { λ s o flat. (flat ≡ s) × (o ≡ RowMajor) };
+
+    fn tendency(&self) -> i32 {
+        0
+    }
+
+    fn try_flat(self, _order: Order) -> Result<Self, Self> {
+        Err(self)
+    }
+
+    fn from_flat(flat: Self) -> Self {
+        flat
+    }
+
+    fn run_flat(flat: Self) -> LanesIterMut<'a, A, D> {
+        flat.run(Order::RowMajor)
     }
 }
 
@@ -137,5 +220,27 @@ impl<'a, A, D: Lengths> NdProducer for ExactChunksMut<'a, A, D> {
         ExactChunksIterMut {
             items: self.tiles.run(order),
         }
+    }
+
+    type Flat = Self;
+
+    type FlatRun = ExactChunksIterMut<'a, A, D>;
+
+    ghost flat_form = { λ s o flat. (flat ≡ s) × (o ≡ RowMajor) };
+
+    fn tendency(&self) -> i32 {
+        0
+    }
+
+    fn try_flat(self, _order: Order) -> Result<Self, Self> {
+        Err(self)
+    }
+
+    fn from_flat(flat: Self) -> Self {
+        flat
+    }
+
+    fn run_flat(flat: Self) -> ExactChunksIterMut<'a, A, D> {
+        flat.run(Order::RowMajor)
     }
 }

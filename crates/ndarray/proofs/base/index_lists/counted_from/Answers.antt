@@ -5,7 +5,7 @@ use Rattle.ndarray.proofs.IndexLists.{moved-none, moved-length, moved-more}
 use Rattle.ndarray.proofs.base.index_lists.counted_from.Goals as goal
 
 pub loop-k-init : goal.loop-k-init
-loop-k-init g c = c.copied-list.ensures ∙ sym (moved-none _)
+loop-k-init g c = c.copied-list.ensures.value ∙ sym (moved-none _)
 
 pub set_axis-requires : goal.set_axis-requires
 set_axis-requires g c =

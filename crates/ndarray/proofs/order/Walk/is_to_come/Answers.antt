@@ -17,14 +17,14 @@ returns-in_default g c =
       λ f. absurd (search rules),
       λ there.
           let inside = to-come w.order (axes w.dim) (axes w.index) js w.left c.self.invariant (omega (arith, c.if-self-eq0.false)) (subst (λ (l : List (List ℕ)). Contains l js) (sym c.self.view_is) there) in
-          absurd (c.in_default.ensures (subst (λ ns. InBox ns js) (sym c.copied.ensures) inside.0)),
+          absurd (c.in_default.ensures (subst (λ ns. InBox ns js) (sym c.copied.ensures.value) inside.0)),
     )
 
 pub place-next-requires : goal.place-next-requires
 place-next-requires g c =
     let axes = g.D.Lengths.numbers in
     let w = c.self.inside in
-    c.default_strides.ensures.as_many ∙ sym (InBox-length (axes w.dim) (axes w.index) (c.self.invariant.within (omega (arith, c.if-self-eq0.false))))
+    c.default_strides.ensures.strides.as_many ∙ sym (InBox-length (axes w.dim) (axes w.index) (c.self.invariant.within (omega (arith, c.if-self-eq0.false))))
 
 -- where a test of two numbers says so, the one is below the other
 below : (a b : ℕ) (r : Bool) → r ≡ (nat_lt a b) → IsTrue r → a < b
@@ -44,9 +44,9 @@ returns g c =
     let w = c.self.inside in
     let js = axes c.args.index.now in
     let some : 0 < w.left = omega (arith, c.if-self-eq0.false) in
-    let inside : InBox (axes w.dim) js = subst (λ ns. InBox ns js) c.copied.ensures c.in-Some.ensures.0 in
-    let rank_is : c.in-Some.rank ≡ rank_in w.order (axes w.dim) js = c.in-Some.ensures.1 ∙ place-strides w.order (axes w.dim) (axes c.default_strides.result) c.default_strides.ensures c.self.invariant.limit js inside in
-    let next_is : c.place-next.result ≡ rank_in w.order (axes w.dim) (axes w.index) = c.place-next.ensures ∙ place-strides w.order (axes w.dim) (axes c.default_strides.result) c.default_strides.ensures c.self.invariant.limit (axes w.index) (c.self.invariant.within some) in
+    let inside : InBox (axes w.dim) js = subst (λ ns. InBox ns js) c.copied.ensures.value c.in-Some.ensures.0 in
+    let rank_is : c.in-Some.rank ≡ rank_in w.order (axes w.dim) js = c.in-Some.ensures.1 ∙ place-strides w.order (axes w.dim) (axes c.default_strides.result) c.default_strides.ensures.strides c.self.invariant.limit js inside in
+    let next_is : c.place-next.result ≡ rank_in w.order (axes w.dim) (axes w.index) = c.place-next.ensures ∙ place-strides w.order (axes w.dim) (axes c.default_strides.result) c.default_strides.ensures.strides c.self.invariant.limit (axes w.index) (c.self.invariant.within some) in
     let P : List (List ℕ) → Type 0 = λ l. Contains l js in
     elim c.if-next-rank.branch [
       | then-next-rank b ↦ (

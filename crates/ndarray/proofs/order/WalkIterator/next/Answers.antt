@@ -7,7 +7,7 @@ pub returns-clause-steps : goal.returns-clause-steps
 returns-clause-steps g c =
     let axes = g.D.Lengths.numbers in
     let old = c.self.inside in
-    let head = ap (λ x. x ∷ c.if-self-gt0.self) (sym c.copied-index.ensures) in
+    let head = ap (λ x. x ∷ c.if-self-gt0.self) (sym c.copied-index.ensures.value) in
     let nonzero : (old.left - 1) + 1 ≡ old.left = omega (arith, c.if-self-eq0.false) in
     elim c.if-self-gt0.branch [
       | then-self-gt0 w ↦ sym c.self.view_is ∙ (walk_rest-next old.order (axes old.dim) (axes old.index) (axes w.advance.new.index) old.left (old.left - 1) c.self.invariant nonzero (λ _. w.advance.ensures.next)

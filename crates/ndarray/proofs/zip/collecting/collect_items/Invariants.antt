@@ -12,3 +12,12 @@ invariant-loop-x g l =
     (box_in l.fn.order (g.P.Shaped.lengths l.fn.p)) l.run (l.fn.f, []) (l.f, l.filling.cells)
     × (l.filling.lengths ≡ g.P.Shaped.lengths l.fn.p)
     × (l.filling.order ≡ l.fn.order)
+
+abbrev pub invariant-loop-y : goal.invariant-loop-y
+invariant-loop-y g l =
+    (goal.iterator-loop-y g).can_next l.run
+    × (goal.iterator-loop-y g).is_finite l.run
+    × Reached (goal.iterator-loop-y g).next_gives (g.P.NdProducer.shows l.fn.p) (GatherTurn g.C.ItemCall.calls)
+    (box_in l.fn.order (g.P.Shaped.lengths l.fn.p)) l.run (l.fn.f, []) (l.f, l.filling.cells)
+    × (l.filling.lengths ≡ g.P.Shaped.lengths l.fn.p)
+    × (l.filling.order ≡ l.fn.order)

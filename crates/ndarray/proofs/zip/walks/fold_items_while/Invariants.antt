@@ -9,3 +9,10 @@ invariant-loop-x g l =
     × (goal.iterator-loop-x g).is_finite l.run
     × Reached (goal.iterator-loop-x g).next_gives (g.P.NdProducer.shows l.fn.p) (GoTurn g.C.FoldCall.calls)
     (box_in l.fn.order (g.P.Shaped.lengths l.fn.p)) l.run (l.fn.f, l.fn.init) (l.f, l.acc)
+
+abbrev pub invariant-loop-y : goal.invariant-loop-y
+invariant-loop-y g l =
+    (goal.iterator-loop-y g).can_next l.run
+    × (goal.iterator-loop-y g).is_finite l.run
+    × Reached (goal.iterator-loop-y g).next_gives (g.P.NdProducer.shows l.fn.p) (GoTurn g.C.FoldCall.calls)
+    (box_in l.fn.order (g.P.Shaped.lengths l.fn.p)) l.run (l.fn.f, l.fn.init) (l.f, l.acc)

@@ -11,7 +11,7 @@ pieces g c =
     let a = c.args.self.now in
     let k = c.args.axis.0 in
     let same = ap (λ v. v.lengths) c.self.view_is in
-    let lengths : g.D.Lengths.numbers c.set_axis.new.self ≡ set a.lengths k c.args.window = c.set_axis.ensures ∙ ap (λ ns. set ns k c.args.window) (c.copied-lengths.ensures ∙ same) in
+    let lengths : g.D.Lengths.numbers c.set_axis.new.self ≡ set a.lengths k c.args.window = c.set_axis.ensures ∙ ap (λ ns. set ns k c.args.window) (c.copied-lengths.ensures.value ∙ same) in
     let steps : g.D.Lengths.numbers c.set_axis-2.new.self ≡ set (replicate (length a.lengths) 1) k c.args.step =
     c.set_axis-2.ensures ∙ ap (λ ns. set ns k c.args.step) (c.ones-steps.ensures ∙ ap (λ ns. replicate (length ns) 1) same) in
     c.pieces.ensures ∙ (ap (λ ws. windows_of a ws (g.D.Lengths.numbers c.set_axis-2.new.self)) lengths ∙ ap (windows_of a (set a.lengths k c.args.window)) steps)

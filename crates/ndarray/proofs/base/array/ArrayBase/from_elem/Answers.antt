@@ -9,7 +9,7 @@ pub returns-clause-cells : goal.returns-clause-cells
 returns-clause-cells g c =
     let P = λ (y : _). (y ≡ c.args.elem) ⊎ g.A.Clone.is_clone c.args.elem y in
     let a = c.from_elements.result in
-    All-to_recursion P a.cells (All-cells P c.into_shape_with_order-dim.result.order a c.from_elements.ensures.whole (All-same P _ _ c.from_elements.ensures.list (All-from_recursion P _ c.in_ok-items.ensures.items)))
+    All-to_recursion P a.cells (All-cells P c.into_shape_with_order-dim.result.order a c.from_elements.ensures.whole (All-same P _ _ c.from_elements.ensures.list (All-from_recursion P _ c.in_ok-items.ensures.clones)))
 
 pub returns-clause-same : goal.returns-clause-same
-returns-clause-same g c = λ same. cells-alike c.args.elem _ c.into_shape_with_order-dim.result.order c.from_elements.result c.from_elements.ensures.whole (c.from_elements.ensures.list ∙ c.in_ok-items.ensures.items_if_clones_equal same)
+returns-clause-same g c = λ same. cells-alike c.args.elem _ c.into_shape_with_order-dim.result.order c.from_elements.result c.from_elements.ensures.whole (c.from_elements.ensures.list ∙ c.in_ok-items.ensures.same same)

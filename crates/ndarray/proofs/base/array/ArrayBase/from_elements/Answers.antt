@@ -8,7 +8,7 @@ use Rattle.ndarray.proofs.Strides.{Reaches-slice, cells_in-slice}
 use Rattle.ndarray.proofs.base.array.ArrayBase.from_elements.Goals as goal
 
 pub invariant_of-result : goal.invariant_of-result
-invariant_of-result g c = Reaches-slice c.args.order (g.D.Lengths.numbers c.args.dim) _ c.default_strides-strides.ensures c.requires.limit (g.S.Data.apart c.new.result) _ c.args.items.items c.new.ensures (omega (arith, c.requires.many))
+invariant_of-result g c = Reaches-slice c.args.order (g.D.Lengths.numbers c.args.dim) _ c.default_strides-strides.ensures.strides c.requires.limit (g.S.Data.apart c.new.result) _ c.args.items.items c.new.ensures (omega (arith, c.requires.many))
 
 pub returns-clause-whole : goal.returns-clause-whole
 returns-clause-whole g c = length-cells_at _ _ _ _ (invariant_of-result g c)
@@ -17,7 +17,7 @@ pub returns-clause-list : goal.returns-clause-list
 returns-clause-list g c =
     let xs = c.args.items.items in
     let many = c.requires.many in
-    cells_in-slice c.args.order (g.D.Lengths.numbers c.args.dim) _ c.default_strides-strides.ensures c.requires.limit _ xs c.new.ensures (omega arith)
+    cells_in-slice c.args.order (g.D.Lengths.numbers c.args.dim) _ c.default_strides-strides.ensures.strides c.requires.limit _ xs c.new.ensures (omega arith)
     ∙ take_all (size (g.D.Lengths.numbers c.args.dim)) xs (omega arith)
 
 pub returns-clause-cells : goal.returns-clause-cells

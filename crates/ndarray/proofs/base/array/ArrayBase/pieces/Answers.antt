@@ -16,7 +16,7 @@ images g c =
     let same = ap (λ v. v.lengths) c.self.view_is in
     let P = λ (xs : _). AreWindowsOf xs ws in
     let distances : AreStepsOf (window_counts ns ws ss) bs ss ds = subst (λ xs. AreStepsOf xs bs ss ds) c.window_positions.ensures.dim c.window_positions.ensures.strides in
-    rw (c.window_positions.ensures.dim, c.copied.ensures)
+    rw (c.window_positions.ensures.dim, c.copied.ensures.value)
     (windows-images (g.S.Data.at c.self.inside.storage) ns a.start bs ws ss ds c.self.invariant (subst P (sym same) c.requires.window) (subst (λ xs. ArePositive xs ss) (sym same) c.requires.steps) distances)
 
 pub invariant_of-result : goal.invariant_of-result

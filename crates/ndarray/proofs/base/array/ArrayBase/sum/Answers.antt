@@ -1,6 +1,19 @@
 use Rattle.std.proofs.Common.{◌≡◌, [], ◌∷◌, ◌∙◌, ap, map}
 use Rattle.ndarray.proofs.RunningSum.{RunningSum-start, RunningSum-in_range, RunningSum-step, RunningSum-end}
+use Rattle.ndarray.proofs.Rearranged.{IsSummable-rearranged, total-rearranged, values-rearranged}
 use Rattle.ndarray.proofs.base.array.ArrayBase.sum.Goals as goal
+
+pub sum_of-requires : goal.sum_of-requires
+sum_of-requires g c =
+    let v = g.A.Valued in
+    let moved = values-rearranged v.meaning v.plus.unit c.args.self.now c.in-Some.cells.now c.as_slice_memory_order.ensures.whole c.in-Some.ensures.cells in
+    IsSummable-rearranged v.plus v.InRange _ _ moved c.requires
+
+pub returns-in-Some : goal.returns-in-Some
+returns-in-Some g c =
+    let v = g.A.Valued in
+    let moved = values-rearranged v.meaning v.plus.unit c.args.self.now c.in-Some.cells.now c.as_slice_memory_order.ensures.whole c.in-Some.ensures.cells in
+    c.sum_of.ensures ∙ total-rearranged v.plus _ _ moved
 
 pub loop-x-init : goal.loop-x-init
 loop-x-init g c =
@@ -12,8 +25,8 @@ loop-x-init g c =
 pub add-sum-requires : goal.add-sum-requires
 add-sum-requires g c =
     let v = g.A.Valued in
-    let x = c.in-Some.x.now in
-    let next : c.loop-x.x-iterator ≡ x ∷ c.next.new.self = c.in-Some.ensures.steps in
+    let x = c.in-Some-x.x.now in
+    let next : c.loop-x.x-iterator ≡ x ∷ c.next.new.self = c.in-Some-x.ensures.steps in
     g.met.A.SumElem.add_in_range c.loop-x.sum x
     (RunningSum-in_range v.plus v.InRange (map v.meaning c.args.self.now.cells) (map v.meaning c.loop-x.x-iterator) (map v.meaning c.next.new.self) (v.meaning x) (v.meaning c.loop-x.sum)
     (ap (map v.meaning) next) c.loop-x.invariant)
@@ -21,8 +34,8 @@ add-sum-requires g c =
 pub loop-x-preserved : goal.loop-x-preserved
 loop-x-preserved g c =
     let v = g.A.Valued in
-    let x = c.in-Some.x.now in
-    let next : c.loop-x.x-iterator ≡ x ∷ c.next.new.self = c.in-Some.ensures.steps in
+    let x = c.in-Some-x.x.now in
+    let next : c.loop-x.x-iterator ≡ x ∷ c.next.new.self = c.in-Some-x.ensures.steps in
     let in_range = RunningSum-in_range v.plus v.InRange (map v.meaning c.args.self.now.cells) (map v.meaning c.loop-x.x-iterator) (map v.meaning c.next.new.self) (v.meaning x) (v.meaning c.loop-x.sum)
     (ap (map v.meaning) next) c.loop-x.invariant in
     RunningSum-step v.plus v.InRange (map v.meaning c.args.self.now.cells) (map v.meaning c.loop-x.x-iterator) (map v.meaning c.next.new.self) (v.meaning x) (v.meaning c.loop-x.sum)

@@ -11,7 +11,7 @@ kept : (g : _) (c : goal.After-cut g) → Rearranges ⊥ (g.D.Lengths.numbers c.
 kept g c =
     let a = c.part.inside.layout in
     let ns = g.D.Lengths.numbers a.dim in
-    let seen = ap (λ v. v.lengths) (c.part.view_is ∙ c.again-part.ensures) in
+    let seen = ap (λ v. v.lengths) (c.part.view_is ∙ c.again-part.ensures.same) in
     let lt : c.args.axis < length ns = omega (arith, ap length seen, c.requires.axis) in
     let le : c.args.from + c.args.len ≤ get_or ns c.args.axis 0 = omega (arith, ap (λ ms. get_or ms c.args.axis 0) seen, c.requires.within) in
     rw (c.cut.ensures.dim, c.cut.ensures.start, c.cut.ensures.strides) (rearranges-cut ⊥ _ ns a.start (g.D.Lengths.numbers a.strides) c.part.invariant c.args.axis lt c.args.from c.args.len 1 (λ i. c.args.from + i) (IsCut-part (get_or ns c.args.axis 0) c.args.from c.args.len le (length-fits ns c.args.axis lt c.part.invariant.limit)))
@@ -21,8 +21,8 @@ invariant_of-part g c = Reaches-rearranged (kept g c) _ (λ x. x) c.part.invaria
 
 pub returns-clause-value : goal.returns-clause-value
 returns-clause-value g c =
-    grid-seen (kept g c) (seen_at c.part.inside.storage) _ _ _ (λ p. refl) c.part.invariant (c.part.view_is ∙ c.again-part.ensures)
-    (c.cut.ensures.dim ∙ (ap (λ v. set v.lengths c.args.axis c.args.len) (c.part.view_is ∙ c.again-part.ensures) ∙ ap (set c.args.self.now.lengths c.args.axis) (omega arith)))
+    grid-seen (kept g c) (seen_at c.part.inside.storage) _ _ _ (λ p. refl) c.part.invariant (c.part.view_is ∙ c.again-part.ensures.same)
+    (c.cut.ensures.dim ∙ (ap (λ v. set v.lengths c.args.axis c.args.len) (c.part.view_is ∙ c.again-part.ensures.same) ∙ ap (set c.args.self.now.lengths c.args.axis) (omega arith)))
 
 pub returns-clause-whole : goal.returns-clause-whole
 returns-clause-whole g c = length-cells_at _ _ _ _ (invariant_of-part g c)

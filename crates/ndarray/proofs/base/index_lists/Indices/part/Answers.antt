@@ -18,10 +18,10 @@ module _ (g : _) (c : goal.After-set_axis-2 g) where
       let k = c.args.axis in
       let ss = g.D.Lengths.numbers c.self.inside.start in
       c.set_axis.ensures
-      ∙ (ap (λ x. set (g.D.Lengths.numbers c.copied-start.result) k (x + c.args.from)) c.axis.ensures ∙ ap (λ ns. set ns k (get_or ns k 0 + c.args.from)) c.copied-start.ensures)
+      ∙ (ap (λ x. set (g.D.Lengths.numbers c.copied-start.result) k (x + c.args.from)) c.axis.ensures ∙ ap (λ ns. set ns k (get_or ns k 0 + c.args.from)) c.copied-start.ensures.value)
 
   dim-is : g.D.Lengths.numbers c.set_axis-2.new.self ≡ set (g.D.Lengths.numbers c.self.inside.dim) c.args.axis c.args.len
-  dim-is = c.set_axis-2.ensures ∙ ap (λ ns. set ns c.args.axis c.args.len) c.copied-dim.ensures
+  dim-is = c.set_axis-2.ensures ∙ ap (λ ns. set ns c.args.axis c.args.len) c.copied-dim.ensures.value
 
 pub invariant_of-result : goal.invariant_of-result
 invariant_of-result g c = rw (start-is g c, dim-is g c) (StartsAt-part _ _ c.self.invariant c.args.axis (axis-lt g c) c.args.from c.args.len (fits g c))

@@ -16,7 +16,7 @@ pub loop-k-init : goal.loop-k-init
 loop-k-init g c =
     let ns : List ℕ = g.D.Lengths.numbers c.args.self.now.dim in
     let bs : List ℕ = g.D.Lengths.numbers c.args.self.now.strides in
-    let e : g.D.Lengths.numbers c.copied-dim.result ≡ ns = c.copied-dim.ensures in
+    let e : g.D.Lengths.numbers c.copied-dim.result ≡ ns = c.copied-dim.ensures.value in
     let nested : AreNested ns bs = c.requires.nested (omega arith) in
     let ln = ap length e in
     let lz = ap length c.zeros-index.ensures ∙ length-replicate c.ndim.result 0 in

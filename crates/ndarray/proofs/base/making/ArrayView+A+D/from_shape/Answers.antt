@@ -7,14 +7,14 @@ use Rattle.ndarray.proofs.Verdicts.{from_yes}
 use Rattle.ndarray.proofs.base.making.ArrayView+A+D.from_shape.Goals as goal
 
 pub invariant_of-result : goal.invariant_of-result
-invariant_of-result g c = Reaches-slice _ (g.D.Lengths.numbers c.into_shape_with_order-dim.result.dim) _ c.default_strides-strides.ensures (from_yes _ c.if-not-size_ok.ensures) ⊥ _ c.args.slice.now c.new.ensures (omega arith)
+invariant_of-result g c = Reaches-slice _ (g.D.Lengths.numbers c.into_shape_with_order-dim.result.dim) _ c.default_strides-strides.ensures.strides (from_yes _ c.if-not-size_ok.ensures) ⊥ _ c.args.slice.now c.new.ensures (omega arith)
 
 pub returns-clause-whole : goal.returns-clause-whole
 returns-clause-whole g c = length-cells_at _ _ _ _ (invariant_of-result g c)
 
 pub returns-clause-list : goal.returns-clause-list
 returns-clause-list g c =
-    rw (← c.into_shape_with_order-dim.ensures.order) (cells_in-slice _ (g.D.Lengths.numbers c.into_shape_with_order-dim.result.dim) _ c.default_strides-strides.ensures (from_yes _ c.if-not-size_ok.ensures) _ c.args.slice.now c.new.ensures (omega arith))
+    rw (← c.into_shape_with_order-dim.ensures.order) (cells_in-slice _ (g.D.Lengths.numbers c.into_shape_with_order-dim.result.dim) _ c.default_strides-strides.ensures.strides (from_yes _ c.if-not-size_ok.ensures) _ c.args.slice.now c.new.ensures (omega arith))
 
 pub returns-clause-cells : goal.returns-clause-cells
 returns-clause-cells g c =

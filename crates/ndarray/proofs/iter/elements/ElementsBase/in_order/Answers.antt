@@ -5,15 +5,13 @@ use Rattle.ndarray.proofs.Cells.{HasCells-box_in, cells_in-HasInOrder, length-al
 use Rattle.ndarray.proofs.Orders.{box_in-within, length-box_in}
 use Rattle.ndarray.proofs.Sizes.{size-le}
 use Rattle.ndarray.proofs.iter.elements.ElementsBase.in_order.Goals as goal
+use Rattle.ndarray.proofs.iter.elements.ElementsBase.in_order.Goals.{After-new-walk, After-no_cells}
 
-walked : (g : _) (c : goal.After-new-walk g) → c.new-walk.result ≡ box_in c.args.order c.args.v.lengths
+walked : (g : _) (c : After-no_cells g) → c.new-walk.result ≡ box_in c.args.order c.args.v.lengths
 walked g c = c.new-walk.ensures.list ∙ ap (box_in c.args.order) c.raw_dim.ensures.lengths
 
-pub invariant_of-result : goal.invariant_of-result
-invariant_of-result g c = subst (HasCells c.args.v) (sym (walked g c)) (HasCells-box_in c.args.order c.args.v c.raw_dim.ensures.whole)
-
 pub returns-clause-cells : goal.returns-clause-cells
-returns-clause-cells g c = ap (filter_map (cell c.args.v)) (walked g c)
+returns-clause-cells g c = rw c.no_cells.ensures (ap (filter_map (cell c.args.v)) (walked g c))
 
 pub returns-clause-described : goal.returns-clause-described
 returns-clause-described g c = subst (HasInOrder c.args.order c.args.v) (sym (returns-clause-cells g c)) (cells_in-HasInOrder c.args.order c.args.v c.raw_dim.ensures.whole)
@@ -27,3 +25,14 @@ returns-clause-fits g c =
     let m = c.raw_dim.ensures.limit in
     let s = size-le c.args.v.lengths in
     omega arith
+
+pub invariant_of-result : goal.invariant_of-result
+invariant_of-result g c =
+    let o = c.args.order in
+    let w = walked g c in
+    let n = length-box_in o c.args.v.lengths in
+    let m = c.raw_dim.ensures.limit in
+    let s = size-le c.args.v.lengths in
+    let e = ap length w in
+    let z = ap length c.no_cells.ensures in
+    (subst (HasCells c.args.v) (sym w) (HasCells-box_in o c.args.v c.raw_dim.ensures.whole), omega arith)

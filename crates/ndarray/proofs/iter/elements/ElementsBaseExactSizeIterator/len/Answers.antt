@@ -1,6 +1,16 @@
-use Rattle.std.proofs.Common.{sym, ap, ◌∙◌, length}
+use Rattle.std.proofs.Common.{ap, length, arith, length-append}
+use Rattle.std.specs.Prelude.{filter_map}
+use Rattle.ndarray.specs.Grid.{cell}
 use Rattle.ndarray.proofs.Cells.{length-along}
 use Rattle.ndarray.proofs.iter.elements.ElementsBaseExactSizeIterator.len.Goals as goal
 
+pub overflow_add-result : goal.overflow_add-result
+overflow_add-result g c = let b = c.self.invariant.1 in omega arith
+
 pub returns-clause-value : goal.returns-clause-value
-returns-clause-value g c = c.len.ensures ∙ (sym (length-along _ c.self.invariant.whole _ c.self.invariant.within) ∙ ap length c.self.view_is)
+returns-clause-value g c =
+    let w = c.self.inside in
+    let f = length-along w.view c.self.invariant.0.whole w.walk c.self.invariant.0.within in
+    let a = length-append w.row (filter_map (cell w.view) w.walk) in
+    let v = ap length c.self.view_is in
+    omega arith

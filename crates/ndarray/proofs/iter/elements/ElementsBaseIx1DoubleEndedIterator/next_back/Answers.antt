@@ -1,9 +1,12 @@
-use Rattle.std.proofs.Common.{sym, ap, ◌∙◌, rules, length, length-append}
+use Rattle.std.proofs.Common.{rules, sym, ap, ◌∙◌, length, length-append, append_assoc, ◌++◌, ◌∷◌, []}
+use Rattle.std.specs.Prelude.{filter_map}
+use Rattle.ndarray.specs.Grid.{cell}
 use Rattle.ndarray.proofs.Cells.{along-last}
 use Rattle.ndarray.proofs.iter.elements.ElementsBaseIx1DoubleEndedIterator.next_back.Goals as goal
 
-pub returns-clause-steps : goal.returns-clause-steps
-returns-clause-steps g c = sym c.self.view_is ∙ along-last c.self.inside.view c.self.inside.walk c.next_back.new.self _ _ c.in-Some.ensures.steps c.item.ensures
+pub returns-in-Some-clause-steps : goal.returns-in-Some-clause-steps
+returns-in-Some-clause-steps g c =
+    sym c.self.view_is ∙ (ap (λ l. c.self.inside.row ++ l) (along-last c.self.inside.view c.self.inside.walk c.next_back.new.self _ _ c.in-Some.ensures.steps c.item.ensures) ∙ sym (append_assoc c.self.inside.row (filter_map (cell c.self.inside.view) c.next_back.new.self) (c.item.result.now ∷ [])))
 
-pub returns-clause-goes : goal.returns-clause-goes
-returns-clause-goes g c = let e = ap length (returns-clause-steps g c) in search (rules, length-append)
+pub returns-in-Some-clause-goes : goal.returns-in-Some-clause-goes
+returns-in-Some-clause-goes g c = let e = ap length (returns-in-Some-clause-steps g c) in search (rules, length-append)

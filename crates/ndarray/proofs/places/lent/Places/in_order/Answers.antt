@@ -9,7 +9,7 @@ use Rattle.ndarray.proofs.Reached.{length-cells_at}
 use Rattle.ndarray.proofs.places.lent.Places.in_order.Goals as goal
 
 walked : (g : _) (c : goal.After-new-walk g) → c.new-walk.result ≡ box_in c.args.order (g.D.Lengths.numbers c.view.inside.layout.dim)
-walked g c = c.new-walk.ensures.list ∙ ap (box_in c.args.order) c.copied.ensures
+walked g c = c.new-walk.ensures.list ∙ ap (box_in c.args.order) c.copied.ensures.value
 
 pub invariant_of-result : goal.invariant_of-result
 invariant_of-result g c =

@@ -4,7 +4,7 @@ use Rattle.ndarray.proofs.subviews.axis_chunks.AxisChunksIter.take_first.Goals a
 
 pub returns-clause-first : goal.returns-clause-first
 returns-clause-first g c =
-    rw (c.again.ensures, c.take_first.ensures.first) (sym (take-map _ c.args.count c.self.inside.walk) ∙ ap (take c.args.count) c.self.view_is)
+    rw (c.again.ensures.same, c.take_first.ensures.first) (sym (take-map _ c.args.count c.self.inside.walk) ∙ ap (take c.args.count) c.self.view_is)
 
 pub returns-clause-rest : goal.returns-clause-rest
 returns-clause-rest g c =

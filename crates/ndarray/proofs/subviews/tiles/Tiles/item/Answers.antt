@@ -13,4 +13,4 @@ returns g c =
     let t = c.self.inside in
     let p = g.P.Lengths.numbers c.args.position.now in
     let b : InBox (g.P.Lengths.numbers t.positions.dim) p = subst (λ ns. InBox ns p) (sym (ap (λ v. v.lengths) c.self.view_is)) c.requires in
-    rw (c.copied.ensures, c.copied-2.ensures, c.place.ensures) (ap (λ v. cell v p) (sym c.self.view_is) ∙ arranged-cell (g.P.Lengths.numbers t.positions.dim) _ p b)
+    rw (c.copied.ensures.value, c.copied-2.ensures.value, c.place.ensures) (ap (λ v. cell v p) (sym c.self.view_is) ∙ arranged-cell (g.P.Lengths.numbers t.positions.dim) _ p b)

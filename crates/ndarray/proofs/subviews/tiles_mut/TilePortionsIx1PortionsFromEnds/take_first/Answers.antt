@@ -4,7 +4,7 @@ use Rattle.ndarray.proofs.subviews.tiles_mut.TilePortionsIx1PortionsFromEnds.tak
 
 pub returns-clause-first : goal.returns-clause-first
 returns-clause-first g c =
-    rw (c.copied.ensures.start, c.copied.ensures.strides, c.copied-2.ensures, c.copied-3.ensures, c.take_first.ensures.first)
+    rw (c.copied.ensures.start, c.copied.ensures.strides, c.copied-2.ensures.value, c.copied-3.ensures.value, c.take_first.ensures.first)
     (sym (take-map _ c.args.count _) ∙ ap (take c.args.count) c.self.view_is)
 
 pub returns-clause-rest : goal.returns-clause-rest

@@ -13,7 +13,7 @@ use Rattle.ndarray.proofs.SomePieces.{pieces-share_in, tiles-in}
 use Rattle.ndarray.proofs.subviews.tiles_mut.TilesMut.run.Goals as goal
 
 walked : (g : _) (c : goal.After-new-walk g) → c.new-walk.result ≡ box_in c.args.order (g.P.Lengths.numbers c.self.inside.positions.dim)
-walked g c = c.new-walk.ensures.list ∙ ap (box_in c.args.order) c.copied.ensures
+walked g c = c.new-walk.ensures.list ∙ ap (box_in c.args.order) c.copied.ensures.value
 
 pub invariant_of-result : goal.invariant_of-result
 invariant_of-result g c =

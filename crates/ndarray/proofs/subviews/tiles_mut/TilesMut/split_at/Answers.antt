@@ -69,24 +69,24 @@ module _ (g : _) (c : After-split-here g) where
 
 pub invariant_of-result : goal.invariant_of-result
 invariant_of-result g c =
-    rw (c.split-here.ensures.first, c.copied.ensures, c.copied-2.ensures)
+    rw (c.split-here.ensures.first, c.copied.ensures.value, c.copied-2.ensures.value)
     (record { as_many = (here-kept g c).as_many; limit = (here-kept g c).limit; shares = Shares-kept c.self.inside.region.slots (here g c) (rest g c) (both g c) })
 
 pub invariant_of-result-2 : goal.invariant_of-result-2
 invariant_of-result-2 g c =
-    rw (c.split-here.ensures.second, c.copied.ensures, c.copied-2.ensures)
+    rw (c.split-here.ensures.second, c.copied.ensures.value, c.copied-2.ensures.value)
     (record { as_many = (rest-kept g c).as_many; limit = (rest-kept g c).limit; shares = Shares-others c.self.inside.region.slots (here g c) (rest g c) (both g c) })
 
 pub returns-clause-first : goal.returns-clause-first
 returns-clause-first g c =
-    rw (c.split-here.ensures.first, c.copied.ensures, c.copied-2.ensures)
+    rw (c.split-here.ensures.first, c.copied.ensures.value, c.copied-2.ensures.value)
     (tiles-same _ _ (ns g c) (bs g c) (held_at c.self.inside.region.slots) _ _ (grids-kept c.self.inside.region.slots (here g c) (rest g c) (both g c))
     ∙ some-seen (here-kept g c) (held_at c.self.inside.region.slots) (ns g c) (bs g c) c.args.self _ c.self.view_is
     (c.cut.ensures.dim ∙ (ap (λ ms. set ms c.args.axis.0 c.args.index) c.copied-low.ensures.dim ∙ (ap (λ v. set v.lengths c.args.axis.0 c.args.index) c.self.view_is ∙ ap (set c.args.self.lengths c.args.axis.0) (omega arith)))))
 
 pub returns-clause-second : goal.returns-clause-second
 returns-clause-second g c =
-    rw (c.split-here.ensures.second, c.copied.ensures, c.copied-2.ensures)
+    rw (c.split-here.ensures.second, c.copied.ensures.value, c.copied-2.ensures.value)
     (tiles-same _ _ (ns g c) (bs g c) (held_at c.self.inside.region.slots) _ _ (grids-others c.self.inside.region.slots (here g c) (rest g c) (both g c))
     ∙ some-seen (rest-kept g c) (held_at c.self.inside.region.slots) (ns g c) (bs g c) c.args.self _ c.self.view_is
     (c.cut-2.ensures.dim ∙ (ap (λ n. set (ps g c) c.args.axis.0 (n - c.args.index)) c.axis-len.ensures ∙ ap (λ v. set v.lengths c.args.axis.0 (get_or v.lengths c.args.axis.0 0 - c.args.index)) c.self.view_is)))

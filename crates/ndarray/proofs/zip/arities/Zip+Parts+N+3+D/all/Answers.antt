@@ -1,11 +1,10 @@
 use Rattle.ndarray.proofs.Regrouped.{runs_via, may_via}
-use Rattle.ndarray.specs.declared.base.shape.Order.TheVariants.{RowMajor}
 use Rattle.ndarray.proofs.zip.arities.Zip+Parts+N+3+D.all.Goals as goal
 
 pub all_items-requires : goal.all_items-requires
-all_items-requires g c = rw c.self.view_is record { callable = may_via _ _ (λ p. p.0) (λ p i q t. t) _ _ (λ p i h. h) _ _ (c.requires.callable RowMajor) }
+all_items-requires g c = rw c.self.view_is record { callable = may_via _ _ (λ p. p.0) (λ p i q t. t) _ _ (λ p i h. h) _ _ (c.requires.callable c.preferred_order-order.result) }
 
 pub returns : goal.returns
 returns g c =
     let ran = rw c.self.view_is at c.all_items.ensures.ran in
-    record { ran = (RowMajor, runs_via _ _ (λ p. p.0) (λ p i q t. t) _ _ _ _ (λ p i s. (s.0, s.1, (s.2.0, (s.2.1.0.0, s.2.1.1)))) (λ p h. h) _ _ ran) }
+    record { ran = (c.preferred_order-order.result, runs_via _ _ (λ p. p.0) (λ p i q t. t) _ _ _ _ (λ p i s. (s.0, s.1, (s.2.0, (s.2.1.0.0, s.2.1.1)))) (λ p h. h) _ _ ran) }

@@ -1,11 +1,10 @@
 use Rattle.ndarray.proofs.Regrouped.{folds_via, may_via}
-use Rattle.ndarray.specs.declared.base.shape.Order.TheVariants.{RowMajor}
 use Rattle.ndarray.proofs.zip.arities.Zip+Parts+N+5+D.for_each.Goals as goal
 
 pub visit_items-requires : goal.visit_items-requires
-visit_items-requires g c = rw c.self.view_is record { callable = may_via _ _ (λ p. p.0) (λ p i q t. t) _ _ (λ p i h. h) _ _ (c.requires.callable RowMajor) }
+visit_items-requires g c = rw c.self.view_is record { callable = may_via _ _ (λ p. p.0) (λ p i q t. t) _ _ (λ p i h. h) _ _ (c.requires.callable c.preferred_order-order.result) }
 
 pub returns : goal.returns
 returns g c =
     let (last, f) = rw c.self.view_is at c.visit_items.ensures.ran in
-    record { ran = (RowMajor, (last.0, folds_via _ _ (λ p. p.0) (λ p i q t. t) _ _ _ f)) }
+    record { ran = (c.preferred_order-order.result, (last.0, folds_via _ _ (λ p. p.0) (λ p i q t. t) _ _ _ f)) }

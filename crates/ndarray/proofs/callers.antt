@@ -1,0 +1,2 @@
+-- Lemmas for those who prove functions over this library: docs/CALLING.md says which is for which goal.
+pub mod Collecting

@@ -1,0 +1,20 @@
+-- Inside `base`: places that lie a step apart, modulo 2 ^ 64.
+use Rattle.std.specs.Prelude.{◌≡◌, ℕ, zero, suc, ◌+◌, ◌%◌, ◌^◌, ◌<◌, List, [], ◌∷◌, ◌++◌, Option, IsTrue, All, length, filter_map}
+use Rattle.std.specs.Option.{is_some}
+use Rattle.ndarray.specs.Grid.{Grid, HasCells, cell}
+
+-- n places from p on, each a step s after the one before
+abbrev pub places_from : ℕ → ℕ → ℕ → List ℕ
+places_from p s zero = []
+places_from p s (suc n) = p ∷ places_from ((p + s) % 2 ^ 64) s n
+
+-- each of the places has an element
+abbrev pub HaveElements : {A : Type 0} → (ℕ → Option A) → List ℕ → Type 0
+HaveElements at ps = All (λ p. IsTrue (is_some (at p))) ps
+
+-- of the cells along ys, those of `row` come first, and then those along zs
+pub record SplitsOffRow {A : Type 0} (g : Grid A) (ys : List (List ℕ)) (row : List A) (zs : List (List ℕ)) : Type 0 where
+  pub rest : HasCells g zs
+  pub some : 0 < length row
+  pub split : filter_map (cell g) ys ≡ row ++ filter_map (cell g) zs
+  pub count : length row + length zs ≡ length ys

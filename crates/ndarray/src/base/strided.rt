@@ -1,0 +1,108 @@
+//! Inside `base`: elements that lie a step apart, one after another.
+
+ghost use Rattle.std.specs.Prelude.{◌≡◌, [], ◌<◌, All, length, filter_map};
+ghost use Rattle.std.specs.Iterator.{YieldsFirstRef, YieldsLastRef};
+ghost use Rattle.ndarray.specs.Grid.{cell};
+ghost use Rattle.ndarray.specs.Index.{InBox};
+ghost use Rattle.ndarray.specs.order.Steps.{row_from};
+
+use crate::base::array::ArrayView;
+use crate::base::dimension::Lengths;
+use crate::base::storage::ViewRepr;
+use std::marker::Model;
+
+/// The elements of a reading view's storage that are still to come: `left` of them, from a place on, each a
+/// step after the one before.
+#[derive(Drop)]
+pub struct Strided<'a, A> {
+    storage: ViewRepr<'a, A>,
+    place: usize,
+    step: usize,
+    left: usize,
+}
+
+impl<'a, A> Model for Strided<'a, A> {
+    ghost use Rattle.std.specs.Prelude.{List, filter_map};
+    ghost use Rattle.ndarray.specs.base.Storage.{seen_at};
+    ghost use Rattle.ndarray.specs.base.Strided.{places_from, HaveElements};
+
+    ghost Value = { List A };
+
+    ghost view = { λ s. filter_map (seen_at s.storage) (places_from s.place s.step s.left) };
+
+    ghost invariant = { λ s. HaveElements (seen_at s.storage) (places_from s.place s.step s.left) };
+}
+
+impl<'a, A> Strided<'a, A> {
+    /// How many are still to come.
+    pub(crate) fn len(&self) -> usize
+        ensures { result ≡ length self.now }
+    {
+        self.left
+    }
+
+    /// The next element.
+    pub(crate) fn next(&mut self) -> Option<&'a A>
+        ensures { YieldsFirstRef (λ rest. rest) self.old result self.new }
+    {
+        if self.left == 0 {
+            return None;
+        }
+        let place = self.place;
+        self.left -= 1;
+        self.place = place.wrapping_add(self.step);
+        Some(self.storage.get(place))
+    }
+
+    /// The last element.
+    pub(crate) fn next_back(&mut self) -> Option<&'a A>
+        ensures { YieldsLastRef (λ rest. rest) self.old result self.new }
+    {
+        if self.left == 0 {
+            return None;
+        }
+        self.left -= 1;
+        let place = self.place.wrapping_add(self.left.wrapping_mul(self.step));
+        Some(self.storage.get(place))
+    }
+
+    /// The same once more.
+    pub(crate) fn again(&self) -> Self
+        ensures { result ≡ self.now }
+    {
+        Strided {
+            storage: self.storage,
+            place: self.place,
+            step: self.step,
+            left: self.left,
+        }
+    }
+}
+
+impl<'a, A, D: Lengths> ArrayView<'a, A, D> {
+    /// No cells.
+    pub(crate) fn no_cells(&self) -> Strided<'a, A>
+        ensures { result ≡ [] }
+    {
+        Strided {
+            storage: self.storage,
+            place: 0,
+            step: 0,
+            left: 0,
+        }
+    }
+
+    /// The cells from an index list of the box on along an axis. Without axes there is one.
+    pub(crate) fn cells_along(&self, index: &D, axis: usize, count: usize) -> Strided<'a, A>
+        requires some { 0 < count }
+        requires within { All (InBox self.now.lengths) (row_from (D.numbers index.now) axis count) }
+        ensures { result ≡ filter_map (cell self.now) (row_from (D.numbers index.now) axis count) }
+    {
+        Strided {
+            storage: self.storage,
+            place: self.layout.place(index),
+            step: self.layout.stride(axis),
+            left: count,
+        }
+    }
+}

@@ -1,0 +1,8 @@
+-- What the functions of src/callers compute.
+use Rattle.std.specs.Prelude.{ℕ, ◌/◌, List}
+use Rattle.ndarray.specs.Grid.{Grid, cell}
+use Rattle.ndarray_bench.specs.PairedProducts.{number}
+
+-- half of the cell at an index list
+abbrev pub half_at : Grid ℕ → List ℕ → ℕ
+half_at g is = number (cell g is) / 2
