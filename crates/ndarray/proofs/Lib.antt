@@ -46,6 +46,7 @@ pub mod Reached
 pub mod Readings
 pub mod Rearranged
 pub mod Refilled
+pub mod Refined
 pub mod Regrouped
 pub mod Rows
 pub mod RunningSum

@@ -1,6 +1,6 @@
 //! What arrays keep their elements in.
 
-ghost use Rattle.std.specs.Prelude.{◌≡◌, ◌≢◌, ◌↔◌, ◌<◌, ◌+◌, ℕ, length, slice_get, Some, Option, IsTrue, IsOk, IfOk, IfErr, ⊤};
+ghost use Rattle.std.specs.Prelude.{◌≡◌, ◌≢◌, ◌↔◌, ◌<◌, ◌+◌, ℕ, List, length, slice_get, Some, Option, IsTrue, IsOk, IfOk, IfErr, ⊤};
 ghost use Rattle.std.specs.Option.{is_some};
 ghost use Rattle.std.specs.Borrow.{sem};
 ghost use Rattle.ndarray.specs.Grid.{IsGrid};
@@ -62,6 +62,19 @@ pub trait DataMut: Data {
         ensures same { result ≡ array.old }
         ensures whole { IsGrid result };
 
+    /// Has a writer write all cells of an array as one slice, where they are one in row order; else the
+    /// writer comes back.
+    fn write_cells<D: Lengths, W: CellWriter<Self::Elem>>(
+        array: &mut ArrayBase<Self, D>,
+        writer: W,
+    ) -> Result<(), W>
+        requires { W.can_write writer (length array.old.cells) }
+        ensures done { IfOk result (λ _. (array.new.lengths ≡ array.old.lengths) × W.writes writer array.new.cells × IsGrid array.new) }
+        ensures back { IfErr result (λ w. (w ≡ writer) × (array.new ≡ array.old)) }
+    {
+        Err(writer)
+    }
+
     // What is written at a place is the element there.
     ghost written_here: { (s : Self) (k : ℕ) (w : Self.Elem) → IsTrue (is_some (Self.at s k)) → Self.at (with_element s k w) k ≡ Some w };
 
@@ -70,6 +83,20 @@ pub trait DataMut: Data {
 
     // No two index lists reach one element.
     ghost is_apart: { (s : Self) → Self.apart s };
+}
+
+/// What writes all elements of a slice.
+pub trait CellWriter<A>: Drop {
+    // Whether it may write to a slice of so many elements.
+    ghost can_write: { Self → ℕ → Type 0 };
+
+    // Whether these may be the elements that it leaves.
+    ghost writes: { Self → List A → Type 0 };
+
+    /// Writes them.
+    fn write(self, slice: &mut [A])
+        requires { can_write self (length slice.old) }
+        ensures { writes self slice.new };
 }
 
 /// What owns its elements.
@@ -195,6 +222,13 @@ impl<A: Drop> DataMut for OwnedRepr<A> {
 
     fn lend<D: Lengths>(array: &mut ArrayBase<Self, D>) -> ArrayViewMut<'_, A, D> {
         array.parts_mut().into_view()
+    }
+
+    fn write_cells<D: Lengths, W: CellWriter<A>>(
+        array: &mut ArrayBase<Self, D>,
+        writer: W,
+    ) -> Result<(), W> {
+        array.write_slice(writer)
     }
 
     ghost written_here = { λ s k w h. slice_set-here s.items.items k w h };

@@ -1,8 +1,10 @@
 //! Views to write in.
 
-ghost use Rattle.std.specs.Prelude.{◌≡◌, [], ◌∷◌, length, slice_get, IsOk, IfOk, IfErr, ⊤};
+ghost use Rattle.std.specs.Prelude.{◌≡◌, ◌≤◌, ◌+◌, take, drop, [], ◌∷◌, length, slice_get, IsOk, IfOk, IfErr, ⊤};
 ghost use Rattle.std.specs.Borrow.{sem};
 ghost use Rattle.ndarray.specs.Grid.{IsGrid, line};
+ghost use Rattle.ndarray.specs.Orders.{cells_in};
+ghost use Rattle.ndarray.specs.Views.{transposed};
 ghost use Rattle.ndarray.specs.base.Places.{grid_at, places_at, Reaches};
 ghost use Rattle.ndarray.specs.base.Parts.{follows_places};
 
@@ -10,7 +12,8 @@ use crate::base::array::{Array, ArrayBase, ArrayViewMut};
 use crate::base::dimension::Lengths;
 use crate::base::layout::Layout;
 use crate::base::region::RegionRepr;
-use crate::base::storage::DataMut;
+use crate::base::shape::Order;
+use crate::base::storage::{CellWriter, DataMut};
 
 /// A view to write in before it is one: the elements, and how the cells lie among them.
 #[derive(Drop)]
@@ -33,6 +36,64 @@ impl<A: Drop, D: Lengths> Array<A, D> {
             layout,
             slice: self.storage.items.as_mut_slice(),
         }
+    }
+
+    /// Has a writer write all cells as one slice, where they lie side by side in row order; else the writer
+    /// comes back.
+    pub(crate) fn write_slice<W: CellWriter<A>>(&mut self, writer: W) -> Result<(), W>
+        requires { W.can_write writer (length self.old.cells) }
+        ensures done { IfOk result (λ _. (self.new.lengths ≡ self.old.lengths) × W.writes writer self.new.cells × IsGrid self.new) }
+        ensures back { IfErr result (λ w. (w ≡ writer) × (self.new ≡ self.old)) }
+    {
+        let len = self.layout.dim.size();
+        if len == 0 || !self.layout.is_row_major() {
+            return Err(writer);
+        }
+        let items = self.storage.items.as_mut_slice();
+        write_part(items, self.layout.start, len, writer);
+        Ok(())
+    }
+}
+
+/// Has a writer write the `len` elements from `from` on.
+fn write_part<A, W: CellWriter<A>>(slice: &mut [A], from: usize, len: usize, writer: W)
+    requires within { from + len ≤ length slice.old }
+    requires can { W.can_write writer len }
+    ensures { W.writes writer (take len (drop from slice.new)) }
+{
+    let end = from + len;
+    writer.write(&mut slice[from..end]);
+}
+
+impl<S: DataMut, D: Lengths> ArrayBase<S, D> {
+    /// Has a writer write all cells in an order as one slice, where they are one; else the writer comes back.
+    pub(crate) fn write_cells_in<W: CellWriter<S::Elem>>(
+        &mut self,
+        order: Order,
+        writer: W,
+    ) -> Result<(), W>
+        requires whole { IsGrid self.old }
+        requires can { W.can_write writer (length self.old.cells) }
+        ensures done { IfOk result (λ _. (self.new.lengths ≡ self.old.lengths) × W.writes writer (cells_in order self.new) × IsGrid self.new) }
+        ensures back { IfErr result (λ w. (w ≡ writer) × (self.new ≡ self.old)) }
+    {
+        match order {
+            Order::RowMajor => S::write_cells(self, writer),
+            Order::ColumnMajor => {
+                self.reverse_axes();
+                let written = S::write_cells(self, writer);
+                self.reverse_axes();
+                written
+            }
+        }
+    }
+
+    /// Puts the axes from the last to the first.
+    fn reverse_axes(&mut self)
+        ensures value { self.new ≡ transposed self.old }
+        ensures whole { IsGrid self.new }
+    {
+        self.layout = self.layout.reversed_axes();
     }
 }
 

@@ -11,7 +11,7 @@ use crate::base::array::{Array, ArrayBase};
 use crate::base::dimension::Lengths;
 use crate::base::storage::DataMut;
 use crate::order::Order;
-use crate::zip::assigning::assign_items;
+use crate::zip::assigning::{assign_items, assigning_order};
 use crate::zip::calls::{On1, On2, On3, On4, On5, On6};
 use crate::zip::collecting::collect_items;
 use crate::zip::fold_while::FoldWhile;
@@ -131,7 +131,8 @@ impl<N: NdProducer<Dim = D>, D: Lengths> Zip<Parts<N, 1>, D> {
             dimension: _,
         } = self;
         let Parts { nested } = parts;
-        assign_items(nested, Order::RowMajor, into, On1(f))
+        let order = assigning_order(&nested, into);
+        assign_items(nested, order, into, On1(f))
     }
 }
 
@@ -246,7 +247,8 @@ impl<X, Y, N: NdProducer<Item = (X, Y), Dim = D>, D: Lengths> Zip<Parts<N, 2>, D
             dimension: _,
         } = self;
         let Parts { nested } = parts;
-        assign_items(nested, Order::RowMajor, into, On2(f))
+        let order = assigning_order(&nested, into);
+        assign_items(nested, order, into, On2(f))
     }
 }
 
@@ -361,7 +363,8 @@ impl<X, Y, Z, N: NdProducer<Item = ((X, Y), Z), Dim = D>, D: Lengths> Zip<Parts<
             dimension: _,
         } = self;
         let Parts { nested } = parts;
-        assign_items(nested, Order::RowMajor, into, On3(f))
+        let order = assigning_order(&nested, into);
+        assign_items(nested, order, into, On3(f))
     }
 }
 
@@ -480,7 +483,8 @@ impl<X, Y, Z, U, N: NdProducer<Item = (((X, Y), Z), U), Dim = D>, D: Lengths> Zi
             dimension: _,
         } = self;
         let Parts { nested } = parts;
-        assign_items(nested, Order::RowMajor, into, On4(f))
+        let order = assigning_order(&nested, into);
+        assign_items(nested, order, into, On4(f))
     }
 }
 
@@ -602,7 +606,8 @@ impl<X, Y, Z, U, V, N: NdProducer<Item = ((((X, Y), Z), U), V), Dim = D>, D: Len
             dimension: _,
         } = self;
         let Parts { nested } = parts;
-        assign_items(nested, Order::RowMajor, into, On5(f))
+        let order = assigning_order(&nested, into);
+        assign_items(nested, order, into, On5(f))
     }
 }
 

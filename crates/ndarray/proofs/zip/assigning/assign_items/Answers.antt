@@ -1,32 +1,44 @@
-use Rattle.std.proofs.Common.{rules, ◌≡◌, ◌∙◌, ap, sym, refl}
-use Rattle.ndarray.specs.Orders.{box_in}
-use Rattle.ndarray.proofs.Assigned.{Gives-own, Assigned-start, Assigned-asks, Assigned-within, Assigned-next, Assigned-end}
-use Rattle.ndarray.proofs.Producers.{Gives-both}
+use Rattle.std.proofs.Common.{◌∙◌, ap, sym, subst, refl}
+use Rattle.ndarray.specs.Orders.{box_in, cells_in}
+use Rattle.ndarray.specs.Runs.{MayGather, Collects}
+use Rattle.ndarray.proofs.Cells.{cells_in-HasInOrder}
+use Rattle.ndarray.proofs.Refined.{Collects-refined, MayGather-refined}
 use Rattle.ndarray.proofs.zip.assigning.assign_items.Goals as goal
 
-pub loop-x-init : goal.loop-x-init
-loop-x-init g c =
-    let walked : c.new.result ≡ box_in c.args.order (g.P.Shaped.lengths c.args.p) = c.new.ensures.list ∙ ap (box_in c.args.order) (c.raw_dim.ensures.lengths ∙ sym c.requires.same) in (
-      search rules,
-      search rules,
-      Assigned-start _ _ _ _ _ _ (Gives-both _ _ _ _ _ _ c.zip-run.result c.zip-run.ensures.first c.zip-run.ensures.second refl c.run.ensures.gives (Gives-own g.P.Dim.Lengths.numbers (λ rest. rest) walked)) (sym c.requires.same) c.raw_dim.ensures.whole,
-    )
+pub assign_each-requires-clause-callable : goal.assign_each-requires-clause-callable
+assign_each-requires-clause-callable g c =
+    let back = c.in-Err-write_cells_in.ensures.back.0 in
+    let less = c.from_flat.ensures c.args.p c.args.order (subst (g.P.NdProducer.flat_form c.args.p c.args.order) (sym (ap (λ a. a.flat) back)) c.in-Ok.ensures.flat) in
+    subst (λ f. MayGather (g.P.NdProducer.shows c.from_flat.result) g.C.ItemCall.calls g.C.ItemCall.asks (box_in c.args.order (g.P.Shaped.lengths c.from_flat.result)) f) (sym (ap (λ a. a.f) back))
+    (MayGather-refined g.C.ItemCall.calls less c.args.order c.args.f g.C.ItemCall.asks c.requires.callable)
 
-pub call-r-requires : goal.call-r-requires
-call-r-requires g c = Assigned-asks _ _ _ _ _ _ _ c.requires.callable c.loop-x.invariant.2 c.in-Some.ensures.steps
+pub assign_each-requires-clause-same : goal.assign_each-requires-clause-same
+assign_each-requires-clause-same g c =
+    let back = c.in-Err-write_cells_in.ensures.back in
+    let less = c.from_flat.ensures c.args.p c.args.order (subst (g.P.NdProducer.flat_form c.args.p c.args.order) (sym (ap (λ a. a.flat) back.0)) c.in-Ok.ensures.flat) in
+    less.lengths ∙ (c.requires.same ∙ ap (λ v. v.lengths) (sym back.1))
 
-pub unreachable-requires : goal.unreachable-requires
-unreachable-requires g c =
-    let b = Assigned-within _ _ _ _ _ _ c.args.order c.loop-x.invariant.2 c.in-Some.ensures.steps in
-    let z = c.in_default-cell_mut.ensures.within.1 b in
-    cc
+pub assign_each-requires-in-Err-clause-callable : goal.assign_each-requires-in-Err-clause-callable
+assign_each-requires-in-Err-clause-callable g c = MayGather-refined g.C.ItemCall.calls c.in-Err.ensures.back c.args.order c.args.f g.C.ItemCall.asks c.requires.callable
 
-pub loop-x-preserved : goal.loop-x-preserved
-loop-x-preserved g c = (
-  search rules,
-  search rules,
-  Assigned-next _ _ _ _ _ _ c.args.order c.loop-x.invariant.2 c.in-Some.ensures.steps c.call-r.ensures refl,
-)
+pub returns-in-Ok-write_cells_in-clause-ran : goal.returns-in-Ok-write_cells_in-clause-ran
+returns-in-Ok-write_cells_in-clause-ran g c =
+    let done = c.in-Ok-write_cells_in.ensures.done in
+    let new = c.write_cells_in.new.self in
+    record {
+      lengths = done.0 ∙ sym c.requires.same;
+      answers = cells_in c.args.order new;
+      cells = cells_in-HasInOrder c.args.order new done.2;
+      list = refl;
+      gathered = done.1 c.args.p c.args.order c.in-Ok.ensures.flat;
+    }
 
-pub returns-clause-ran : goal.returns-clause-ran
-returns-clause-ran g c = Assigned-end _ _ _ _ _ _ c.args.order {u = c.next.new.self} c.loop-x.invariant.2 (rw c.in_default.is at c.next.ensures.steps)
+pub returns-in-Err-write_cells_in-clause-ran : goal.returns-in-Err-write_cells_in-clause-ran
+returns-in-Err-write_cells_in-clause-ran g c =
+    let back = c.in-Err-write_cells_in.ensures.back.0 in
+    let less = c.from_flat.ensures c.args.p c.args.order (subst (g.P.NdProducer.flat_form c.args.p c.args.order) (sym (ap (λ a. a.flat) back)) c.in-Ok.ensures.flat) in
+    Collects-refined g.C.ItemCall.calls less c.args.order c.args.f c.assign_each.new.into
+    (subst (λ f. Collects (g.P.NdProducer.shows c.from_flat.result) g.C.ItemCall.calls c.args.order (g.P.Shaped.lengths c.from_flat.result) f c.assign_each.new.into) (ap (λ a. a.f) back) c.assign_each.ensures.ran)
+
+pub returns-in-Err-clause-ran : goal.returns-in-Err-clause-ran
+returns-in-Err-clause-ran g c = Collects-refined g.C.ItemCall.calls c.in-Err.ensures.back c.args.order c.args.f c.assign_each-in-Err.new.into c.assign_each-in-Err.ensures.ran

@@ -1,6 +1,6 @@
 use Rattle.ndarray.specs.Orders.{box_in}
 use Rattle.ndarray.proofs.Assigned.{Assigned}
-use Rattle.ndarray.proofs.zip.assigning.assign_items.Given as goal
+use Rattle.ndarray.proofs.zip.assigning.assign_each.Given as goal
 
 abbrev pub invariant-loop-x : goal.invariant-loop-x
 invariant-loop-x g l =

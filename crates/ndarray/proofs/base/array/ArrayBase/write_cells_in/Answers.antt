@@ -1,0 +1,43 @@
+use Rattle.std.proofs.Common.{◌≡◌, ◌∙◌, ℕ, List, ap, sym, subst, reverse, length, Result, Ok, Err}
+use Rattle.std.specs.Prelude.{IfOk, IfErr}
+use Rattle.std.proofs.lemmas.List.{reverse-reverse}
+use Rattle.ndarray.specs.Grid.{Grid, IsGrid}
+use Rattle.ndarray.specs.Orders.{cells_in}
+use Rattle.ndarray.specs.Views.{transposed}
+use Rattle.ndarray.specs.declared.base.shape.Order.TheVariants.{RowMajor, ColumnMajor}
+use Rattle.ndarray.proofs.InOrder.{length-transposed, transposed-transposed, transposed-whole}
+use Rattle.ndarray.proofs.SideBySide.{row-cells, transposed-cells}
+use Rattle.ndarray.proofs.base.array.ArrayBase.write_cells_in.Goals as goal
+
+-- what a writer may leave, seen in an order
+in_row : {A W E : Type 0} (writes : W → List A → Type 0) (w : W) (ns : List ℕ) (g : Grid A) (r : Result (Unit {0}) E) → IfOk r (λ _. (g.lengths ≡ ns) × writes w g.cells × IsGrid g) → IfOk r (λ _. (g.lengths ≡ ns) × writes w (cells_in RowMajor g) × IsGrid g)
+in_row writes w ns g (Ok u) h = (h.0, subst (writes w) (sym (row-cells g h.2)) h.1, h.2)
+in_row writes w ns g (Err e) h = h
+
+in_column : {A W E : Type 0} (writes : W → List A → Type 0) (w : W) (ns ms : List ℕ) (g h : Grid A) (r : Result (Unit {0}) E) → ms ≡ reverse ns → h ≡ transposed g → IsGrid h → IfOk r (λ _. (g.lengths ≡ ms) × writes w g.cells × IsGrid g) → IfOk r (λ _. (h.lengths ≡ ns) × writes w (cells_in ColumnMajor h) × IsGrid h)
+in_column writes w ns ms g h (Ok u) e t whole k =
+    let back : transposed h ≡ g = ap transposed t ∙ transposed-transposed g k.2 (transposed-whole g k.2) in
+    (ap (λ v. v.lengths) t ∙ (ap reverse (k.0 ∙ e) ∙ reverse-reverse ns), subst (writes w) (ap (λ v. v.cells) (sym back) ∙ transposed-cells h) k.1, whole)
+in_column writes w ns ms g h (Err v) e t whole k = k
+
+came_back : {A W U : Type 0} (w : W) (g h k f : Grid A) (r : Result U W) → IsGrid g → h ≡ transposed g → f ≡ transposed k → IfErr r (λ v. (v ≡ w) × (k ≡ h)) → IfErr r (λ v. (v ≡ w) × (f ≡ g))
+came_back w g h k f (Ok u) whole e t b = b
+came_back w g h k f (Err v) whole e t b = (b.0, t ∙ (ap transposed (b.1 ∙ e) ∙ transposed-transposed g whole (transposed-whole g whole)))
+
+pub write_cells-written-requires : goal.write_cells-written-requires
+write_cells-written-requires g c =
+    let many : length c.reverse_axes.new.self.cells ≡ length c.args.self.now.cells = ap (λ v. length v.cells) c.reverse_axes.ensures.value ∙ length-transposed c.args.self.now c.requires.whole in
+    subst (g.W.CellWriter.can_write c.args.writer) (sym many) c.requires.can
+
+pub returns-in-RowMajor-clause-done : goal.returns-in-RowMajor-clause-done
+returns-in-RowMajor-clause-done g c = rw c.in-RowMajor.is (in_row g.W.CellWriter.writes c.args.writer _ c.write_cells.new.array c.write_cells.result c.write_cells.ensures.done)
+
+pub returns-in-ColumnMajor-clause-done : goal.returns-in-ColumnMajor-clause-done
+returns-in-ColumnMajor-clause-done g c =
+    rw c.in-ColumnMajor.is (in_column g.W.CellWriter.writes c.args.writer c.args.self.now.lengths c.reverse_axes.new.self.lengths c.write_cells-written.new.array c.reverse_axes-in-ColumnMajor.new.self c.write_cells-written.result
+    (ap (λ v. v.lengths) c.reverse_axes.ensures.value) c.reverse_axes-in-ColumnMajor.ensures.value c.reverse_axes-in-ColumnMajor.ensures.whole c.write_cells-written.ensures.done)
+
+pub returns-in-ColumnMajor-clause-back : goal.returns-in-ColumnMajor-clause-back
+returns-in-ColumnMajor-clause-back g c =
+    came_back c.args.writer c.args.self.now c.reverse_axes.new.self c.write_cells-written.new.array c.reverse_axes-in-ColumnMajor.new.self c.write_cells-written.result
+    c.requires.whole c.reverse_axes.ensures.value c.reverse_axes-in-ColumnMajor.ensures.value c.write_cells-written.ensures.back

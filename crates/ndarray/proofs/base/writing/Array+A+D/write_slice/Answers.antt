@@ -1,0 +1,59 @@
+use Rattle.std.proofs.Common.{List, ◌≡◌, ◌≤◌, ◌+◌, ◌++◌, ◌-◌, ◌<◌, ℕ, ◌∙◌, ap, sym, subst, take, drop, length, refl, arith}
+use Rattle.std.specs.Prelude.{⊤, slice_get}
+use Rattle.std.proofs.lemmas.List.{length-take-le, length-drop}
+use Rattle.std.proofs.lemmas.Option.{slice_get-get_or}
+use Rattle.ndarray.specs.Index.{InBox, size}
+use Rattle.ndarray.specs.base.Places.{place, Reaches}
+use Rattle.ndarray.specs.order.Steps.{rank}
+use Rattle.ndarray.proofs.Lists.{some-of}
+use Rattle.ndarray.proofs.Reached.{length-cells_at}
+use Rattle.ndarray.proofs.Refilled.{refilled-at, Reaches-refilled}
+use Rattle.ndarray.proofs.SideBySide.{side-there, side-cells, slice-part, slice-within}
+use Rattle.ndarray.proofs.base.writing.Array+A+D.write_slice.Goals as goal
+
+-- the places of cells that lie side by side are those of the slice
+room : {A : Type 0} (xs : List A) (ns : List ℕ) (start : ℕ) (bs : List ℕ) → Reaches ⊤ (slice_get xs) ns start bs → ((is : List ℕ) → InBox ns is → place start bs is ≡ start + rank ns is) → 0 < size ns → start + size ns ≤ length xs
+room xs ns start bs h beside some =
+    let last = side-there (slice_get xs) ns start bs h beside (size ns - 1) (omega arith) in
+    let w = slice-within xs (start + (size ns - 1)) last in
+    omega arith
+
+pub write_part-requires-clause-within : goal.write_part-requires-clause-within
+write_part-requires-clause-within g c =
+    let some = c.if-len-eq0.false in
+    let w = room c.self.inside.storage.items.items _ _ _ c.self.invariant (c.if-not-is_row_major.ensures.places.0 refl) (omega (arith, c.size-len.ensures)) in
+    omega (arith, ap length c.as_mut_slice-items.ensures.value, c.size-len.ensures)
+
+pub write_part-requires-clause-can : goal.write_part-requires-clause-can
+write_part-requires-clause-can g c =
+    let many = length-cells_at _ _ _ _ c.self.invariant in
+    let same = ap (λ v. length v.cells) c.self.view_is in
+    subst (g.W.CellWriter.can_write c.args.writer) (sym same ∙ (many ∙ sym c.size-len.ensures)) c.requires
+
+pub invariant_of-self : goal.invariant_of-self
+invariant_of-self g c =
+    let a = c.self.inside in
+    Reaches-refilled (slice_get a.storage.items.items) _ (g.D.Lengths.numbers a.layout.dim) a.layout.start (g.D.Lengths.numbers a.layout.strides) c.self.invariant c.write_part.new.slice
+    (λ p x h. refilled-at c.write_part.new.slice a.storage.items.items a.storage.items.len p x a.storage.items.ok.0 h)
+
+pub returns-clause-done : goal.returns-clause-done
+returns-clause-done g c =
+    let a = c.self.inside in
+    let xs = a.storage.items.items in
+    let ws = c.write_part.new.slice in
+    let start = a.layout.start in
+    let len = c.size-len.result in
+    let ns = g.D.Lengths.numbers a.layout.dim in
+    let after = slice_get (take a.storage.items.len (ws ++ drop (length ws) xs)) in
+    let reaches = invariant_of-self g c in
+    let beside = c.if-not-is_row_major.ensures.places.0 refl in
+    let many : length ws ≡ length xs = omega (arith, c.write_part.auto.slice, ap length c.as_mut_slice-items.ensures.value) in
+    let some = c.if-len-eq0.false in
+    let fits = room xs ns start (g.D.Lengths.numbers a.layout.strides) c.self.invariant beside (omega (arith, c.size-len.ensures)) in
+    let end : start + len ≤ length xs = omega (arith, c.size-len.ensures) in
+    let long : length (take len (drop start ws)) ≡ len = length-take-le len (drop start ws) (let d = length-drop start ws in omega arith) in
+    let each : (k : ℕ) → k < len → slice_get (take len (drop start ws)) k ≡ after (start + k) = λ k lt.
+    let x = some-of (slice_get xs (start + k)) (side-there _ _ _ _ c.self.invariant beside k (omega (arith, c.size-len.ensures))) in
+    slice-part ws start len k (omega arith) lt ∙ (slice_get-get_or ws (start + k) x.0 (omega arith) ∙ sym (refilled-at ws xs a.storage.items.len (start + k) x.0 a.storage.items.ok.0 x.1)) in
+    let cells = side-cells after ns start (g.D.Lengths.numbers a.layout.strides) reaches beside (take len (drop start ws)) len c.size-len.ensures long each in
+    (ap (λ v. v.lengths) c.self.view_is, subst (g.W.CellWriter.writes c.args.writer) cells c.write_part.ensures, length-cells_at _ _ _ _ reaches)

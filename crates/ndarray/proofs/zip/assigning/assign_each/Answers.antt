@@ -1,0 +1,32 @@
+use Rattle.std.proofs.Common.{rules, ◌≡◌, ◌∙◌, ap, sym, refl}
+use Rattle.ndarray.specs.Orders.{box_in}
+use Rattle.ndarray.proofs.Assigned.{Gives-own, Assigned-start, Assigned-asks, Assigned-within, Assigned-next, Assigned-end}
+use Rattle.ndarray.proofs.Producers.{Gives-both}
+use Rattle.ndarray.proofs.zip.assigning.assign_each.Goals as goal
+
+pub loop-x-init : goal.loop-x-init
+loop-x-init g c =
+    let walked : c.new.result ≡ box_in c.args.order (g.P.Shaped.lengths c.args.p) = c.new.ensures.list ∙ ap (box_in c.args.order) (c.raw_dim.ensures.lengths ∙ sym c.requires.same) in (
+      search rules,
+      search rules,
+      Assigned-start _ _ _ _ _ _ (Gives-both _ _ _ _ _ _ c.zip-run.result c.zip-run.ensures.first c.zip-run.ensures.second refl c.run.ensures.gives (Gives-own g.P.Dim.Lengths.numbers (λ rest. rest) walked)) (sym c.requires.same) c.raw_dim.ensures.whole,
+    )
+
+pub call-r-requires : goal.call-r-requires
+call-r-requires g c = Assigned-asks _ _ _ _ _ _ _ c.requires.callable c.loop-x.invariant.2 c.in-Some.ensures.steps
+
+pub unreachable-requires : goal.unreachable-requires
+unreachable-requires g c =
+    let b = Assigned-within _ _ _ _ _ _ c.args.order c.loop-x.invariant.2 c.in-Some.ensures.steps in
+    let z = c.in_default-cell_mut.ensures.within.1 b in
+    cc
+
+pub loop-x-preserved : goal.loop-x-preserved
+loop-x-preserved g c = (
+  search rules,
+  search rules,
+  Assigned-next _ _ _ _ _ _ c.args.order c.loop-x.invariant.2 c.in-Some.ensures.steps c.call-r.ensures refl,
+)
+
+pub returns-clause-ran : goal.returns-clause-ran
+returns-clause-ran g c = Assigned-end _ _ _ _ _ _ c.args.order {u = c.next.new.self} c.loop-x.invariant.2 (rw c.in_default.is at c.next.ensures.steps)
