@@ -1,0 +1,222 @@
+//! The layouts of a table.
+
+use crate::rows::element::Element;
+use crate::rows::spelling;
+use ndarray::{
+    Array, ArrayBase, ArrayView, Axis, Data, IxDyn, Lengths, ShapeBuilder, ShapeError, Slice,
+};
+use std::alloc::{AllocError, Global};
+use std::fmt;
+
+/// How the cells of a table lie in memory.
+#[derive(Clone, Copy, PartialEq, Eq)]
+pub enum Layout {
+    /// One after another, the last index fastest.
+    RowMajor,
+    /// One after another, the first index fastest.
+    ColumnMajor,
+    /// At every second place along each axis of a larger table.
+    Stepped,
+    /// From the last place to the first, with each axis reversed.
+    Reversed,
+}
+
+/// All layouts.
+pub const LAYOUTS: [Layout; 4] = [
+    Layout::RowMajor,
+    Layout::ColumnMajor,
+    Layout::Stepped,
+    Layout::Reversed,
+];
+
+impl fmt::Display for Layout {
+    fn fmt<W: fmt::Write>(&self, f: &mut fmt::Formatter<W>) -> fmt::Result {
+        let name = match self {
+            Layout::RowMajor => "row-major",
+            Layout::ColumnMajor => "column-major",
+            Layout::Stepped => "every second place",
+            Layout::Reversed => "reversed",
+        };
+        write!(f, "{name}")
+    }
+}
+
+/// A table: its lengths, and its cells as they lie in memory.
+#[derive(Drop)]
+pub struct Table<A: Element> {
+    /// How they lie.
+    pub layout: Layout,
+    // The lengths of what lies in memory, larger than the table's where it has every second place.
+    lengths: IxDyn,
+    cells: Vec<A>,
+}
+
+impl<A: Element> Table<A> {
+    /// The table of these cells, which are given in row order.
+    ///
+    /// Where there are not as many as the lengths have index lists, they stay as they are given.
+    pub fn new(
+        alloc: Global,
+        lengths: IxDyn,
+        cells: Vec<A>,
+        layout: Layout,
+    ) -> Result<Table<A>, AllocError> {
+        if !lengths.size_ok() || lengths.size() != cells.len() {
+            return Ok(Table {
+                layout: Layout::RowMajor,
+                lengths,
+                cells,
+            });
+        }
+        match layout {
+            Layout::RowMajor => Ok(Table {
+                layout,
+                lengths,
+                cells,
+            }),
+            Layout::ColumnMajor => {
+                let cells = in_column_order(alloc, lengths.slice(), cells.as_slice())?;
+                Ok(Table {
+                    layout,
+                    lengths,
+                    cells,
+                })
+            }
+            Layout::Stepped => spread(alloc, lengths, cells),
+            Layout::Reversed => {
+                let mut cells = cells;
+                cells.reverse();
+                Ok(Table {
+                    layout,
+                    lengths,
+                    cells,
+                })
+            }
+        }
+    }
+
+    /// The table to read.
+    pub fn view(&self) -> Result<ArrayView<'_, A, IxDyn>, ShapeError> {
+        let lengths = self.lengths.copied();
+        let mut view = if self.layout == Layout::ColumnMajor {
+            ArrayView::from_shape(lengths.f(), self.cells.as_slice())?
+        } else {
+            ArrayView::from_shape(lengths, self.cells.as_slice())?
+        };
+        cut(&mut view, self.layout);
+        Ok(view)
+    }
+
+    /// An array of what lies in memory.
+    pub fn into_array(self) -> Result<Array<A, IxDyn>, ShapeError> {
+        let Table {
+            layout,
+            lengths,
+            cells,
+        } = self;
+        if layout == Layout::ColumnMajor {
+            Array::from_shape_vec(lengths.f(), cells)
+        } else {
+            Array::from_shape_vec(lengths, cells)
+        }
+    }
+}
+
+/// Leaves of what lies in memory the table.
+pub fn cut<S: Data>(array: &mut ArrayBase<S, IxDyn>, layout: Layout) {
+    let second = Slice::new(0, None, 2);
+    for axis in 0..array.ndim() {
+        if layout == Layout::Stepped && array.slice_ok(Axis(axis), &second) {
+            array.slice_axis_inplace(Axis(axis), second);
+        }
+        if layout == Layout::Reversed && array.axis_ok(Axis(axis)) {
+            array.invert_axis(Axis(axis));
+        }
+    }
+}
+
+/// The cells with the first index fastest.
+fn in_column_order<A: Element>(
+    alloc: Global,
+    lengths: &[usize],
+    cells: &[A],
+) -> Result<Vec<A>, AllocError> {
+    let mut turned = Vec::new(alloc);
+    for place in 0..cells.len() {
+        let Some(cell) = cells.get(row_position(lengths, place)) else {
+            return Ok(turned);
+        };
+        turned.push(*cell)?;
+    }
+    Ok(turned)
+}
+
+/// Which index list of a box in row order is the one of this number in column order.
+fn row_position(lengths: &[usize], place: usize) -> usize {
+    let mut rest = place;
+    let mut position = 0usize;
+    for length in lengths {
+        position = position
+            .wrapping_mul(*length)
+            .wrapping_add(rest.checked_rem(*length).unwrap_or(0));
+        rest = rest.checked_div(*length).unwrap_or(0);
+    }
+    position
+}
+
+/// The table at every second place along each axis of a larger one, where that is not too large.
+fn spread<A: Element>(
+    alloc: Global,
+    lengths: IxDyn,
+    cells: Vec<A>,
+) -> Result<Table<A>, AllocError> {
+    let larger = doubled(alloc, lengths.slice())?.unwrap_or(lengths.copied());
+    if larger.slice() == lengths.slice() || !larger.size_ok() {
+        return Ok(Table {
+            layout: Layout::RowMajor,
+            lengths,
+            cells,
+        });
+    }
+    let mut all = Vec::new(alloc);
+    let mut left = cells.as_slice();
+    for place in 0..larger.size() {
+        let mut cell = A::HIDDEN;
+        if is_even(larger.slice(), place) {
+            if let Some((first, rest)) = left.split_first() {
+                cell = *first;
+                left = rest;
+            }
+        }
+        all.push(cell)?;
+    }
+    Ok(Table {
+        layout: Layout::Stepped,
+        lengths: larger,
+        cells: all,
+    })
+}
+
+/// Twice each length above 1, where the lengths are small.
+fn doubled(alloc: Global, lengths: &[usize]) -> Result<Option<IxDyn>, AllocError> {
+    let mut numbers = Vec::new(alloc);
+    for length in lengths {
+        if *length > 1000 {
+            return Ok(None);
+        }
+        numbers.push(if *length > 1 { *length * 2 } else { *length })?;
+    }
+    Ok(spelling::dimension(numbers.as_slice()))
+}
+
+/// Whether the index list of this number in row order has even indices alone.
+fn is_even(lengths: &[usize], place: usize) -> bool {
+    let mut rest = place;
+    for length in lengths.iter().rev() {
+        if rest.checked_rem(*length).unwrap_or(0) % 2 == 1 {
+            return false;
+        }
+        rest = rest.checked_div(*length).unwrap_or(0);
+    }
+    true
+}

@@ -1,0 +1,98 @@
+//! How lengths, axes, slices and cells are spelled.
+
+use crate::rows::element::Element;
+use ndarray::{Axis, IxDyn, Slice};
+use std::alloc::{AllocError, Global};
+
+/// A length, an index or a number of items.
+pub fn number(word: &str) -> Option<usize> {
+    word.parse::<usize>().ok()
+}
+
+/// An axis.
+pub fn axis(word: &str) -> Option<Axis> {
+    Some(Axis(number(word)?))
+}
+
+/// A slice: a range, as `1..4`, `-2..`, `..-1` or `..`, and a step.
+pub fn slice(range: &str, step: &str) -> Option<Slice> {
+    let (start, end) = range.split_once("..")?;
+    let step = step.parse::<isize>().ok()?;
+    let start = if start.is_empty() {
+        0
+    } else {
+        start.parse::<isize>().ok()?
+    };
+    let end = if end.is_empty() {
+        None
+    } else {
+        Some(end.parse::<isize>().ok()?)
+    };
+    Some(Slice::new(start, end, step))
+}
+
+/// Lengths joined by `x`, or `.` for none.
+pub fn lengths(alloc: Global, word: &str) -> Result<Option<IxDyn>, AllocError> {
+    let mut numbers = Vec::new(alloc);
+    if word != "." {
+        for piece in word.split('x') {
+            let Some(length) = number(piece) else {
+                return Ok(None);
+            };
+            numbers.push(length)?;
+        }
+    }
+    Ok(dimension(numbers.as_slice()))
+}
+
+/// The dimension of these numbers, of which there are at most 32.
+pub fn dimension(numbers: &[usize]) -> Option<IxDyn> {
+    if numbers.len() > 32 {
+        return None;
+    }
+    Some(IxDyn(numbers))
+}
+
+/// An index list: an index for each word.
+pub fn index(alloc: Global, words: &[&str]) -> Result<Option<IxDyn>, AllocError> {
+    let mut numbers = Vec::new(alloc);
+    for word in words {
+        let Some(index) = number(*word) else {
+            return Ok(None);
+        };
+        numbers.push(index)?;
+    }
+    Ok(dimension(numbers.as_slice()))
+}
+
+/// Cells: numbers, `1..=15` for all from 1 to 15, and `7*48` for 7 forty-eight times.
+pub fn cells<A: Element>(alloc: Global, words: &[&str]) -> Result<Option<Vec<A>>, AllocError> {
+    let mut cells = Vec::new(alloc);
+    for word in words {
+        if !push_cells(&mut cells, *word)? {
+            return Ok(None);
+        }
+    }
+    Ok(Some(cells))
+}
+
+/// Pushes the cells that a word stands for, and answers whether it is understood.
+fn push_cells<A: Element>(cells: &mut Vec<A>, word: &str) -> Result<bool, AllocError> {
+    if let Some((first, last)) = word.split_once("..=") {
+        let (Some(first), Some(last)) = (number(first), number(last)) else {
+            return Ok(false);
+        };
+        for value in first..=last {
+            cells.push(A::of(value))?;
+        }
+        return Ok(true);
+    }
+    let (word, count) = word.split_once('*').unwrap_or((word, "1"));
+    let (Some(cell), Some(count)) = (A::spelled(word), number(count)) else {
+        return Ok(false);
+    };
+    for _ in 0..count {
+        cells.push(cell)?;
+    }
+    Ok(true)
+}
