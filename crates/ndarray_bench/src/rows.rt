@@ -5,6 +5,7 @@ mod calls;
 mod element;
 mod layouts;
 mod lists;
+mod owned;
 mod reading;
 mod shown;
 mod spelling;

@@ -2,25 +2,18 @@
 
 mod arities;
 mod asserted;
-mod assigned;
 mod base;
-mod chunks;
 mod collected;
+mod counted;
+mod fixed;
 mod generic;
 mod into_iter;
 mod iter;
 mod iter_mut;
-mod lanes;
 mod layouts;
 mod order;
 mod owned;
-mod producers;
-mod reduce;
 mod refusing;
 mod shown;
-mod slices;
-mod subviews;
-mod view_mut;
-mod windows;
 mod writing;
 mod zip;

@@ -41,6 +41,35 @@ impl ViewCall {
     }
 }
 
+/// A call that borrows a part of a view.
+#[derive(Clone, Copy)]
+pub enum PartCall {
+    View,
+    Transposed,
+    SliceAxis(Axis, Slice),
+    IndexAxis(Axis, usize),
+}
+
+impl PartCall {
+    /// The call of this name with these arguments.
+    pub fn spelled(name: &str, arguments: &[&str]) -> Option<PartCall> {
+        match (name, arguments) {
+            ("view", []) => Some(PartCall::View),
+            ("t", []) => Some(PartCall::Transposed),
+            ("slice_axis", [at, range]) => {
+                Some(PartCall::SliceAxis(axis(*at)?, slice(*range, "1")?))
+            }
+            ("slice_axis", [at, range, step]) => {
+                Some(PartCall::SliceAxis(axis(*at)?, slice(*range, *step)?))
+            }
+            ("index_axis", [at, index]) => {
+                Some(PartCall::IndexAxis(axis(*at)?, number(*index)?))
+            }
+            _ => None,
+        }
+    }
+}
+
 /// A call that yields subviews, to read or to write in.
 #[derive(Drop)]
 pub enum Pieces {

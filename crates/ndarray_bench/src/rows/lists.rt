@@ -18,57 +18,115 @@ pub fn cells<A: Element>(
     name: &str,
     steps: &[Step],
 ) -> Result<Option<String>, AllocError> {
-    let text = match name {
-        "iter" => stepped(alloc, view.iter(), steps)?,
-        "indexed_iter" => stepped(alloc, view.indexed_iter(), steps)?,
-        "into_iter" => stepped(alloc, view.view().into_iter(), steps)?,
-        "elements_base" => stepped(alloc, ElementsBase::new(view.view()), steps)?,
-        _ => return Ok(None),
-    };
-    Ok(Some(text))
+    match name {
+        "iter" => stepped(alloc, view.iter(), steps).map(Some),
+        "indexed_iter" => stepped(alloc, view.indexed_iter(), steps).map(Some),
+        "into_iter" => stepped(alloc, view.view().into_iter(), steps).map(Some),
+        "ref_into_iter" => stepped(alloc, (&*view).into_iter(), steps).map(Some),
+        "elements_base" => stepped(alloc, ElementsBase::new(view.view()), steps).map(Some),
+        _ => Ok(None),
+    }
 }
 
-/// What the steps of an iterator over subviews give; `None` where the test of the call says no.
+/// What the steps of an iterator over subviews give; `refused` where the test of the call says no.
 pub fn pieces<A: Element>(
     alloc: Global,
     view: &View<'_, A>,
     pieces: &Pieces,
     steps: &[Step],
 ) -> Result<Option<String>, AllocError> {
-    let text = match pieces {
+    match pieces {
+        Pieces::AxisIter(_) | Pieces::OuterIter | Pieces::AxisChunksIter(_, _) => {
+            along_axis(alloc, view, pieces, steps).map(Some)
+        }
+        Pieces::Lanes(_) | Pieces::Rows | Pieces::Columns | Pieces::ExactChunks(_) => {
+            lanes(alloc, view, pieces, steps).map(Some)
+        }
+        _ => windows(alloc, view, pieces, steps).map(Some),
+    }
+}
+
+/// What the steps of an iterator over the items or the chunks along an axis give.
+fn along_axis<A: Element>(
+    alloc: Global,
+    view: &View<'_, A>,
+    pieces: &Pieces,
+    steps: &[Step],
+) -> Result<String, AllocError> {
+    match pieces {
         Pieces::AxisIter(axis) if view.axis_ok(*axis) => {
-            parted(alloc, view.axis_iter(*axis), steps)?
+            parted(alloc, view.axis_iter(*axis), steps)
         }
-        Pieces::OuterIter if view.axis_ok(Axis(0)) => parted(alloc, view.outer_iter(), steps)?,
+        Pieces::OuterIter if view.axis_ok(Axis(0)) => parted(alloc, view.outer_iter(), steps),
         Pieces::AxisChunksIter(axis, size) if view.chunk_ok(*axis, *size) => {
-            parted(alloc, view.axis_chunks_iter(*axis, *size), steps)?
+            parted(alloc, view.axis_chunks_iter(*axis, *size), steps)
         }
+        _ => "refused".to_string(alloc),
+    }
+}
+
+/// What the steps of an iterator over lanes or whole chunks give.
+fn lanes<A: Element>(
+    alloc: Global,
+    view: &View<'_, A>,
+    pieces: &Pieces,
+    steps: &[Step],
+) -> Result<String, AllocError> {
+    match pieces {
         Pieces::Lanes(axis) if view.lanes_ok(*axis) => {
-            stepped(alloc, view.lanes(*axis).into_iter(), steps)?
+            stepped(alloc, view.lanes(*axis).into_iter(), steps)
         }
-        Pieces::Rows => stepped(alloc, view.rows().into_iter(), steps)?,
-        Pieces::Columns => stepped(alloc, view.columns().into_iter(), steps)?,
+        Pieces::Rows => stepped(alloc, view.rows().into_iter(), steps),
+        Pieces::Columns => stepped(alloc, view.columns().into_iter(), steps),
         Pieces::ExactChunks(chunk) if view.chunks_ok(chunk) => {
-            stepped(alloc, view.exact_chunks(chunk.copied()).into_iter(), steps)?
+            stepped(alloc, view.exact_chunks(chunk.copied()).into_iter(), steps)
         }
+        _ => "refused".to_string(alloc),
+    }
+}
+
+/// What the steps of an iterator over windows give.
+fn windows<A: Element>(
+    alloc: Global,
+    view: &View<'_, A>,
+    pieces: &Pieces,
+    steps: &[Step],
+) -> Result<String, AllocError> {
+    match pieces {
         Pieces::Windows(window) if view.chunks_ok(window) => {
-            stepped(alloc, view.windows(window.copied()).into_iter(), steps)?
+            stepped(alloc, view.windows(window.copied()).into_iter(), steps)
         }
         Pieces::WindowsWithStride(window, strides) if view.windows_ok(window, strides) => {
             let windows = view.windows_with_stride(window.copied(), strides.copied());
-            stepped(alloc, windows.into_iter(), steps)?
+            stepped(alloc, windows.into_iter(), steps)
         }
         Pieces::AxisWindows(axis, window) if view.chunk_ok(*axis, *window) => {
-            stepped(alloc, view.axis_windows(*axis, *window).into_iter(), steps)?
+            stepped(alloc, view.axis_windows(*axis, *window).into_iter(), steps)
         }
         Pieces::AxisWindowsWithStride(axis, window, stride)
             if view.chunk_ok(*axis, *window) && view.chunk_ok(*axis, *stride) => {
             let windows = view.axis_windows_with_stride(*axis, *window, *stride);
-            stepped(alloc, windows.into_iter(), steps)?
+            stepped(alloc, windows.into_iter(), steps)
         }
-        _ => return Ok(None),
-    };
-    Ok(Some(text))
+        _ => "refused".to_string(alloc),
+    }
+}
+
+/// Both parts of a view that is split; `refused` where there is no such place to split it.
+pub fn split<A: Element>(
+    alloc: Global,
+    view: &View<'_, A>,
+    axis: Axis,
+    index: usize,
+) -> Result<String, AllocError> {
+    if !view.axis_ok(axis) || view.len_of(axis) < index {
+        return "refused".to_string(alloc);
+    }
+    let (first, second) = view.view().split_at(axis, index);
+    let mut text = String::new(alloc);
+    push_answer(&mut text, &first)?;
+    push_answer(&mut text, &second)?;
+    Ok(text)
 }
 
 /// The subview of this number among those that a call yields; `None` where there are fewer, or where the test of
@@ -130,13 +188,12 @@ where
             Step::Next => push_item(&mut text, items.next())?,
             Step::Nth(count) => push_item(&mut text, items.nth(count))?,
             Step::Left => push_left(&mut text, items.size_hint())?,
-            Step::Clone => {
-                push_rest(&mut text, items.clone()?)?;
-                push_part(&mut text)?;
-            }
-            Step::Rest => push_rest(&mut text, items.clone()?)?,
+            Step::Clone => push_copy(&mut text, &items, true)?,
+            Step::Rest => push_copy(&mut text, &items, false)?,
             Step::Skip => drop(items.next()),
-            Step::NextBack | Step::SplitAt(_) => push_word(&mut text, "not understood")?,
+            Step::NextBack | Step::SplitAt(_) | Step::Cells => {
+                push_word(&mut text, "not understood")?
+            }
         }
     }
     Ok(text)
@@ -146,6 +203,9 @@ where
 trait BothEnds: DoubleEndedIterator + Clone + Drop {
     /// The first so many items, and the rest; `None` where there are fewer.
     fn split(self, count: usize) -> Option<(Self, Self)>;
+
+    /// The item after so many, by the iterator's own `nth`.
+    fn after(&mut self, count: usize) -> Option<Self::Item>;
 }
 
 impl<'a, A: Element> BothEnds for AxisIter<'a, A, IxDyn> {
@@ -155,6 +215,10 @@ impl<'a, A: Element> BothEnds for AxisIter<'a, A, IxDyn> {
         }
         Some(self.split_at(count))
     }
+
+    fn after(&mut self, count: usize) -> Option<View<'a, A>> {
+        self.nth(count)
+    }
 }
 
 impl<'a, A: Element> BothEnds for AxisChunksIter<'a, A, IxDyn> {
@@ -163,6 +227,10 @@ impl<'a, A: Element> BothEnds for AxisChunksIter<'a, A, IxDyn> {
             return None;
         }
         Some(self.split_at(count))
+    }
+
+    fn after(&mut self, count: usize) -> Option<View<'a, A>> {
+        self.nth(count)
     }
 }
 
@@ -180,13 +248,10 @@ where
         match *step {
             Step::Next => push_item(&mut text, items.next())?,
             Step::NextBack => push_item(&mut text, items.next_back())?,
-            Step::Nth(count) => push_item(&mut text, items.nth(count))?,
+            Step::Nth(count) => push_item(&mut text, items.after(count))?,
             Step::Left => push_left(&mut text, items.size_hint())?,
-            Step::Clone => {
-                push_rest(&mut text, items.clone()?)?;
-                push_part(&mut text)?;
-            }
-            Step::Rest => push_rest(&mut text, items.clone()?)?,
+            Step::Clone => push_copy(&mut text, &items, true)?,
+            Step::Rest => push_copy(&mut text, &items, false)?,
             Step::Skip => drop(items.next()),
             Step::SplitAt(count) => {
                 let Some((first, second)) = items.split(count) else {
@@ -197,13 +262,14 @@ where
                 push_part(&mut text)?;
                 items = second;
             }
+            Step::Cells => push_word(&mut text, "not understood")?,
         }
     }
     Ok(text)
 }
 
 /// Appends an item, or `none`.
-fn push_item<T: Shown>(text: &mut String, item: Option<T>) -> Result<(), AllocError> {
+pub fn push_item<T: Shown>(text: &mut String, item: Option<T>) -> Result<(), AllocError> {
     match item {
         Some(item) => push_answer(text, &item),
         None => push_word(text, "none"),
@@ -211,7 +277,7 @@ fn push_item<T: Shown>(text: &mut String, item: Option<T>) -> Result<(), AllocEr
 }
 
 /// Appends how many items a hint says are still to come.
-fn push_left(text: &mut String, hint: (usize, Option<usize>)) -> Result<(), AllocError> {
+pub fn push_left(text: &mut String, hint: (usize, Option<usize>)) -> Result<(), AllocError> {
     let (least, most) = hint;
     push_separator(text)?;
     if most == Some(least) {
@@ -219,6 +285,21 @@ fn push_left(text: &mut String, hint: (usize, Option<usize>)) -> Result<(), Allo
     } else {
         write!(text, "{least} or more")
     }
+}
+
+/// Appends all items of a clone, and for a step `clone` the mark at the end of a part.
+fn push_copy<I: Iterator + Clone + Drop>(
+    text: &mut String,
+    items: &I,
+    is_part: bool,
+) -> Result<(), AllocError>
+where
+    I::Item: Shown,
+    requires can { (it : I) → I.can_next it }
+    requires ends { (it : I) → IsFinite (I.remaining it) }
+{
+    push_rest(text, items.clone()?)?;
+    if is_part { push_part(text) } else { Ok(()) }
 }
 
 /// Appends the mark at the end of a part.

@@ -1,6 +1,6 @@
 //! Calls that read.
 
-use crate::rows::calls::{Pieces, ViewCall};
+use crate::rows::calls::{PartCall, Pieces, ViewCall};
 use crate::rows::element::Element;
 use crate::rows::shown::as_text;
 use crate::rows::steps::Step;
@@ -24,59 +24,107 @@ pub fn answer<A: Element>(
     let Some((call, rest)) = calls.split_first() else {
         return as_text(alloc, &view);
     };
-    let words: Vec<&str> = call.split_whitespace().collect(alloc)?;
-    let words = words.as_slice();
-    if let Some(call) = ViewCall::spelled(words) {
-        return match viewed(view, call) {
+    match Call::spelled(alloc, *call, rest)? {
+        Call::View(call) => match viewed(view, call) {
             Ok(Some(next)) => answer(alloc, next, rest),
             Ok(None) => "refused".to_string(alloc),
-            Err(error) => format!(in alloc; "{:?}", error.kind()),
-        };
-    }
-    match words {
-        ["t"] => return answer(alloc, view.t(), rest),
-        ["view"] => return answer(alloc, view.view(), rest),
-        ["broadcast", shape] => {
-            let Some(lengths) = spelling::lengths(alloc, *shape)? else {
-                return "not understood".to_string(alloc);
-            };
-            return match view.broadcast(lengths) {
-                Some(wide) => answer(alloc, wide, rest),
-                None => "none".to_string(alloc),
-            };
-        }
-        ["to_owned"] => {
+            Err(error) => kind(alloc, &error),
+        },
+        Call::Part(call) => match part_of(&view, call) {
+            Some(part) => answer(alloc, part, rest),
+            None => "refused".to_string(alloc),
+        },
+        Call::Broadcast(lengths) => match view.broadcast(lengths) {
+            Some(wide) => answer(alloc, wide, rest),
+            None => "none".to_string(alloc),
+        },
+        Call::Item(pieces, number) => match (lists::nth(&view, &pieces, number), rest) {
+            (Some(item), [_, rest @ ..]) => answer(alloc, item, rest),
+            _ => "refused".to_string(alloc),
+        },
+        Call::ToOwned => {
             let array = ArrayView::to_owned(&view, alloc)?;
-            return answer(alloc, array.view(), rest);
+            answer(alloc, array.view(), rest)
         }
-        _ => {}
+        Call::Last => listed(alloc, &view, *call, rest),
     }
-    if let [item, rest @ ..] = rest {
-        let item: Vec<&str> = item.split_whitespace().collect(alloc)?;
-        if let ["item", number] = item.as_slice() {
-            return match item_of(alloc, &view, words, *number)? {
-                Some(item) => answer(alloc, item, rest),
-                None => "refused".to_string(alloc),
-            };
-        }
-    }
-    listed(alloc, &view, words, rest)
 }
 
-/// The subview of a number among those that a call yields.
-fn item_of<'b, A: Element>(
-    alloc: Global,
-    view: &'b View<'_, A>,
-    words: &[&str],
-    number: &str,
-) -> Result<Option<View<'b, A>>, AllocError> {
-    let (Some((name, arguments)), Some(number)) = (words.split_first(), spelling::number(number))
-    else {
-        return Ok(None);
-    };
-    match Pieces::spelled(alloc, *name, arguments)? {
-        Some(pieces) => Ok(lists::nth(view, &pieces, number)),
-        None => Ok(None),
+/// The kind of an error of the library.
+pub fn kind(alloc: Global, error: &ShapeError) -> Result<String, AllocError> {
+    format!(in alloc; "{:?}", error.kind())
+}
+
+/// The next call of a row.
+#[derive(Drop)]
+enum Call {
+    View(ViewCall),
+    Part(PartCall),
+    Broadcast(IxDyn),
+    // The subview of a number among those that a call yields: two calls of the row.
+    Item(Pieces, usize),
+    ToOwned,
+    // One that makes no view.
+    Last,
+}
+
+impl Call {
+    /// What a call is, before the other ones.
+    fn spelled(alloc: Global, call: &str, rest: &[&str]) -> Result<Call, AllocError> {
+        let words: Vec<&str> = call.split_whitespace().collect(alloc)?;
+        let words = words.as_slice();
+        if let Some(call) = ViewCall::spelled(words) {
+            return Ok(Call::View(call));
+        }
+        match words {
+            ["to_owned"] => Ok(Call::ToOwned),
+            ["broadcast", shape] => match spelling::lengths(alloc, *shape)? {
+                Some(lengths) => Ok(Call::Broadcast(lengths)),
+                None => Ok(Call::Last),
+            },
+            [name, arguments @ ..] => match PartCall::spelled(*name, arguments) {
+                Some(part) => Ok(Call::Part(part)),
+                None => Call::item(alloc, *name, arguments, rest),
+            },
+            [] => Ok(Call::Last),
+        }
+    }
+
+    /// The subview that the call after this one names, where it names one.
+    fn item(
+        alloc: Global,
+        name: &str,
+        arguments: &[&str],
+        rest: &[&str],
+    ) -> Result<Call, AllocError> {
+        let Some(number) = item_number(rest) else {
+            return Ok(Call::Last);
+        };
+        match Pieces::spelled(alloc, name, arguments)? {
+            Some(pieces) => Ok(Call::Item(pieces, number)),
+            None => Ok(Call::Last),
+        }
+    }
+}
+
+/// The number that `item` names, as the first of some calls.
+fn item_number(calls: &[&str]) -> Option<usize> {
+    let (call, _rest) = calls.split_first()?;
+    spelling::number(call.trim().strip_prefix("item ")?)
+}
+
+/// The part of a view that a call borrows; `None` where its test says no.
+fn part_of<'b, A: Element>(view: &'b View<'_, A>, call: PartCall) -> Option<View<'b, A>> {
+    match call {
+        PartCall::View => Some(view.view()),
+        PartCall::Transposed => Some(view.t()),
+        PartCall::SliceAxis(axis, slice) if view.slice_ok(axis, &slice) => {
+            Some(view.slice_axis(axis, slice))
+        }
+        PartCall::IndexAxis(axis, index) if view.axis_ok(axis) && index < view.len_of(axis) => {
+            Some(view.index_axis(axis, index))
+        }
+        _ => None,
     }
 }
 
@@ -84,30 +132,37 @@ fn item_of<'b, A: Element>(
 fn listed<A: Element>(
     alloc: Global,
     view: &View<'_, A>,
-    words: &[&str],
-    calls: &[&str],
+    call: &str,
+    rest: &[&str],
 ) -> Result<String, AllocError> {
-    if calls.is_empty() {
-        if let Some(text) = values::answer(alloc, view, words)? {
-            return Ok(text);
-        }
-    }
-    let Some((name, arguments)) = words.split_first() else {
-        return "not understood".to_string(alloc);
+    let words: Vec<&str> = call.split_whitespace().collect(alloc)?;
+    let words = words.as_slice();
+    let answered = match values::answer(alloc, view, words)? {
+        Some(text) if rest.is_empty() => Some(text),
+        _ => stepped(alloc, view, words, rest)?,
     };
-    let Some(steps) = Step::all_spelled(alloc, calls)? else {
-        return "not understood".to_string(alloc);
-    };
-    let steps = steps.as_slice();
-    if let Some(pieces) = Pieces::spelled(alloc, *name, arguments)? {
-        return match lists::pieces(alloc, view, &pieces, steps)? {
-            Some(text) => Ok(text),
-            None => "refused".to_string(alloc),
-        };
-    }
-    match lists::cells(alloc, view, *name, steps)? {
+    match answered {
         Some(text) => Ok(text),
         None => "not understood".to_string(alloc),
+    }
+}
+
+/// What the steps of a list give; `None` where one is no step of rows.
+fn stepped<A: Element>(
+    alloc: Global,
+    view: &View<'_, A>,
+    words: &[&str],
+    calls: &[&str],
+) -> Result<Option<String>, AllocError> {
+    let (Some((name, arguments)), Some(steps)) = (
+        words.split_first(),
+        Step::all_spelled(alloc, calls)?,
+    ) else {
+        return Ok(None);
+    };
+    match Pieces::spelled(alloc, *name, arguments)? {
+        Some(pieces) => lists::pieces(alloc, view, &pieces, steps.as_slice()),
+        None => lists::cells(alloc, view, *name, steps.as_slice()),
     }
 }
 

@@ -22,6 +22,8 @@ pub enum Step {
     Skip,
     /// `rest`: all items that are still to come.
     Rest,
+    /// `cells`: all items that are still to come, whose cells are written one after another, each with its number.
+    Cells,
 }
 
 impl Step {
@@ -42,6 +44,7 @@ impl Step {
             "clone" => Some(Step::Clone),
             "skip" => Some(Step::Skip),
             "rest" => Some(Step::Rest),
+            "cells" => Some(Step::Cells),
             _ => None,
         }
     }

@@ -1,6 +1,7 @@
 //! Calls that answer a number, a cell, or yes or no.
 
 use crate::rows::element::Element;
+use crate::rows::lists;
 use crate::rows::reading::View;
 use crate::rows::shown::push_lengths;
 use crate::rows::spelling::{axis, index, lengths, number, slice};
@@ -15,26 +16,51 @@ pub fn answer<A: Element>(
     if let Some(is_so) = tested(alloc, view, words)? {
         return Ok(Some(is_so.to_string(alloc)?));
     }
-    let text = match words {
-        ["shape"] => {
-            let mut text = String::new(alloc);
-            push_lengths(&mut text, view.shape())?;
-            text
-        }
-        ["ndim"] => view.ndim().to_string(alloc)?,
-        ["len"] => view.len().to_string(alloc)?,
-        ["len_of", at] => match axis(*at) {
-            Some(axis) if view.axis_ok(axis) => view.len_of(axis).to_string(alloc)?,
-            _ => return Ok(None),
+    if let Some(number) = counted(view, words) {
+        return Ok(Some(number.to_string(alloc)?));
+    }
+    match words {
+        ["shape"] => shape(alloc, view).map(Some),
+        ["get", at @ ..] => cell(alloc, view, at),
+        ["sum"] => found(alloc, A::sum(view)).map(Some),
+        ["split_at", at, index] => match (axis(*at), number(*index)) {
+            (Some(axis), Some(index)) => lists::split(alloc, view, axis, index).map(Some),
+            _ => Ok(None),
         },
-        ["get", at @ ..] => match index(alloc, at)? {
-            Some(index) => found(alloc, view.get(index).copied())?,
-            None => return Ok(None),
+        _ => Ok(None),
+    }
+}
+
+/// The number that a call answers; `None` for another call.
+fn counted<A: Element>(view: &View<'_, A>, words: &[&str]) -> Option<usize> {
+    match words {
+        ["ndim"] => Some(view.ndim()),
+        ["len"] => Some(view.len()),
+        ["len_of", at] => match axis(*at)? {
+            axis if view.axis_ok(axis) => Some(view.len_of(axis)),
+            _ => None,
         },
-        ["sum"] => found(alloc, A::sum(view))?,
-        _ => return Ok(None),
-    };
-    Ok(Some(text))
+        _ => None,
+    }
+}
+
+/// The lengths.
+fn shape<A: Element>(alloc: Global, view: &View<'_, A>) -> Result<String, AllocError> {
+    let mut text = String::new(alloc);
+    push_lengths(&mut text, view.shape())?;
+    Ok(text)
+}
+
+/// The cell at an index list; `None` where that is misspelled.
+fn cell<A: Element>(
+    alloc: Global,
+    view: &View<'_, A>,
+    at: &[&str],
+) -> Result<Option<String>, AllocError> {
+    match index(alloc, at)? {
+        Some(index) => found(alloc, view.get(index).copied()).map(Some),
+        None => Ok(None),
+    }
 }
 
 /// A cell or a number, or `none`.

@@ -2,19 +2,20 @@
 
 ghost use Rattle.std.specs.Iterator.{IsFinite};
 
-use crate::rows::calls::{Pieces, ViewCall};
+use crate::rows::calls::{PartCall, Pieces, ViewCall};
 use crate::rows::element::Element;
-use crate::rows::layouts::{Table, cut};
-use crate::rows::reading::viewed;
+use crate::rows::layouts::{Layout, Table, cut};
+use crate::rows::reading::{View, kind, viewed};
 use crate::rows::shown::{as_text, push_word};
 use crate::rows::spelling::{axis, index, number};
 use crate::rows::steps::Step;
-use ndarray::iter::{AxisChunksIterMut, AxisIterMut};
+use ndarray::iter::{AxisChunksIterMut, AxisIterMut, ElementsBaseMut};
 use ndarray::{Array, ArrayBase, ArrayViewMut, Axis, DataMut, IxDyn, Lengths};
 use std::alloc::{AllocError, Global};
 
 /// How the calls of a row that writes ended.
-enum Ending {
+#[derive(Clone, Copy)]
+pub enum Ending {
     /// So many of the steps found no item.
     Done(usize),
     /// A test of the library says no.
@@ -33,23 +34,61 @@ pub fn answer<A: Element>(
     calls: &[&str],
 ) -> Result<String, AllocError> {
     let layout = table.layout;
-    let mut array = match table.into_array() {
-        Ok(array) => array,
-        Err(error) => return format!(in alloc; "{:?}", error.kind()),
-    };
+    match table.into_array() {
+        Ok(array) => written_in(alloc, array, layout, calls),
+        Err(error) => kind(alloc, &error),
+    }
+}
+
+/// What a table holds after the calls on a view to write in of the array in which it lies.
+fn written_in<A: Element>(
+    alloc: Global,
+    given: Array<A, IxDyn>,
+    layout: Layout,
+    calls: &[&str],
+) -> Result<String, AllocError> {
+    let mut array = given;
     let outside = hidden(&array);
-    let mut view = array.view_mut();
-    cut(&mut view, layout);
-    let missing = match viewed_and_written(alloc, view, calls)? {
-        Ending::Done(missing) => missing,
-        Ending::Refused => return "refused".to_string(alloc),
-        Ending::Unknown => return "not understood".to_string(alloc),
-    };
+    let ending = through_view(alloc, &mut array, layout, calls)?;
     if hidden(&array) != outside {
         return "a place outside the table is written".to_string(alloc);
     }
     cut(&mut array, layout);
-    let mut text = as_text(alloc, &array.view())?;
+    ending_shown(alloc, &array.view(), ending)
+}
+
+/// Carries out the calls on a view to write in.
+fn through_view<A: Element>(
+    alloc: Global,
+    array: &mut Array<A, IxDyn>,
+    layout: Layout,
+    calls: &[&str],
+) -> Result<Ending, AllocError> {
+    let mut view = array.view_mut();
+    cut(&mut view, layout);
+    viewed_and_written(alloc, view, calls)
+}
+
+/// What a table holds after the calls, or why they ended.
+pub fn ending_shown<A: Element>(
+    alloc: Global,
+    table: &View<'_, A>,
+    ending: Ending,
+) -> Result<String, AllocError> {
+    match ending {
+        Ending::Done(missing) => left(alloc, table, missing),
+        Ending::Refused => "refused".to_string(alloc),
+        Ending::Unknown => "not understood".to_string(alloc),
+    }
+}
+
+/// What a table holds, and `none` for each step that found no item.
+fn left<A: Element>(
+    alloc: Global,
+    table: &View<'_, A>,
+    missing: usize,
+) -> Result<String, AllocError> {
+    let mut text = as_text(alloc, table)?;
     for _ in 0..missing {
         push_word(&mut text, "none")?;
     }
@@ -67,10 +106,29 @@ fn hidden<A: Element>(array: &Array<A, IxDyn>) -> usize {
     count
 }
 
-/// Makes the views that the calls name, one of another, and writes as the last calls say.
-fn viewed_and_written<A: Element>(
+/// Borrows a part of a view, where the first call says so, and carries out the others on it.
+fn viewed_and_written<'a, A: Element + 'a>(
     alloc: Global,
-    given: ArrayViewMut<'_, A, IxDyn>,
+    given: ArrayViewMut<'a, A, IxDyn>,
+    calls: &[&str],
+) -> Result<Ending, AllocError> {
+    let mut view = given;
+    let Some((call, rest)) = calls.split_first() else {
+        return Ok(Ending::Unknown);
+    };
+    match part_spelled(alloc, *call)? {
+        Some(call) => match part_of(&mut view, call) {
+            Some(part) => called(alloc, part, rest),
+            None => Ok(Ending::Refused),
+        },
+        None => called(alloc, view, calls),
+    }
+}
+
+/// Makes the views that the calls name, one of another, and writes as the last calls say.
+fn called<'a, A: Element + 'a>(
+    alloc: Global,
+    given: ArrayViewMut<'a, A, IxDyn>,
     calls: &[&str],
 ) -> Result<Ending, AllocError> {
     let mut view = given;
@@ -80,7 +138,7 @@ fn viewed_and_written<A: Element>(
         let Some(call) = ViewCall::spelled(words) else {
             let steps = calls.get(at.wrapping_add(1)..).unwrap_or(&[]);
             return match Step::all_spelled(alloc, steps)? {
-                Some(steps) => written(alloc, &mut view, words, steps.as_slice()),
+                Some(steps) => ended(alloc, view, words, steps.as_slice()),
                 None => Ok(Ending::Unknown),
             };
         };
@@ -92,34 +150,131 @@ fn viewed_and_written<A: Element>(
     Ok(Ending::Unknown)
 }
 
-/// Writes to the items of a call.
-fn written<A: Element, S: DataMut<Elem = A>>(
+/// Writes to the items of a call, which may take the view itself.
+fn ended<'a, A: Element + 'a>(
+    alloc: Global,
+    given: ArrayViewMut<'a, A, IxDyn>,
+    words: &[&str],
+    steps: &[Step],
+) -> Result<Ending, AllocError> {
+    match words {
+        ["into_iter"] => Ok(cells_written(given, steps)),
+        ["elements_base_mut"] => Ok(elements_written(given, steps)),
+        words => {
+            let mut view = given;
+            written(alloc, &mut view, words, steps)
+        }
+    }
+}
+
+/// Writes to the items of an iterator that is made of a view.
+fn cells_written<'a, A: Element + 'a>(view: ArrayViewMut<'a, A, IxDyn>, steps: &[Step]) -> Ending {
+    stepped(view.into_iter(), steps)
+}
+
+/// Writes to the elements of a view.
+fn elements_written<'a, A: Element + 'a>(
+    view: ArrayViewMut<'a, A, IxDyn>,
+    steps: &[Step],
+) -> Ending {
+    stepped(ElementsBaseMut::new(view), steps)
+}
+
+/// The call that this text spells, where it borrows a part to write in.
+fn part_spelled(alloc: Global, call: &str) -> Result<Option<PartCall>, AllocError> {
+    let words: Vec<&str> = call.split_whitespace().collect(alloc)?;
+    match words.as_slice() {
+        [name, arguments @ ..] => match name.strip_suffix("_mut") {
+            Some(name) => Ok(PartCall::spelled(name, arguments)),
+            None => Ok(None),
+        },
+        [] => Ok(None),
+    }
+}
+
+/// The part of a view that a call borrows; `None` where its test says no.
+fn part_of<A: Element, S: DataMut<Elem = A>>(
+    array: &mut ArrayBase<S, IxDyn>,
+    call: PartCall,
+) -> Option<ArrayViewMut<'_, A, IxDyn>> {
+    match call {
+        PartCall::View => Some(array.view_mut()),
+        PartCall::SliceAxis(axis, slice) if array.slice_ok(axis, &slice) => {
+            Some(array.slice_axis_mut(axis, slice))
+        }
+        PartCall::IndexAxis(axis, index) if array.axis_ok(axis) && index < array.len_of(axis) => {
+            Some(array.index_axis_mut(axis, index))
+        }
+        _ => None,
+    }
+}
+
+/// Writes to the items of a call, whatever keeps the cells.
+pub fn written<A: Element, S: DataMut<Elem = A>>(
     alloc: Global,
     array: &mut ArrayBase<S, IxDyn>,
     words: &[&str],
     steps: &[Step],
 ) -> Result<Ending, AllocError> {
-    let ending = match words {
-        ["iter_mut"] => stepped(array.iter_mut(), steps),
-        ["indexed_iter_mut"] => stepped(array.indexed_iter_mut(), steps),
-        ["get_mut", at @ .., value] => match (index(alloc, at)?, number(*value)) {
-            (Some(at), Some(value)) => set(array, at, value),
-            _ => Ending::Unknown,
-        },
+    match words {
+        ["get_mut", at @ .., value] => set_at(alloc, array, at, *value),
         ["split_at", at, index] => match (axis(*at), number(*index)) {
-            (Some(axis), Some(index)) => both_parts(array, axis, index),
-            _ => Ending::Unknown,
+            (Some(axis), Some(index)) => Ok(both_parts(array, axis, index)),
+            _ => Ok(Ending::Unknown),
         },
-        [name, arguments @ ..] => match name.strip_suffix("_mut") {
-            Some(name) => match Pieces::spelled(alloc, name, arguments)? {
-                Some(pieces) => pieces_written(array, pieces, steps),
-                None => Ending::Unknown,
-            },
-            None => Ending::Unknown,
+        [name, arguments @ ..] => match pieces_spelled(alloc, *name, arguments)? {
+            Some(pieces) => Ok(pieces_written(array, pieces, steps)),
+            None => Ok(each_written(array, *name, steps)),
         },
-        [] => Ending::Unknown,
-    };
-    Ok(ending)
+        [] => Ok(Ending::Unknown),
+    }
+}
+
+/// The call of this name, where it yields subviews to write in.
+fn pieces_spelled(
+    alloc: Global,
+    name: &str,
+    arguments: &[&str],
+) -> Result<Option<Pieces>, AllocError> {
+    match name.strip_suffix("_mut") {
+        Some(name) => Pieces::spelled(alloc, name, arguments),
+        None => Ok(None),
+    }
+}
+
+/// Writes to each cell of an iterator over cells.
+fn each_written<A: Element, S: DataMut<Elem = A>>(
+    array: &mut ArrayBase<S, IxDyn>,
+    name: &str,
+    steps: &[Step],
+) -> Ending {
+    match name {
+        "iter_mut" => stepped(array.iter_mut(), steps),
+        "indexed_iter_mut" => stepped(array.indexed_iter_mut(), steps),
+        "mut_into_iter" => by_reference(array, steps),
+        _ => Ending::Unknown,
+    }
+}
+
+/// Writes a number to the cell at an index list, where both are spelled.
+fn set_at<A: Element, S: DataMut<Elem = A>>(
+    alloc: Global,
+    array: &mut ArrayBase<S, IxDyn>,
+    at: &[&str],
+    value: &str,
+) -> Result<Ending, AllocError> {
+    match (index(alloc, at)?, number(value)) {
+        (Some(at), Some(value)) => Ok(set(array, at, value)),
+        _ => Ok(Ending::Unknown),
+    }
+}
+
+/// Writes to the items of an iterator that is made of a reference to an array.
+fn by_reference<A: Element, S: DataMut<Elem = A>>(
+    array: &mut ArrayBase<S, IxDyn>,
+    steps: &[Step],
+) -> Ending {
+    stepped(array.into_iter(), steps)
 }
 
 /// Writes a number to the cell at an index list.
@@ -165,6 +320,17 @@ fn pieces_written<A: Element, S: DataMut<Elem = A>>(
         Pieces::AxisChunksIter(axis, size) if array.chunk_ok(axis, size) => {
             parted(array.axis_chunks_iter_mut(axis, size), steps)
         }
+        pieces => lanes_written(array, pieces, steps),
+    }
+}
+
+/// Writes to the lanes or the whole chunks of a call.
+fn lanes_written<A: Element, S: DataMut<Elem = A>>(
+    array: &mut ArrayBase<S, IxDyn>,
+    pieces: Pieces,
+    steps: &[Step],
+) -> Ending {
+    match pieces {
         Pieces::Lanes(axis) if array.lanes_ok(axis) => {
             stepped(array.lanes_mut(axis).into_iter(), steps)
         }
@@ -185,11 +351,19 @@ fn pieces_written<A: Element, S: DataMut<Elem = A>>(
 trait Writable: Drop {
     /// Writes the number of the item.
     fn write(self, number: usize);
+
+    /// Writes to one cell after another the number `first` and those after it, and answers the next one.
+    fn write_cells(self, first: usize) -> usize;
 }
 
 impl<'a, A: Element> Writable for &'a mut A {
     fn write(self, number: usize) {
         *self = A::of(number);
+    }
+
+    fn write_cells(self, first: usize) -> usize {
+        *self = A::of(first);
+        first.wrapping_add(1)
     }
 }
 
@@ -199,6 +373,16 @@ impl<'a, A: Element, D: Lengths> Writable for ArrayViewMut<'a, A, D> {
         for cell in view.iter_mut() {
             *cell = A::of(number);
         }
+    }
+
+    fn write_cells(self, first: usize) -> usize {
+        let mut view = self;
+        let mut number = first;
+        for cell in view.iter_mut() {
+            *cell = A::of(number);
+            number = number.wrapping_add(1);
+        }
+        number
     }
 }
 
@@ -210,6 +394,12 @@ impl<'a, A: Element> Writable for (IxDyn, &'a mut A) {
             digits = digits.wrapping_mul(10).wrapping_add(*digit);
         }
         *cell = A::of(digits);
+    }
+
+    fn write_cells(self, first: usize) -> usize {
+        let (_index, cell) = self;
+        *cell = A::of(first);
+        first.wrapping_add(1)
     }
 }
 
@@ -233,6 +423,10 @@ where
             }
             Step::Rest => {
                 write_rest(items, number);
+                return Ending::Done(missing);
+            }
+            Step::Cells => {
+                write_cells(items, number);
                 return Ending::Done(missing);
             }
             _ => return Ending::Unknown,
@@ -278,6 +472,10 @@ where
                 write_rest(items, number);
                 return Ending::Done(missing);
             }
+            Step::Cells => {
+                write_cells(items, number);
+                return Ending::Done(missing);
+            }
             _ => return Ending::Unknown,
         };
         match item {
@@ -287,6 +485,19 @@ where
         number = number.wrapping_add(1);
     }
     Ending::Done(missing)
+}
+
+/// Writes numbers from `first` on to the cells of all items, one after another.
+fn write_cells<I: Iterator + Drop>(items: I, first: usize)
+where
+    I::Item: Writable,
+    requires can { I.can_next items }
+    requires ends { IsFinite (I.remaining items) }
+{
+    let mut number = first;
+    for item in items {
+        number = item.write_cells(number);
+    }
 }
 
 /// Writes their numbers to all items.

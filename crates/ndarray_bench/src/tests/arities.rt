@@ -1,5 +1,8 @@
-//! Every call of `Zip`, for each number of producers: over any producer of nested pairs of numbers, since the
-//! proof of each call at six arrays takes a minute, and then at an array in each place.
+//! Every call of `Zip` for one, two and three producers: over any producer of nested pairs of numbers, since the proof of
+//! each call at arrays is dear, and then at an array in each place. Chains of up to six arrays run unproved, by
+//! scripts/arities.
+//!
+//! The answers are the digits of the numbers at an index, and change where two arguments are exchanged.
 
 ghost use Rattle.std.specs.Prelude.{◌≡◌};
 
@@ -11,9 +14,23 @@ use std::cell::Cell;
 use std::process::Abort;
 use std::test::Fail;
 
-const NUMBERS: &[u64] = &[1, 10];
+const FIRST: &[u64] = &[1, 6];
 
-/// The sums of 1 and of 10, one at a time, by each call that leaves the array in peace.
+const SECOND: &[u64] = &[2, 5];
+
+const THIRD: &[u64] = &[3, 4];
+
+/// The number whose last digit is the second one: 1 and 2 are 12.
+fn two_digits(a: u64, b: u64) -> u64 {
+    a.wrapping_mul(10).wrapping_add(b)
+}
+
+/// The number of three digits: 1, 2 and 3 are 123.
+fn three_digits(a: u64, b: u64, c: u64) -> u64 {
+    two_digits(two_digits(a, b), c)
+}
+
+/// The numbers of index 0 and of index 1, by each call that leaves the arrays as they are.
 fn one_walked<
     'a,
     N: NdProducer<Item = &'a u64, Dim = Ix1>,
@@ -22,10 +39,10 @@ fn one_walked<
     requires { F.pre make }
 {
     let total = Cell::new(0u64);
-    make()?.for_each(|a| total.set(total.get().wrapping_add(*a)));
-    same(rt, total.get(), 11);
-    let folded = make()?.fold(0, |acc: u64, a| acc.wrapping_add(*a));
-    same(rt, folded, 11);
+    make()?.for_each(|a| total.set(total.get().wrapping_mul(10).wrapping_add(*a)));
+    same(rt, total.get(), 16);
+    let folded = make()?.fold(0, |acc: u64, a| acc.wrapping_mul(10).wrapping_add(*a));
+    same(rt, folded, 16);
     let ended = make()?.fold_while(0, |acc: u64, a| {
         if acc > 0 {
             FoldWhile::Done(acc)
@@ -34,14 +51,14 @@ fn one_walked<
         }
     });
     same(rt, ended.into_inner(), 1);
-    holds(rt, make()?.all(|a| *a > 0));
-    holds(rt, make()?.any(|a| *a == 10));
-    let sums = make()?.map_collect(alloc, |a| *a)?;
-    same(rt, sums.get(1), Some(&10));
+    holds(rt, !make()?.all(|a| *a == 1));
+    holds(rt, make()?.any(|a| *a == 6));
+    let made = make()?.map_collect(alloc, |a| *a)?;
+    same(rt, (made.get(0), made.get(1)), (Some(&1), Some(&6)));
     Ok(())
 }
 
-/// Leaves these sums in an array.
+/// Leaves these numbers in an array.
 fn one_assigned<'a, N: NdProducer<Item = &'a u64, Dim = Ix1>>(
     zip: Zip<Parts<N, 1>, Ix1>,
     into: &mut Array<u64, Ix1>,
@@ -51,7 +68,7 @@ fn one_assigned<'a, N: NdProducer<Item = &'a u64, Dim = Ix1>>(
     zip.map_assign_into(into, |a| *a);
 }
 
-/// The sums of 1 and of 10, two at a time, by each call that leaves the array in peace.
+/// The numbers of index 0 and of index 1, by each call that leaves the arrays as they are.
 fn two_walked<
     'a,
     N: NdProducer<Item = (&'a u64, &'a u64), Dim = Ix1>,
@@ -60,36 +77,44 @@ fn two_walked<
     requires { F.pre make }
 {
     let total = Cell::new(0u64);
-    make()?.for_each(|a, b| total.set(total.get().wrapping_add(a.wrapping_add(*b))));
-    same(rt, total.get(), 22);
-    let folded = make()?.fold(0, |acc: u64, a, b| acc.wrapping_add(a.wrapping_add(*b)));
-    same(rt, folded, 22);
+    make()?.for_each(|a, b| total.set(
+        total
+            .get()
+            .wrapping_mul(100)
+            .wrapping_add(two_digits(*a, *b)),
+    ));
+    same(rt, total.get(), 1_265);
+    let folded = make()?.fold(
+        0,
+        |acc: u64, a, b| acc.wrapping_mul(100).wrapping_add(two_digits(*a, *b)),
+    );
+    same(rt, folded, 1_265);
     let ended = make()?.fold_while(0, |acc: u64, a, b| {
         if acc > 0 {
             FoldWhile::Done(acc)
         } else {
-            FoldWhile::Continue(a.wrapping_add(*b))
+            FoldWhile::Continue(two_digits(*a, *b))
         }
     });
-    same(rt, ended.into_inner(), 2);
-    holds(rt, make()?.all(|a, b| a.wrapping_add(*b) > 0));
-    holds(rt, make()?.any(|a, b| a.wrapping_add(*b) == 20));
-    let sums = make()?.map_collect(alloc, |a, b| a.wrapping_add(*b))?;
-    same(rt, sums.get(1), Some(&20));
+    same(rt, ended.into_inner(), 12);
+    holds(rt, !make()?.all(|a, b| two_digits(*a, *b) == 12));
+    holds(rt, make()?.any(|a, b| two_digits(*a, *b) == 65));
+    let made = make()?.map_collect(alloc, |a, b| two_digits(*a, *b))?;
+    same(rt, (made.get(0), made.get(1)), (Some(&12), Some(&65)));
     Ok(())
 }
 
-/// Leaves these sums in an array.
+/// Leaves these numbers in an array.
 fn two_assigned<'a, N: NdProducer<Item = (&'a u64, &'a u64), Dim = Ix1>>(
     zip: Zip<Parts<N, 2>, Ix1>,
     into: &mut Array<u64, Ix1>,
 )
     requires { N.lengths zip.nested ≡ into.old.lengths }
 {
-    zip.map_assign_into(into, |a, b| a.wrapping_add(*b));
+    zip.map_assign_into(into, |a, b| two_digits(*a, *b));
 }
 
-/// The sums of 1 and of 10, three at a time, by each call that leaves the array in peace.
+/// The numbers of index 0 and of index 1, by each call that leaves the arrays as they are.
 fn three_walked<
     'a,
     N: NdProducer<Item = ((&'a u64, &'a u64), &'a u64), Dim = Ix1>,
@@ -101,328 +126,80 @@ fn three_walked<
     make()?.for_each(|a, b, c| total.set(
         total
             .get()
-            .wrapping_add(a.wrapping_add(*b).wrapping_add(*c)),
+            .wrapping_mul(1_000)
+            .wrapping_add(three_digits(*a, *b, *c)),
     ));
-    same(rt, total.get(), 33);
+    same(rt, total.get(), 123_654);
     let folded = make()?.fold(
         0,
-        |acc: u64, a, b, c| acc.wrapping_add(a.wrapping_add(*b).wrapping_add(*c)),
+        |acc: u64, a, b, c| acc
+            .wrapping_mul(1_000)
+            .wrapping_add(three_digits(*a, *b, *c)),
     );
-    same(rt, folded, 33);
+    same(rt, folded, 123_654);
     let ended = make()?.fold_while(0, |acc: u64, a, b, c| {
         if acc > 0 {
             FoldWhile::Done(acc)
         } else {
-            FoldWhile::Continue(a.wrapping_add(*b).wrapping_add(*c))
+            FoldWhile::Continue(three_digits(*a, *b, *c))
         }
     });
-    same(rt, ended.into_inner(), 3);
-    holds(
-        rt,
-        make()?.all(|a, b, c| a.wrapping_add(*b).wrapping_add(*c) > 0),
-    );
-    holds(
-        rt,
-        make()?.any(|a, b, c| a.wrapping_add(*b).wrapping_add(*c) == 30),
-    );
-    let sums = make()?.map_collect(alloc, |a, b, c| a.wrapping_add(*b).wrapping_add(*c))?;
-    same(rt, sums.get(1), Some(&30));
+    same(rt, ended.into_inner(), 123);
+    holds(rt, !make()?.all(|a, b, c| three_digits(*a, *b, *c) == 123));
+    holds(rt, make()?.any(|a, b, c| three_digits(*a, *b, *c) == 654));
+    let made = make()?.map_collect(alloc, |a, b, c| three_digits(*a, *b, *c))?;
+    same(rt, (made.get(0), made.get(1)), (Some(&123), Some(&654)));
     Ok(())
 }
 
-/// Leaves these sums in an array.
+/// Leaves these numbers in an array.
 fn three_assigned<'a, N: NdProducer<Item = ((&'a u64, &'a u64), &'a u64), Dim = Ix1>>(
     zip: Zip<Parts<N, 3>, Ix1>,
     into: &mut Array<u64, Ix1>,
 )
     requires { N.lengths zip.nested ≡ into.old.lengths }
 {
-    zip.map_assign_into(into, |a, b, c| a.wrapping_add(*b).wrapping_add(*c));
-}
-
-/// The sums of 1 and of 10, four at a time, by each call that leaves the array in peace.
-fn four_walked<
-    'a,
-    N: NdProducer<Item = (((&'a u64, &'a u64), &'a u64), &'a u64), Dim = Ix1>,
-    F: Fn() -> Result<Zip<Parts<N, 4>, Ix1>, AllocError>,
->(rt: &impl Abort, alloc: Global, make: F) -> Result<(), AllocError>
-    requires { F.pre make }
-{
-    let total = Cell::new(0u64);
-    make()?.for_each(|a, b, c, d| total.set(
-        total
-            .get()
-            .wrapping_add(a.wrapping_add(*b).wrapping_add(*c).wrapping_add(*d)),
-    ));
-    same(rt, total.get(), 44);
-    let folded = make()?.fold(
-        0,
-        |acc: u64, a, b, c, d| acc.wrapping_add(
-            a.wrapping_add(*b).wrapping_add(*c).wrapping_add(*d),
-        ),
-    );
-    same(rt, folded, 44);
-    let ended = make()?.fold_while(0, |acc: u64, a, b, c, d| {
-        if acc > 0 {
-            FoldWhile::Done(acc)
-        } else {
-            FoldWhile::Continue(a.wrapping_add(*b).wrapping_add(*c).wrapping_add(*d))
-        }
-    });
-    same(rt, ended.into_inner(), 4);
-    holds(
-        rt,
-        make()?.all(|a, b, c, d| a.wrapping_add(*b).wrapping_add(*c).wrapping_add(*d) > 0),
-    );
-    holds(
-        rt,
-        make()?.any(|a, b, c, d| a.wrapping_add(*b).wrapping_add(*c).wrapping_add(*d) == 40),
-    );
-    let sums = make()?.map_collect(
-        alloc,
-        |a, b, c, d| a.wrapping_add(*b).wrapping_add(*c).wrapping_add(*d),
-    )?;
-    same(rt, sums.get(1), Some(&40));
-    Ok(())
-}
-
-/// Leaves these sums in an array.
-fn four_assigned<'a, N: NdProducer<Item = (((&'a u64, &'a u64), &'a u64), &'a u64), Dim = Ix1>>(
-    zip: Zip<Parts<N, 4>, Ix1>,
-    into: &mut Array<u64, Ix1>,
-)
-    requires { N.lengths zip.nested ≡ into.old.lengths }
-{
-    zip.map_assign_into(
-        into,
-        |a, b, c, d| a.wrapping_add(*b).wrapping_add(*c).wrapping_add(*d),
-    );
-}
-
-/// The sums of 1 and of 10, five at a time, by each call that leaves the array in peace.
-fn five_walked<
-    'a,
-    N: NdProducer<Item = ((((&'a u64, &'a u64), &'a u64), &'a u64), &'a u64), Dim = Ix1>,
-    F: Fn() -> Result<Zip<Parts<N, 5>, Ix1>, AllocError>,
->(rt: &impl Abort, alloc: Global, make: F) -> Result<(), AllocError>
-    requires { F.pre make }
-{
-    let total = Cell::new(0u64);
-    make()?.for_each(|a, b, c, d, e| total.set(
-        total.get().wrapping_add(
-            a.wrapping_add(*b)
-                .wrapping_add(*c)
-                .wrapping_add(*d)
-                .wrapping_add(*e),
-        ),
-    ));
-    same(rt, total.get(), 55);
-    let folded = make()?.fold(
-        0,
-        |acc: u64, a, b, c, d, e| acc.wrapping_add(
-            a.wrapping_add(*b)
-                .wrapping_add(*c)
-                .wrapping_add(*d)
-                .wrapping_add(*e),
-        ),
-    );
-    same(rt, folded, 55);
-    let ended = make()?.fold_while(0, |acc: u64, a, b, c, d, e| {
-        if acc > 0 {
-            FoldWhile::Done(acc)
-        } else {
-            FoldWhile::Continue(
-                a.wrapping_add(*b)
-                    .wrapping_add(*c)
-                    .wrapping_add(*d)
-                    .wrapping_add(*e),
-            )
-        }
-    });
-    same(rt, ended.into_inner(), 5);
-    holds(
-        rt,
-        make()?.all(|a, b, c, d, e| a
-            .wrapping_add(*b)
-            .wrapping_add(*c)
-            .wrapping_add(*d)
-            .wrapping_add(*e)
-            > 0),
-    );
-    holds(
-        rt,
-        make()?.any(|a, b, c, d, e| a
-            .wrapping_add(*b)
-            .wrapping_add(*c)
-            .wrapping_add(*d)
-            .wrapping_add(*e)
-            == 50),
-    );
-    let sums = make()?.map_collect(
-        alloc,
-        |a, b, c, d, e| a
-            .wrapping_add(*b)
-            .wrapping_add(*c)
-            .wrapping_add(*d)
-            .wrapping_add(*e),
-    )?;
-    same(rt, sums.get(1), Some(&50));
-    Ok(())
-}
-
-/// Leaves these sums in an array.
-fn five_assigned<
-    'a,
-    N: NdProducer<Item = ((((&'a u64, &'a u64), &'a u64), &'a u64), &'a u64), Dim = Ix1>,
->(zip: Zip<Parts<N, 5>, Ix1>, into: &mut Array<u64, Ix1>)
-    requires { N.lengths zip.nested ≡ into.old.lengths }
-{
-    zip.map_assign_into(
-        into,
-        |a, b, c, d, e| a
-            .wrapping_add(*b)
-            .wrapping_add(*c)
-            .wrapping_add(*d)
-            .wrapping_add(*e),
-    );
-}
-
-/// The sums of 1 and of 10, six at a time, by each call that leaves the array in peace.
-fn six_walked<
-    'a,
-    N: NdProducer<Item = (((((&'a u64, &'a u64), &'a u64), &'a u64), &'a u64), &'a u64), Dim = Ix1>,
-    F: Fn() -> Result<Zip<Parts<N, 6>, Ix1>, AllocError>,
->(rt: &impl Abort, make: F) -> Result<(), AllocError>
-    requires { F.pre make }
-{
-    let total = Cell::new(0u64);
-    make()?.for_each(|a, b, c, d, e, f| total.set(
-        total.get().wrapping_add(
-            a.wrapping_add(*b)
-                .wrapping_add(*c)
-                .wrapping_add(*d)
-                .wrapping_add(*e)
-                .wrapping_add(*f),
-        ),
-    ));
-    same(rt, total.get(), 66);
-    let folded = make()?.fold(
-        0,
-        |acc: u64, a, b, c, d, e, f| acc.wrapping_add(
-            a.wrapping_add(*b)
-                .wrapping_add(*c)
-                .wrapping_add(*d)
-                .wrapping_add(*e)
-                .wrapping_add(*f),
-        ),
-    );
-    same(rt, folded, 66);
-    let ended = make()?.fold_while(0, |acc: u64, a, b, c, d, e, f| {
-        if acc > 0 {
-            FoldWhile::Done(acc)
-        } else {
-            FoldWhile::Continue(
-                a.wrapping_add(*b)
-                    .wrapping_add(*c)
-                    .wrapping_add(*d)
-                    .wrapping_add(*e)
-                    .wrapping_add(*f),
-            )
-        }
-    });
-    same(rt, ended.into_inner(), 6);
-    holds(
-        rt,
-        make()?.all(|a, b, c, d, e, f| a
-            .wrapping_add(*b)
-            .wrapping_add(*c)
-            .wrapping_add(*d)
-            .wrapping_add(*e)
-            .wrapping_add(*f)
-            > 0),
-    );
-    holds(
-        rt,
-        make()?.any(|a, b, c, d, e, f| a
-            .wrapping_add(*b)
-            .wrapping_add(*c)
-            .wrapping_add(*d)
-            .wrapping_add(*e)
-            .wrapping_add(*f)
-            == 60),
-    );
-    Ok(())
+    zip.map_assign_into(into, |a, b, c| three_digits(*a, *b, *c));
 }
 
 #[test]
 fn one_at_a_time(rt: HostRuntime) -> Result<(), Fail> {
-    let x = ArrayView1::from(NUMBERS);
-    let zip = Zip::from(&x);
+    let a = ArrayView1::from(FIRST);
+    let zip = Zip::from(&a);
     one_walked(&rt, rt.alloc(), || zip.clone())?;
     let mut into = Array::<u64, Ix1>::zeros(rt.alloc(), 2)?;
     if zip.fits(&into.view()) {
         one_assigned(zip, &mut into);
     }
-    same(&rt, into.get(1), Some(&10));
+    same(&rt, (into.get(0), into.get(1)), (Some(&1), Some(&6)));
     Ok(())
 }
 
 #[test]
 fn two_at_a_time(rt: HostRuntime) -> Result<(), Fail> {
-    let x = ArrayView1::from(NUMBERS);
-    let zip = Zip::from(&x).and(&x);
+    let a = ArrayView1::from(FIRST);
+    let b = ArrayView1::from(SECOND);
+    let zip = Zip::from(&a).and(&b);
     two_walked(&rt, rt.alloc(), || zip.clone())?;
     let mut into = Array::<u64, Ix1>::zeros(rt.alloc(), 2)?;
     if zip.fits(&into.view()) {
         two_assigned(zip, &mut into);
     }
-    same(&rt, into.get(1), Some(&20));
+    same(&rt, (into.get(0), into.get(1)), (Some(&12), Some(&65)));
     Ok(())
 }
 
 #[test]
 fn three_at_a_time(rt: HostRuntime) -> Result<(), Fail> {
-    let x = ArrayView1::from(NUMBERS);
-    let zip = Zip::from(&x).and(&x).and(&x);
+    let a = ArrayView1::from(FIRST);
+    let b = ArrayView1::from(SECOND);
+    let c = ArrayView1::from(THIRD);
+    let zip = Zip::from(&a).and(&b).and(&c);
     three_walked(&rt, rt.alloc(), || zip.clone())?;
     let mut into = Array::<u64, Ix1>::zeros(rt.alloc(), 2)?;
     if zip.fits(&into.view()) {
         three_assigned(zip, &mut into);
     }
-    same(&rt, into.get(1), Some(&30));
-    Ok(())
-}
-
-#[test]
-fn four_at_a_time(rt: HostRuntime) -> Result<(), Fail> {
-    let x = ArrayView1::from(NUMBERS);
-    let zip = Zip::from(&x).and(&x).and(&x).and(&x);
-    four_walked(&rt, rt.alloc(), || zip.clone())?;
-    let mut into = Array::<u64, Ix1>::zeros(rt.alloc(), 2)?;
-    if zip.fits(&into.view()) {
-        four_assigned(zip, &mut into);
-    }
-    same(&rt, into.get(1), Some(&40));
-    Ok(())
-}
-
-#[test]
-fn five_at_a_time(rt: HostRuntime) -> Result<(), Fail> {
-    let x = ArrayView1::from(NUMBERS);
-    let zip = Zip::from(&x).and(&x).and(&x).and(&x).and(&x);
-    five_walked(&rt, rt.alloc(), || zip.clone())?;
-    let mut into = Array::<u64, Ix1>::zeros(rt.alloc(), 2)?;
-    if zip.fits(&into.view()) {
-        five_assigned(zip, &mut into);
-    }
-    same(&rt, into.get(1), Some(&50));
-    Ok(())
-}
-
-#[test]
-fn six_at_a_time(rt: HostRuntime) -> Result<(), Fail> {
-    let x = ArrayView1::from(NUMBERS);
-    let zip = Zip::from(&x).and(&x).and(&x).and(&x).and(&x).and(&x);
-    six_walked(&rt, || zip.clone())?;
+    same(&rt, (into.get(0), into.get(1)), (Some(&123), Some(&654)));
     Ok(())
 }

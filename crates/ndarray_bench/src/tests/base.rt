@@ -1,9 +1,10 @@
 //! Dimensions, shapes, views, and what they mean.
 
 use crate::tests::asserted::{holds, same};
+use crate::tests::layouts::{line, table};
 use ndarray::{
-    ArrayView, ArrayView1, Axis, Dim, DimMax, Dimension, ErrorKind, IntoDimension, Ix0, Ix1, Ix2,
-    Ix3, Ix4, Ix5, Ix6, IxDyn, Lengths, RemoveAxis, ShapeBuilder,
+    ArrayView, Axis, Dim, DimMax, Dimension, IntoDimension, Ix0, Ix1, Ix2, Ix3, Ix4, Ix5, Ix6,
+    IxDyn, Lengths, RemoveAxis, ShapeBuilder,
 };
 use std::test::Fail;
 
@@ -123,87 +124,28 @@ fn numbers_are_read_and_set(rt: HostRuntime) {
 }
 
 #[test]
-fn a_view_knows_its_lengths(rt: HostRuntime) -> Result<(), Fail> {
-    let view = ArrayView::from_shape((2, 3), &[1i64, 2, 3, 4, 5, 6])?;
-    same(&rt, view.shape(), [2, 3].as_slice());
-    same(&rt, view.ndim(), 2);
-    same(&rt, view.len(), 6);
-    same(&rt, view.len_of(Axis(1)), 3);
+fn index_lists_are_tuples_or_arrays(rt: HostRuntime) -> Result<(), Fail> {
+    let view = table()?;
     same(&rt, view.raw_dim(), Ix2(2, 3));
-    same(&rt, view.t().shape(), [3, 2].as_slice());
+    same(
+        &rt,
+        (view.get((1, 0)), view.get([0, 2])),
+        (Some(&4), Some(&3)),
+    );
+    same(&rt, (view.get((2, 0)), line().get(2)), (None, Some(&3)));
+    let wide = view.broadcast((2, 2, 3)).ok_or("broadcast")?;
+    same(&rt, (wide.len(), wide.get((1, 1, 2))), (12, Some(&6)));
+    holds(&rt, view.broadcast(()).is_none());
     Ok(())
 }
 
 #[test]
-fn a_cell_inside_the_box_alone(rt: HostRuntime) -> Result<(), Fail> {
-    let view = ArrayView::from_shape((2, 3), &[1i64, 2, 3, 4, 5, 6])?;
-    same(&rt, view.get((1, 0)), Some(&4));
-    same(&rt, view.get([0, 2]), Some(&3));
-    same(&rt, view.get((2, 0)), None);
-    same(&rt, view.get((0, 3)), None);
-    same(&rt, view.t().get((2, 1)), Some(&6));
-    let line: ArrayView1<'_, i64> = ArrayView::from_shape(3, &[1, 2, 3])?;
-    same(&rt, line.get(2), Some(&3));
-    let any = ArrayView::from_shape(IxDyn(&[2]), &[1i64, 2])?;
-    same(&rt, any.get(IxDyn(&[1])), Some(&2));
-    same(&rt, any.get(IxDyn(&[1, 0])), None);
-    Ok(())
-}
-
-#[test]
-fn a_shape_takes_the_first_elements(rt: HostRuntime) -> Result<(), Fail> {
-    let view = ArrayView::from_shape((2, 2), &[1i64, 2, 3, 4, 5])?;
-    same(&rt, view.get((1, 1)), Some(&4));
+fn a_shape_in_column_order_takes_the_first_elements(rt: HostRuntime) -> Result<(), Fail> {
     let columns = ArrayView::from_shape((2, 2).f(), &[1i64, 2, 3, 4, 5])?;
-    same(&rt, columns.get((1, 0)), Some(&2));
-    Ok(())
-}
-
-#[test]
-fn shapes_that_are_refused(rt: HostRuntime) {
-    let short = ArrayView::from_shape((2, 3), &[1i64, 2, 3, 4, 5]);
     same(
         &rt,
-        short.err().map(|e| e.kind()),
-        Some(ErrorKind::OutOfBounds),
+        (columns.get((1, 0)), columns.get((1, 1))),
+        (Some(&2), Some(&4)),
     );
-    let none: [i64; 0] = [];
-    let large = ArrayView::from_shape((1 << 32, 1 << 31, 0), &none);
-    same(
-        &rt,
-        large.err().map(|e| e.kind()),
-        Some(ErrorKind::Overflow),
-    );
-    let fits = ArrayView::from_shape((1 << 31, 1 << 31, 0), &none);
-    holds(&rt, fits.is_ok());
-}
-
-#[test]
-fn what_broadcasts_to_what(rt: HostRuntime) -> Result<(), Fail> {
-    let none: [i64; 0] = [];
-    let row = ArrayView::from_shape(3, &[1i64, 2, 3])?;
-    holds(&rt, row.broadcast((2, 3)).is_some());
-    holds(&rt, row.broadcast((3, 2)).is_none());
-    holds(&rt, row.broadcast(()).is_none());
-    let one = ArrayView::from_shape(1, &[7i64])?;
-    same(
-        &rt,
-        one.broadcast((2, 2)).ok_or("one")?.get((1, 1)),
-        Some(&7),
-    );
-    same(&rt, one.broadcast((0, 3)).ok_or("empty")?.len(), 0);
-    let column = ArrayView::from_shape((2, 1), &[1i64, 2])?;
-    same(
-        &rt,
-        column.broadcast((3, 2, 4)).ok_or("column")?.get((2, 1, 3)),
-        Some(&2),
-    );
-    holds(
-        &rt,
-        ArrayView::from_shape((0, 3), &none)?
-            .broadcast((2, 3))
-            .is_none(),
-    );
-    holds(&rt, one.broadcast((1 << 32, 1 << 31)).is_none());
     Ok(())
 }

@@ -1,7 +1,8 @@
 //! Loops that write, in code that does not know what keeps the cells.
 
+use crate::tests::layouts::array;
 use crate::tests::shown::shows;
-use ndarray::{Array, ArrayBase, Axis, DataMut, Dimension, RemoveAxis};
+use ndarray::{ArrayBase, Axis, DataMut, Dimension, RemoveAxis};
 use std::test::Fail;
 
 /// Writes a value into the first cell of each row, then another into the first of each column.
@@ -46,7 +47,7 @@ fn fill_chunks<A: Copy, S: DataMut<Elem = A>, D: Dimension>(array: &mut ArrayBas
 
 #[test]
 fn lanes_are_begun(rt: HostRuntime) -> Result<(), Fail> {
-    let mut array = Array::from_shape_vec((2, 3), vec![in rt.alloc(); 1i64, 2, 3, 4, 5, 6]?)?;
+    let mut array = array(rt.alloc())?;
     begin_lanes(&mut array, 7, 8);
     shows(&rt, rt.alloc(), &array.view(), "[2, 3]: [8, 8, 8, 7, 5, 6]")?;
     begin_lanes(&mut array.view_mut().reversed_axes(), 1, 2);
@@ -56,10 +57,10 @@ fn lanes_are_begun(rt: HostRuntime) -> Result<(), Fail> {
 
 #[test]
 fn items_and_chunks_are_filled(rt: HostRuntime) -> Result<(), Fail> {
-    let mut array = Array::from_shape_vec((2, 2), vec![in rt.alloc(); 1i64, 2, 3, 4]?)?;
+    let mut array = array(rt.alloc())?;
     fill_items(&mut array, 7);
-    shows(&rt, rt.alloc(), &array.view(), "[2, 2]: [7, 7, 7, 7]")?;
+    shows(&rt, rt.alloc(), &array.view(), "[2, 3]: [7, 7, 7, 7, 7, 7]")?;
     fill_chunks(&mut array.view_mut().reversed_axes(), 5);
-    shows(&rt, rt.alloc(), &array.view(), "[2, 2]: [5, 5, 5, 5]")?;
+    shows(&rt, rt.alloc(), &array.view(), "[2, 3]: [5, 5, 5, 5, 5, 5]")?;
     Ok(())
 }

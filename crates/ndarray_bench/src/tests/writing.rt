@@ -1,9 +1,9 @@
-//! What is written through views to write in, one sub-view after another, is read back from the
-//! array.
+//! Views to write in: two held together, a view within a view, and slices taken from them.
 
-use crate::tests::asserted::same;
+use crate::tests::asserted::{holds, same};
+use crate::tests::layouts::{array, line};
 use crate::tests::shown::shows;
-use ndarray::{Array, ArrayBase, ArrayViewMut1, Axis, DataMut, Dimension, Ix0, Ix2, IxDyn};
+use ndarray::{Array, ArrayView, ArrayView1, ArrayViewMut1, Axis, Ix0, Ix2, ShapeBuilder, Slice};
 use std::test::Fail;
 
 /// Writes ten times the first cell of a view into its second.
@@ -17,244 +17,170 @@ fn tenfold(view: &mut ArrayViewMut1<'_, i64>) {
     }
 }
 
-/// Writes a number into the first cell of a view.
-fn begin(view: &mut ArrayViewMut1<'_, i64>, number: i64) {
-    if let Some(cell) = view.get_mut(0) {
-        *cell = number;
-    }
-}
-
-/// Writes a value into the first cell of each row, whatever keeps the cells.
-fn begin_rows<A: Copy, S: DataMut<Elem = A>, D: Dimension>(array: &mut ArrayBase<S, D>, value: A) {
-    for mut row in array.rows_mut() {
-        if let Some(cell) = row.get_mut(0) {
-            *cell = value;
-        }
-    }
-}
-
 #[test]
-fn whole_chunks_are_written_and_the_rest_is_left(rt: HostRuntime) -> Result<(), Fail> {
-    let mut array = Array::from_shape_vec(5, vec![in rt.alloc(); 1i64, 2, 3, 4, 5]?)?;
-    if !array.chunks_ok(&ndarray::Ix1(2)) {
-        return Err("chunk".into());
-    }
-    for mut chunk in array.exact_chunks_mut(2) {
-        tenfold(&mut chunk);
-    }
-    shows(&rt, rt.alloc(), &array.view(), "[5]: [1, 10, 3, 30, 5]")?;
-    Ok(())
-}
-
-#[test]
-fn rows_are_written_one_by_one(rt: HostRuntime) -> Result<(), Fail> {
-    let mut array = Array::from_shape_vec((2, 3), vec![in rt.alloc(); 1i64, 2, 3, 4, 5, 6]?)?;
-    if !array.axis_ok(Axis(0)) {
-        return Err("axis".into());
-    }
-    for mut row in array.axis_iter_mut(Axis(0)) {
-        tenfold(&mut row);
-    }
+fn two_columns_held_together_are_written(rt: HostRuntime) -> Result<(), Fail> {
+    let mut array = array(rt.alloc())?;
+    let mut columns = array.axis_iter_mut(Axis(1));
+    let mut last = columns.next_back().ok_or("last")?;
+    let mut first = columns.next().ok_or("first")?;
+    tenfold(&mut last);
+    tenfold(&mut first);
+    drop(last);
+    drop(first);
+    drop(columns);
     shows(
         &rt,
         rt.alloc(),
         &array.view(),
-        "[2, 3]: [1, 10, 3, 4, 40, 6]",
+        "[2, 3]: [1, 2, 3, 10, 5, 30]",
     )?;
     Ok(())
 }
 
 #[test]
-fn columns_are_written_from_both_ends(rt: HostRuntime) -> Result<(), Fail> {
-    let mut array = Array::from_shape_vec((2, 3), vec![in rt.alloc(); 1i64, 2, 3, 4, 5, 6]?)?;
-    if !array.axis_ok(Axis(1)) {
-        return Err("axis".into());
-    }
-    {
-        let mut columns = array.axis_iter_mut(Axis(1));
-        same(&rt, columns.len(), 3);
-        let mut last = columns.next_back().ok_or("last")?;
-        let mut first = columns.next().ok_or("first")?;
-        same(&rt, columns.len(), 1);
-        begin(&mut last, 7);
-        begin(&mut first, 8);
-        tenfold(&mut last);
-        tenfold(&mut first);
-    }
+fn lanes_of_a_table_are_written_from_the_back(rt: HostRuntime) -> Result<(), Fail> {
+    let mut array = array(rt.alloc())?;
+    let mut lanes = array.rows_mut().into_iter();
+    tenfold(&mut lanes.next_back().ok_or("last")?);
+    drop(lanes);
     shows(
         &rt,
         rt.alloc(),
         &array.view(),
-        "[2, 3]: [8, 2, 7, 80, 5, 70]",
+        "[2, 3]: [1, 2, 3, 4, 40, 6]",
     )?;
     Ok(())
 }
 
 #[test]
-fn an_iterator_is_split_and_both_parts_write(rt: HostRuntime) -> Result<(), Fail> {
-    let mut array = Array::from_shape_vec((3, 2), vec![in rt.alloc(); 1i64, 2, 3, 4, 5, 6]?)?;
-    if !array.axis_ok(Axis(0)) {
-        return Err("axis".into());
+fn a_view_of_a_view_is_written_too(rt: HostRuntime) -> Result<(), Fail> {
+    let mut array = array(rt.alloc())?;
+    let mut view = array.view_mut();
+    let mut inner = view.view_mut().reversed_axes();
+    if let Some(cell) = inner.get_mut((0, 1)) {
+        *cell = 50;
     }
-    {
-        let rows = array.outer_iter_mut();
-        if rows.len() < 1 {
-            return Err("rows".into());
-        }
-        let (mut first, mut rest) = rows.split_at(1);
-        same(&rt, first.len(), 1);
-        same(&rt, rest.len(), 2);
-        let mut last = rest.next_back().ok_or("last")?;
-        let mut row = first.next().ok_or("row")?;
-        tenfold(&mut last);
-        tenfold(&mut row);
+    drop(inner);
+    if let Some(cell) = view.get_mut((0, 0)) {
+        *cell = 10;
     }
+    drop(view);
     shows(
         &rt,
         rt.alloc(),
         &array.view(),
-        "[3, 2]: [1, 10, 3, 4, 5, 50]",
+        "[2, 3]: [10, 2, 3, 50, 5, 6]",
     )?;
     Ok(())
 }
 
 #[test]
-fn lanes_along_each_axis_are_written(rt: HostRuntime) -> Result<(), Fail> {
-    let mut array = Array::from_shape_vec((2, 3), vec![in rt.alloc(); 1i64, 2, 3, 4, 5, 6]?)?;
-    for mut row in array.rows_mut() {
-        tenfold(&mut row);
+fn a_cell_of_one_axis_is_a_view_of_none(rt: HostRuntime) -> Result<(), Fail> {
+    let mut numbers = [1i64, 2, 3];
+    let mut view = ArrayViewMut1::from(numbers.as_mut_slice());
+    if let Some(cell) = view.get_mut(2) {
+        *cell = 9;
     }
+    let mut cell: ndarray::ArrayViewMut<'_, i64, Ix0> = view.index_axis_mut(Axis(0), 1);
+    if let Some(cell) = cell.get_mut(()) {
+        *cell = 8;
+    }
+    drop(cell);
+    drop(view);
+    same(&rt, numbers, [1, 8, 9]);
+    Ok(())
+}
+
+#[test]
+fn views_by_from(rt: HostRuntime) -> Result<(), Fail> {
+    let array = array(rt.alloc())?;
+    let view = ArrayView::from(&array);
+    shows(&rt, rt.alloc(), &view, "[2, 3]: [1, 2, 3, 4, 5, 6]")?;
+    shows(&rt, rt.alloc(), &line(), "[6]: [1, 2, 3, 4, 5, 6]")?;
+    let none: [i64; 0] = [];
     shows(
         &rt,
         rt.alloc(),
-        &array.view(),
-        "[2, 3]: [1, 10, 3, 4, 40, 6]",
+        &ArrayView1::from(none.as_slice()),
+        "[0]: []",
     )?;
-    for mut column in array.columns_mut() {
-        tenfold(&mut column);
+    let units = [(), (), ()];
+    same(&rt, ArrayView1::from(units.as_slice()).len(), 3);
+    Ok(())
+}
+
+#[test]
+fn cells_side_by_side_in_row_order_are_a_slice(rt: HostRuntime) -> Result<(), Fail> {
+    let mut array = array(rt.alloc())?;
+    let Ok(cells) = array.view_mut().try_into_slice() else {
+        return Err("whole".into());
+    };
+    same(&rt, &*cells, [1, 2, 3, 4, 5, 6].as_slice());
+    if let [_, _, _, _, cell, _] = cells {
+        *cell = 9;
     }
-    shows(
+    if !array.axis_ok(Axis(0)) || array.len_of(Axis(0)) != 2 {
+        return Err("rows".into());
+    }
+    let Ok(cells) = array.index_axis_mut(Axis(0), 1).try_into_slice() else {
+        return Err("row".into());
+    };
+    same(&rt, &*cells, [4, 9, 6].as_slice());
+    if let [cell, ..] = cells {
+        *cell = 7;
+    }
+    shows(&rt, rt.alloc(), &array.view(), "[2, 3]: [1, 2, 3, 7, 9, 6]")?;
+    if !array.axis_ok(Axis(1)) || array.len_of(Axis(1)) != 3 {
+        return Err("columns".into());
+    }
+    holds(
         &rt,
-        rt.alloc(),
-        &array.view(),
-        "[2, 3]: [1, 10, 3, 10, 100, 30]",
-    )?;
-    {
-        let mut lanes = array.rows_mut().into_iter();
-        let mut last = lanes.next_back().ok_or("last")?;
-        begin(&mut last, 0);
-    }
-    shows(
-        &rt,
-        rt.alloc(),
-        &array.view(),
-        "[2, 3]: [1, 10, 3, 0, 100, 30]",
-    )?;
+        array.index_axis_mut(Axis(1), 1).try_into_slice().is_err(),
+    );
     Ok(())
 }
 
 #[test]
-fn an_array_of_no_axes_has_one_lane_to_write_in(rt: HostRuntime) -> Result<(), Fail> {
-    let mut array = Array::<i64, Ix0>::from_elem(rt.alloc(), (), 4)?;
-    for mut lane in array.rows_mut() {
-        begin(&mut lane, 9);
+fn a_view_in_column_order_is_given_back(rt: HostRuntime) -> Result<(), Fail> {
+    let items = vec![in rt.alloc(); 1i64, 4, 2, 5, 3, 6]?;
+    let mut array = Array::<i64, Ix2>::from_shape_vec((2, 3).f(), items)?;
+    let Err(given) = array.view_mut().try_into_slice() else {
+        return Err("slice".into());
+    };
+    let mut view = given;
+    shows(&rt, rt.alloc(), &view.view(), "[2, 3]: [1, 2, 3, 4, 5, 6]")?;
+    if let Some(cell) = view.get_mut((1, 0)) {
+        *cell = 8;
     }
-    shows(&rt, rt.alloc(), &array.view(), "[]: [9]")?;
+    drop(view);
+    let Ok(cells) = array.view_mut().reversed_axes().try_into_slice() else {
+        return Err("columns".into());
+    };
+    same(&rt, &*cells, [1, 8, 2, 5, 3, 6].as_slice());
     Ok(())
 }
 
 #[test]
-fn chunks_along_an_axis_are_written_and_the_last_is_shorter(rt: HostRuntime) -> Result<(), Fail> {
-    let mut array = Array::from_shape_vec(5, vec![in rt.alloc(); 1i64, 2, 3, 4, 5]?)?;
-    if !array.chunk_ok(Axis(0), 2) {
-        return Err("chunk".into());
+fn views_of_one_cell_and_of_none_are_slices(rt: HostRuntime) -> Result<(), Fail> {
+    let mut array = array(rt.alloc())?;
+    let mut column = array.slice_axis_mut(Axis(1), Slice::new(2, None, -3));
+    let one = column.slice_axis_mut(Axis(0), Slice::new(1, None, 1));
+    let Ok(cells) = one.try_into_slice() else {
+        return Err("one".into());
+    };
+    same(&rt, &*cells, [6].as_slice());
+    if let [cell] = cells {
+        *cell = 0;
     }
-    {
-        let mut chunks = array.axis_chunks_iter_mut(Axis(0), 2);
-        same(&rt, chunks.len(), 3);
-        let mut last = chunks.next_back().ok_or("last")?;
-        same(&rt, last.len(), 1);
-        begin(&mut last, 6);
-        if chunks.len() < 1 {
-            return Err("chunks".into());
-        }
-        let (first, rest) = chunks.split_at(1);
-        for mut chunk in rest {
-            begin(&mut chunk, 7);
-        }
-        for mut chunk in first {
-            tenfold(&mut chunk);
-        }
+    drop(column);
+    shows(&rt, rt.alloc(), &array.view(), "[2, 3]: [1, 2, 3, 4, 5, 0]")?;
+    let none = Slice::new(2, None, 1);
+    if !array.slice_ok(Axis(0), &none) {
+        return Err("none".into());
     }
-    shows(&rt, rt.alloc(), &array.view(), "[5]: [1, 10, 7, 4, 6]")?;
-    Ok(())
-}
-
-#[test]
-fn both_parts_of_a_view_write(rt: HostRuntime) -> Result<(), Fail> {
-    let mut array = Array::from_shape_vec(4, vec![in rt.alloc(); 1i64, 2, 3, 4]?)?;
-    if !array.axis_ok(Axis(0)) || array.len_of(Axis(0)) < 2 {
-        return Err("axis".into());
-    }
-    {
-        let mut turned = array.view_mut();
-        if !turned.axis_ok(Axis(0)) {
-            return Err("axis".into());
-        }
-        turned.invert_axis(Axis(0));
-        if !turned.axis_ok(Axis(0)) || turned.len_of(Axis(0)) < 2 {
-            return Err("turned".into());
-        }
-        let (mut first, mut second) = turned.split_at(Axis(0), 2);
-        tenfold(&mut second);
-        tenfold(&mut first);
-    }
-    shows(&rt, rt.alloc(), &array.view(), "[4]: [20, 2, 40, 4]")?;
-    Ok(())
-}
-
-#[test]
-fn chunks_of_two_axes_are_written_in_any_layout(rt: HostRuntime) -> Result<(), Fail> {
-    let cells = vec![in rt.alloc(); 1i64, 2, 3, 4, 5, 6, 7, 8, 9, 10, 11, 12, 13, 14, 15]?;
-    let mut array = Array::<i64, Ix2>::from_shape_vec((3, 5), cells)?;
-    array.swap_axes(0, 1);
-    if !array.chunks_ok(&ndarray::Ix2(2, 2)) {
-        return Err("chunks".into());
-    }
-    for mut chunk in array.exact_chunks_mut((2, 2)) {
-        if let Some(cell) = chunk.get_mut((1, 1)) {
-            *cell = 0;
-        }
-    }
-    shows(
-        &rt,
-        rt.alloc(),
-        &array.view(),
-        "[5, 3]: [1, 6, 11, 2, 0, 12, 3, 8, 13, 4, 0, 14, 5, 10, 15]",
-    )?;
-    Ok(())
-}
-
-#[test]
-fn an_axis_without_cells_has_items_to_write_in(rt: HostRuntime) -> Result<(), Fail> {
-    let mut none = Array::<i64, IxDyn>::zeros(rt.alloc(), IxDyn(&[2, 0]))?;
-    if !none.axis_ok(Axis(0)) || !none.axis_ok(Axis(1)) {
-        return Err("axis".into());
-    }
-    same(&rt, none.axis_iter_mut(Axis(0)).len(), 2);
-    if !none.axis_ok(Axis(0)) || !none.axis_ok(Axis(1)) {
-        return Err("axis".into());
-    }
-    same(&rt, none.axis_iter_mut(Axis(1)).len(), 0);
-    Ok(())
-}
-
-#[test]
-fn rows_of_an_array_and_of_a_view_are_written_alike(rt: HostRuntime) -> Result<(), Fail> {
-    let mut array = Array::from_shape_vec((2, 2), vec![in rt.alloc(); 1i64, 2, 3, 4]?)?;
-    begin_rows(&mut array, 5);
-    shows(&rt, rt.alloc(), &array.view(), "[2, 2]: [5, 2, 5, 4]")?;
-    begin_rows(&mut array.view_mut().reversed_axes(), 6);
-    shows(&rt, rt.alloc(), &array.view(), "[2, 2]: [6, 6, 5, 4]")?;
+    let Ok(cells) = array.slice_axis_mut(Axis(0), none).try_into_slice() else {
+        return Err("none".into());
+    };
+    same(&rt, cells.len(), 0);
     Ok(())
 }

@@ -1,159 +1,74 @@
-//! Walking arrays together.
+//! Walking arrays together: what a proof of a caller needs. What each call answers is tested by
+//! crates/ndarray_bench/unproved/zip.txt, and proved in the library.
 
 use crate::tests::asserted::{holds, same};
-use crate::tests::layouts::layouts;
+use crate::tests::layouts::{array, table};
+use crate::tests::shown::shows;
 use crate::walked::products_of_two_layouts;
-use ndarray::{ArrayView, ArrayView1, FoldWhile, ShapeBuilder, Zip, azip};
+use ndarray::{Array, ArrayBase, ArrayView1, Axis, Data, DataMut, Ix2, Zip, azip};
+use std::alloc::{AllocError, Global};
 use std::cell::Cell;
 use std::test::Fail;
 
 #[test]
-fn dot_of_two_layouts(rt: HostRuntime) -> Result<(), Fail> {
-    let a = ArrayView::from_shape((2, 2).f(), &[1u64, 3, 5, 7])?;
-    let b = ArrayView::from_shape((2, 2), &[2u64, 4, 8, 6])?;
-    if Zip::from(&a).fits(&b) {
-        let total = Zip::from(&a)
-            .and(&b)
-            .fold(0, |acc: u64, x, y| acc.wrapping_add(x.wrapping_mul(*y)));
-        same(&rt, total, 88);
-    }
+fn dot_of_two_layouts(rt: HostRuntime) {
     same(&rt, products_of_two_layouts(), 88);
+}
+
+#[test]
+fn what_fits_and_what_broadcasts(rt: HostRuntime) -> Result<(), Fail> {
+    let a = table()?;
+    let pair = ArrayView1::from([10i64, 20].as_slice());
+    holds(&rt, !Zip::from(&a).fits(&a.t()));
+    holds(&rt, !Zip::from(&a).broadcasts(&pair));
+    holds(&rt, Zip::from(&a).broadcasts(&a.index_axis(Axis(0), 1)));
     Ok(())
 }
 
 #[test]
-fn the_order_is_row_or_column_order(rt: HostRuntime) -> Result<(), Fail> {
-    let a = ArrayView::from_shape((2, 2).f(), &[1u64, 3, 2, 4])?;
-    let digits = Zip::from(&a).fold(0, |acc: u64, x| acc.wrapping_mul(10).wrapping_add(*x));
-    holds(&rt, digits == 1234 || digits == 1324);
+fn azip_adds(rt: HostRuntime) -> Result<(), Fail> {
+    let a = table()?;
+    let total = Cell::new(0i64);
+    azip!((&x in &a) total.set(total.get().wrapping_add(x)));
+    same(&rt, total.get(), 21);
     Ok(())
 }
 
-#[test]
-fn no_axes_is_one_call(rt: HostRuntime) -> Result<(), Fail> {
-    let point = ArrayView::from_shape((), &[7u64])?;
-    let calls = Cell::new(0u64);
-    Zip::from(&point).for_each(|x| calls.set(calls.get().wrapping_add(*x)));
-    same(&rt, calls.get(), 7);
-    same(&rt, Zip::from(&point).size(), 1);
-    Ok(())
-}
-
-#[test]
-fn empty_axes_are_no_call(rt: HostRuntime) -> Result<(), Fail> {
-    let empty = ArrayView::from_shape((0, 3), &[0u64; 0])?;
-    let calls = Cell::new(0u64);
-    let count = |x: &u64| calls.set(calls.get().wrapping_add(1).wrapping_add(*x));
-    let all = Zip::from(&empty).all(|x| {
-        count(x);
-        false
-    });
-    let any = Zip::from(&empty).any(|x| {
-        count(x);
-        true
-    });
-    Zip::from(&empty).for_each(|x| count(x));
-    holds(&rt, all && !any);
-    same(&rt, calls.get(), 0);
-    Ok(())
-}
-
-#[test]
-fn fold_while_ends_with_the_first_done(rt: HostRuntime) -> Result<(), Fail> {
-    let numbers = ArrayView1::from([1u64, 2, 3, 4].as_slice());
-    let calls = Cell::new(0u64);
-    let ended = Zip::from(&numbers).fold_while(0, |acc: u64, x| {
-        calls.set(calls.get().wrapping_add(1));
-        if *x > 2 {
-            FoldWhile::Done(acc)
-        } else {
-            FoldWhile::Continue(acc.wrapping_add(*x))
-        }
-    });
-    holds(&rt, ended.is_done());
-    same(&rt, ended.into_inner(), 3);
-    same(&rt, calls.get(), 3);
-    let went_on = Zip::from(&numbers).fold_while(
-        0,
-        |acc: u64, x| FoldWhile::Continue(acc.wrapping_add(*x)),
-    );
-    holds(&rt, !went_on.is_done());
-    same(&rt, went_on.into_inner(), 10);
-    Ok(())
-}
-
-#[test]
-fn all_and_any_stop_at_the_first_that_decides(rt: HostRuntime) -> Result<(), Fail> {
-    let a = ArrayView1::from([1u64, 2, 3].as_slice());
-    let b = ArrayView1::from([1u64, 4, 9].as_slice());
-    let calls = Cell::new(0u64);
-    if Zip::from(&a).fits(&b) {
-        holds(
-            &rt,
-            Zip::from(&a).and(&b).all(|x, y| x.wrapping_mul(*x) == *y),
-        );
-        holds(&rt, Zip::from(&a).and(&b).any(|x, y| *x == *y));
-        holds(
-            &rt,
-            !Zip::from(&a).and(&b).any(|x, y| x.wrapping_sub(1) == *y),
-        );
-        let all = Zip::from(&a).and(&b).all(|x, y| {
-            calls.set(calls.get().wrapping_add(1));
-            *x == *y
-        });
-        holds(&rt, !all);
-        same(&rt, calls.get(), 2);
-        let any = Zip::from(&a).and(&b).any(|x, y| {
-            calls.set(calls.get().wrapping_add(1));
-            *x == *y
-        });
-        holds(&rt, any);
-        same(&rt, calls.get(), 3);
+/// Doubles, in code that does not know what keeps the cells.
+fn double_into<S: Data<Elem = i64>, T: DataMut<Elem = i64>>(
+    from: &ArrayBase<S, Ix2>,
+    into: &mut ArrayBase<T, Ix2>,
+) -> bool {
+    if !Zip::from(from).fits(&into.view()) {
+        return false;
     }
-    Ok(())
+    Zip::from(from).map_assign_into(into, |x| x.wrapping_mul(2));
+    true
+}
+
+/// A row at each row of an array, in code that does not know the element type.
+fn rows_of<A: Copy + Drop, S: Data<Elem = A>>(
+    alloc: Global,
+    array: &ArrayBase<S, Ix2>,
+    row: &ArrayBase<S, Ix2>,
+) -> Result<Option<Array<A, Ix2>>, AllocError> {
+    if !Zip::from(array).broadcasts(&row.view()) {
+        return Ok(None);
+    }
+    let cells = Zip::from(array)
+        .and_broadcast(row)
+        .map_collect(alloc, |_x, y| *y)?;
+    Ok(Some(cells))
 }
 
 #[test]
-fn a_zip_is_cloned_and_walked_twice(rt: HostRuntime) -> Result<(), Fail> {
-    let a = ArrayView1::from([1u64, 2, 3].as_slice());
-    if Zip::from(&a).fits(&a) {
-        let zip = Zip::from(&a).and(&a);
-        let again = zip.clone()?;
-        let add = |acc: u64, x: &u64, y: &u64| acc.wrapping_add(x.wrapping_mul(*y));
-        same(&rt, zip.fold(0, add), 14);
-        same(&rt, again.fold(0, add), 14);
-    }
-    Ok(())
-}
-
-#[test]
-fn collecting_calls_once_for_each_cell(rt: HostRuntime) -> Result<(), Fail> {
-    for view in layouts()? {
-        let calls = Cell::new(0u64);
-        let tens = Zip::from(&view).map_collect(rt.alloc(), |x| {
-            calls.set(calls.get().wrapping_add(1));
-            x.wrapping_mul(10)
-        })?;
-        same(&rt, calls.get(), 6);
-        same(&rt, tens.shape(), [2, 3].as_slice());
-        same(&rt, tens.get((0, 1)), Some(&20));
-        same(&rt, tens.get((1, 0)), Some(&40));
-        same(&rt, tens.get((1, 2)), Some(&60));
-    }
-    Ok(())
-}
-
-#[test]
-fn azip_walks_and_makes(rt: HostRuntime) -> Result<(), Fail> {
-    let a = ArrayView1::from([1u64, 2, 3].as_slice());
-    let b = ArrayView1::from([10u64, 20, 30].as_slice());
-    let total = Cell::new(0u64);
-    if Zip::from(&a).fits(&b) {
-        azip!((&x in &a, &y in &b) total.set(total.get().wrapping_add(x).wrapping_add(y)));
-        azip!((&x in &a, y in &b,) { total.set(total.get().wrapping_add(x ^ *y)); });
-        let zip = azip!(&a, &b);
-        same(&rt, zip.size(), 3);
-        same(&rt, total.get(), 66 + (1 ^ 10) + (2 ^ 20) + (3 ^ 30));
-    }
+fn generic_callers(rt: HostRuntime) -> Result<(), Fail> {
+    let a = array(rt.alloc())?;
+    let mut b = array(rt.alloc())?;
+    holds(&rt, double_into(&a, &mut b));
+    shows(&rt, rt.alloc(), &b.view(), "[2, 3]: [2, 4, 6, 8, 10, 12]")?;
+    let row = Array::from_elem(rt.alloc(), (1, 3), 8i64)?;
+    let cells = rows_of(rt.alloc(), &a, &row)?.ok_or("broadcasts")?;
+    shows(&rt, rt.alloc(), &cells.view(), "[2, 3]: [8, 8, 8, 8, 8, 8]")?;
     Ok(())
 }
