@@ -51,6 +51,7 @@ pub(crate) fn axis_at(order: Order, ndim: usize, p: usize) -> usize
 }
 
 /// Makes `index` the next index list of the box.
+#[inline(always)]
 fn advance<D: Lengths>(order: Order, dim: &D, index: &mut D)
     requires within { InBox (D.numbers dim.now) (D.numbers index.old) }
     requires more { rank_in order (D.numbers dim.now) (D.numbers index.old) + 1 < size (D.numbers dim.now) }
@@ -152,6 +153,7 @@ impl<D: Lengths> Walk<D> {
     }
 
     /// Takes the index lists still to come that are on one row with the next one.
+    #[inline(always)]
     pub(crate) fn next_row(&mut self) -> Option<Row<D>>
         ensures { MatchOption result ((self.old ≡ []) × (self.new ≡ [])) (λ row. TakesRow self.old self.new (D.numbers row.first) row.axis row.count) }
     {
@@ -206,6 +208,7 @@ impl<D: Lengths> Iterator for Walk<D> {
 
     ghost remaining = { item_count (λ rest. rest) };
 
+    #[inline(always)]
     fn next(&mut self) -> Option<D> {
         if self.left == 0 {
             return None;

@@ -44,6 +44,7 @@ impl<D: Lengths> Layout<D> {
     }
 
     /// Where the cell of an index list of the box lies.
+    #[inline(always)]
     pub(crate) fn place(&self, index: &D) -> usize
         requires { length (D.numbers self.now.strides) ≡ length (D.numbers index.now) }
         ensures { result ≡ place self.now.start (D.numbers self.now.strides) (D.numbers index.now) }
@@ -56,6 +57,7 @@ impl<D: Lengths> Layout<D> {
     }
 
     /// How far the next place lies on an axis; 0 for an axis that is not there.
+    #[inline(always)]
     pub(crate) fn stride(&self, axis: usize) -> usize
         ensures { result ≡ slice_index (D.numbers self.now.strides) axis }
     {

@@ -42,6 +42,7 @@ impl<'a, A> Strided<'a, A> {
     }
 
     /// The next element.
+    #[inline(always)]
     pub(crate) fn next(&mut self) -> Option<&'a A>
         ensures { YieldsFirstRef (λ rest. rest) self.old result self.new }
     {

@@ -60,6 +60,7 @@ impl<'a, A, D: Lengths> Iterator for IterMut<'a, A, D> {
 
     ghost remaining = { item_count (λ rest. rest) };
 
+    #[inline(always)]
     fn next(&mut self) -> Option<&'a mut A> {
         self.elements.next()
     }
@@ -134,6 +135,7 @@ impl<'a, A, D: Dimension> Iterator for IndexedIterMut<'a, A, D> {
 
     ghost remaining = { item_count (λ rest. rest) };
 
+    #[inline(always)]
     fn next(&mut self) -> Option<(D::Pattern, &'a mut A)> {
         let Some((index, cell)) = self.places.next() else {
             return None;

@@ -63,6 +63,7 @@ impl<'a, A, D: Dimension> Iterator for IndexedIter<'a, A, D> {
 
     ghost remaining = { item_count (λ rest. rest) };
 
+    #[inline(always)]
     fn next(&mut self) -> Option<(D::Pattern, &'a A)> {
         let Some(index) = self.walk.next() else {
             return None;

@@ -76,6 +76,7 @@ impl<A: Drop, D: Lengths> Iterator for IntoIter<A, D> {
 
     ghost remaining = { item_count (λ rest. rest) };
 
+    #[inline(always)]
     fn next(&mut self) -> Option<A> {
         self.elements.next()
     }

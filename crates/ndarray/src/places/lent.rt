@@ -71,6 +71,7 @@ impl<'a, A, D: Lengths> Places<'a, A, D> {
     }
 
     /// The next index list and its cell.
+    #[inline(always)]
     pub(crate) fn next(&mut self) -> Option<(D, &'a mut A)>
         ensures { YieldsFirstBy (λ item. (D.numbers item.0, item.1.now)) (λ rest. rest) self.old result self.new }
     {

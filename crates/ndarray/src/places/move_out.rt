@@ -67,6 +67,7 @@ impl<A, W: Way> MoveOut<A, W> {
     }
 
     /// Moves the next element out.
+    #[inline(always)]
     pub fn next(&mut self) -> Option<A>
         ensures { YieldsFirst (λ rest. rest) self.old result self.new }
     {

@@ -115,6 +115,7 @@ impl<'a, A, D: Lengths> Iterator for AxisIter<'a, A, D> {
 
     ghost remaining = { item_count (λ rest. rest) };
 
+    #[inline(always)]
     fn next(&mut self) -> Option<ArrayView<'a, A, D>> {
         self.items.next()
     }

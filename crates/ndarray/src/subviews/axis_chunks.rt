@@ -136,6 +136,7 @@ impl<'a, A, D: Lengths> Iterator for AxisChunksIter<'a, A, D> {
 
     ghost remaining = { item_count (λ rest. rest) };
 
+    #[inline(always)]
     fn next(&mut self) -> Option<ArrayView<'a, A, D>> {
         let Some(position) = self.walk.next() else {
             return None;

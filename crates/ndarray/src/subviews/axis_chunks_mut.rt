@@ -61,6 +61,7 @@ impl<D: Lengths> Portions for ChunkPortions<D> {
 
     ghost spots = { λ s. s };
 
+    #[inline(always)]
     fn next(&mut self) -> Option<Layout<D>> {
         let Some(position) = self.walk.next() else {
             return None;
@@ -189,6 +190,7 @@ impl<'a, A, D: Lengths> Iterator for AxisChunksIterMut<'a, A, D> {
 
     ghost remaining = { item_count (λ rest. rest) };
 
+    #[inline(always)]
     fn next(&mut self) -> Option<ArrayViewMut<'a, A, D>> {
         self.items.next()
     }

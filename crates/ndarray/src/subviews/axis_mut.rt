@@ -123,6 +123,7 @@ impl<'a, A, D: Lengths> Iterator for AxisIterMut<'a, A, D> {
 
     ghost remaining = { item_count (λ rest. rest) };
 
+    #[inline(always)]
     fn next(&mut self) -> Option<ArrayViewMut<'a, A, D>> {
         self.items.next()
     }

@@ -109,6 +109,7 @@ impl<'a, A, D: Lengths> Iterator for ExactChunksIter<'a, A, D> {
 
     ghost remaining = { item_count (λ rest. rest) };
 
+    #[inline(always)]
     fn next(&mut self) -> Option<ArrayView<'a, A, D>> {
         self.items.next()
     }

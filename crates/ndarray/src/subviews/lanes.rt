@@ -138,6 +138,7 @@ impl<'a, A, D: Lengths> Iterator for LanesIter<'a, A, D> {
 
     ghost remaining = { item_count (λ rest. rest) };
 
+    #[inline(always)]
     fn next(&mut self) -> Option<ArrayView<'a, A, Ix1>> {
         self.items.next()
     }

@@ -133,6 +133,7 @@ impl<'a, A, D: Lengths> Iterator for LanesIterMut<'a, A, D> {
 
     ghost remaining = { item_count (λ rest. rest) };
 
+    #[inline(always)]
     fn next(&mut self) -> Option<ArrayViewMut<'a, A, Ix1>> {
         self.items.next()
     }

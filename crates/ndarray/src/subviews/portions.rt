@@ -74,6 +74,7 @@ impl<'a, A, T: Portions> Iterator for PortionsMut<'a, A, T> {
 
     ghost remaining = { item_count (λ rest. rest) };
 
+    #[inline(always)]
     fn next(&mut self) -> Option<ArrayViewMut<'a, A, T::Dim>> {
         let Some(layout) = self.portions.next() else {
             return None;

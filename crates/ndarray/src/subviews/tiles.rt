@@ -163,6 +163,7 @@ impl<'a, A, P: Lengths, D: Lengths> Iterator for TilesIter<'a, A, P, D> {
 
     ghost remaining = { item_count (λ rest. rest) };
 
+    #[inline(always)]
     fn next(&mut self) -> Option<ArrayView<'a, A, D>> {
         let Some(position) = self.walk.next() else {
             return None;

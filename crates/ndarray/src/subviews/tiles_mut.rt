@@ -174,6 +174,7 @@ impl<P: Lengths, D: Lengths> Portions for TilePortions<P, D> {
 
     ghost spots = { λ s. s };
 
+    #[inline(always)]
     fn next(&mut self) -> Option<Layout<D>> {
         let Some(position) = self.walk.next() else {
             return None;
