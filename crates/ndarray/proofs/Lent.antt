@@ -1,22 +1,23 @@
 -- Cells that are lent one after another: the next one, the last one, and all cells of an array.
 use Rattle.std.proofs.Common.{◌≡◌, ◌≢◌, ℕ, suc, ◌<◌, List, [], ◌∷◌, ◌++◌, length, reverse, zip, get_or, Option, Some, refl, sym, ◌∙◌, ap, arith, subst}
-use Rattle.std.specs.Prelude.{All, IsTrue, ⊤}
+use Rattle.std.specs.Prelude.{All, IsTrue, ⊤, filter_map}
 use Rattle.std.specs.Option.{is_some}
 use Rattle.std.proofs.lemmas.List.{get_or_append_left, length-append}
-use Rattle.std.proofs.lemmas.List.Elements.{All-tail, filter_map-append}
+use Rattle.std.proofs.lemmas.List.Elements.{All-tail, All-map, filter_map-append}
 use Rattle.ndarray.specs.Grid.{cell}
 use Rattle.ndarray.specs.Index.{InBox, row_order, column_order, IsOrderOf}
 use Rattle.ndarray.specs.Orders.{box_in, cells_in}
 use Rattle.ndarray.specs.base.Places.{place, Reaches, grid_at}
 use Rattle.ndarray.specs.declared.base.shape.Order.{Order}
 use Rattle.ndarray.specs.declared.base.shape.Order.TheVariants.{RowMajor, ColumnMajor}
-use Rattle.ndarray.specs.places.Lent.{along, AreLent}
+use Rattle.ndarray.specs.places.Lent.{along, AreLent, places_along, AreLentAt}
 use Rattle.ndarray.proofs.Boxes.{InBox-length}
 use Rattle.ndarray.proofs.Lists.{some-of, filter_map-same, length-filter_map_all, get_or-append-last}
 use Rattle.ndarray.proofs.NestedPlaces.{Reaches-apart}
 use Rattle.ndarray.proofs.Orders.{row_order-is, column_order-is, box_in-within, IsBefore-not_itself}
-use Rattle.ndarray.proofs.Pairs.{AllPairs-tail}
+use Rattle.ndarray.proofs.Pairs.{AllPairs-tail, AllPairs-map}
 use Rattle.ndarray.proofs.Reached.{cell-at}
+use Rattle.ndarray.proofs.SideBySide.{filter_map-map}
 
 zip-push : {X Y : Type 0} (xs : List X) (ys : List Y) (x : X) (y : Y) → length xs ≡ length ys → zip (xs ++ x ∷ []) (ys ++ y ∷ []) ≡ zip xs ys ++ (x, y) ∷ []
 zip-push [] [] x y l = refl
@@ -121,3 +122,81 @@ module _ {A : Type 0} (at after : ℕ → Option A) (start : ℕ) (bs is : List 
         let cells = filter_map-append (λ js. at (place start bs js)) rest (is ∷ []) ∙ ap (λ ys. along at start bs rest ++ ys) one in
         let n = length-along_lent at start bs rest b in
         rw (e, l) (ap (zip (rest ++ is ∷ [])) cells ∙ zip-push rest (along at start bs rest) is x (sym n))
+
+-- the places of all cells, in an order
+module _ {A : Type 0} (at : ℕ → Option A) (ns : List ℕ) (start : ℕ) (bs : List ℕ) (h : Reaches ⊤ at ns start bs) (o : Order) where
+  pub AreLentAt-all : AreLentAt at (places_along start bs (box_in o ns))
+  AreLentAt-all =
+      let a = AreLent-all at ns start bs h o in
+      let f = place start bs in
+      record {
+        held = All-map (λ p. IsTrue (is_some (at p))) f (box_in o ns) a.held;
+        once = AllPairs-map (λ p q. p ≡ q → ⊥) f (box_in o ns) a.once;
+      }
+
+  pub found-all : filter_map at (places_along start bs (box_in o ns)) ≡ cells_in o (grid_at at ns start bs)
+  found-all = filter_map-map at (place start bs) (box_in o ns) ∙ along-all at ns start bs h o
+
+module _ {A : Type 0} (at : ℕ → Option A) where
+  -- the next place, and the last, has an element
+  pub lent_at-next : (p : ℕ) (ps rest : List ℕ) → AreLentAt at ps → ps ≡ p ∷ rest → (x : A) × (at p ≡ Some x)
+  lent_at-next p ps rest h e = let g = subst (AreLentAt at) e h in some-of _ (g.held 0 p (omega arith))
+
+  pub lent_at-next_back : (p : ℕ) (ps rest : List ℕ) → AreLentAt at ps → ps ≡ rest ++ p ∷ [] → (x : A) × (at p ≡ Some x)
+  lent_at-next_back p ps rest h e =
+      let g = subst (AreLentAt at) e h in
+      let l = length-append rest (p ∷ []) in
+      subst (λ q. (x : A) × (at q ≡ Some x)) (get_or-append-last rest p p) (some-of _ (g.held (length rest) p (omega arith)))
+
+  -- as many elements as places
+  pub length-lent_at : (ps : List ℕ) → AreLentAt at ps → length (filter_map at ps) ≡ length ps
+  length-lent_at ps h = length-filter_map_all at ps (λ k d lt. some-of _ (h.held k d lt))
+
+module _ {A : Type 0} (at after : ℕ → Option A) (p : ℕ) (others : (q : ℕ) → q ≢ p → after q ≡ at q) (ps rest : List ℕ) (x : A) (h : AreLentAt at ps) (here : at p ≡ Some x) where
+  -- what is still to come when the element at p was lent, which none of it reaches
+  found-later : All (λ q. q ≢ p) rest → filter_map after rest ≡ filter_map at rest
+  found-later apart = filter_map-same after at (λ q. q ≢ p) rest (λ q ne. others q ne) apart
+
+  lent_at-later : All (λ q. q ≢ p) rest → AreLentAt at rest → AreLentAt after rest
+  lent_at-later apart g = record {
+    held = λ k d lt. subst (λ o. IsTrue (is_some o)) (sym (others _ (apart k d lt))) (g.held k d lt);
+    once = g.once;
+  }
+
+  module _ (e : ps ≡ p ∷ rest) where
+    front : AreLentAt at (p ∷ rest)
+    front = subst (AreLentAt at) e h
+
+    front-apart : All (λ q. q ≢ p) rest
+    front-apart k d lt = λ same. front.once 0 (suc k) d (omega arith) (omega arith) (sym same)
+
+    pub lent_at-rest : AreLentAt after rest
+    lent_at-rest = lent_at-later front-apart (record { held = All-tail (λ q. IsTrue (is_some (at q))) p rest front.held; once = AllPairs-tail (λ q r. q ≡ r → ⊥) p rest front.once })
+
+    pub found-first : filter_map at ps ≡ x ∷ filter_map after rest
+    found-first = let l = found-later front-apart in rw (e, here, l) refl
+
+  module _ (e : ps ≡ rest ++ p ∷ []) where
+    back : AreLentAt at (rest ++ p ∷ [])
+    back = subst (AreLentAt at) e h
+
+    same : (k d : ℕ) → k < length rest → get_or (rest ++ p ∷ []) k d ≡ get_or rest k d
+    same k d lt = get_or_append_left rest (p ∷ []) d k lt
+
+    back-apart : All (λ q. q ≢ p) rest
+    back-apart k d lt = λ one.
+        let l = length-append rest (p ∷ []) in
+        back.once k (length rest) d lt (omega arith) (same k d lt ∙ (one ∙ sym (get_or-append-last rest p d)))
+
+    pub lent_at-beginning : AreLentAt after rest
+    lent_at-beginning =
+        let l = length-append rest (p ∷ []) in
+        lent_at-later back-apart (record {
+          held = λ k d lt. subst (λ q. IsTrue (is_some (at q))) (same k d lt) (back.held k d (omega arith));
+          once = λ i j d lt lj one. back.once i j d lt (omega arith) (same i d (omega arith) ∙ (one ∙ sym (same j d lj)));
+        })
+
+    pub found-last : filter_map at ps ≡ filter_map after rest ++ x ∷ []
+    found-last =
+        let one : filter_map at (p ∷ []) ≡ x ∷ [] = rw here refl in
+        ap (filter_map at) e ∙ (filter_map-append at rest (p ∷ []) ∙ (ap (λ l. filter_map at rest ++ l) one ∙ ap (λ l. l ++ x ∷ []) (sym (found-later back-apart))))

@@ -1,5 +1,6 @@
 -- Lists in which each element stands in a relation to all later ones.
-use Rattle.std.proofs.Common.{◌≡◌, ℕ, ◌<◌, suc, zero, List, ◌∷◌, ◌⊎◌, length, get_or, arith, subst, inl, inr, refl}
+use Rattle.std.proofs.Common.{◌≡◌, ℕ, ◌<◌, suc, zero, List, [], ◌∷◌, ◌⊎◌, length, map, get_or, arith, subst, sym, inl, inr, refl}
+use Rattle.std.proofs.lemmas.List.{length-map, get_or-map}
 use Rattle.std.specs.Prelude.{AllPairs, Contains}
 use Rattle.std.proofs.lemmas.Bool.{cases_lt}
 
@@ -32,3 +33,12 @@ module _ {X : Type 0} where
             | inr le ↦ omega arith
           ]
         ]
+
+-- in a mapped list they stand in it where the values of the function do
+pub AllPairs-map : {X Y : Type 0} (R : Y → Y → Type 0) (f : X → Y) (xs : List X) → AllPairs (λ a b. R (f a) (f b)) xs → AllPairs R (map f xs)
+AllPairs-map R f [] up i j d lt h = absurd (omega arith)
+AllPairs-map R f (x ∷ xs) up i j d lt h =
+    let l = length-map (x ∷ xs) f in
+    let first : get_or (map f (x ∷ xs)) i d ≡ f (get_or (x ∷ xs) i x) = get_or-map f (x ∷ xs) i x d (omega arith) in
+    let second : get_or (map f (x ∷ xs)) j d ≡ f (get_or (x ∷ xs) j x) = get_or-map f (x ∷ xs) j x d (omega arith) in
+    subst (λ v. R v (get_or (map f (x ∷ xs)) j d)) (sym first) (subst (R (f (get_or (x ∷ xs) i x))) (sym second) (up i j x lt (omega arith)))

@@ -2,7 +2,7 @@
 use Rattle.std.proofs.Common.{◌≡◌, ℕ, ◌+◌, ◌-◌, ◌*◌, ◌%◌, ◌<◌, ◌≤◌, ◌^◌, suc, zero, List, [], ◌∷◌, ◌++◌, length, drop, set, get_or, Option, Some, refl, sym, ◌∙◌, ap, arith, subst, inl, inr}
 use Rattle.std.specs.Prelude.{filter_map, All, IsTrue}
 use Rattle.std.specs.Option.{is_some}
-use Rattle.std.proofs.lemmas.List.{take-append-drop, set-get_or, set_past, get_or_past, length-append, get_or_append_left}
+use Rattle.std.proofs.lemmas.List.{take-append-drop, map-append, length-set, set-get_or, set_past, get_or_past, length-append, get_or_append_left}
 use Rattle.std.proofs.lemmas.List.Elements.{All-cons, All-head, All-tail, All-take, All-drop, filter_map-append}
 use Rattle.std.proofs.Math.Nat.{mod-add-mod, add-mod-mod}
 use Rattle.std.proofs.lemmas.Bool.{cases_lt}
@@ -11,6 +11,7 @@ use Rattle.ndarray.specs.Grid.{Grid, HasCells, cell}
 use Rattle.ndarray.specs.order.Steps.{row_from, TakesRow}
 use Rattle.ndarray.specs.base.Places.{dot, place, Reaches, grid_at}
 use Rattle.ndarray.specs.base.Strided.{places_from, HaveElements}
+use Rattle.ndarray.specs.places.Lent.{places_along}
 use Rattle.ndarray.proofs.Cells.{length-along}
 use Rattle.ndarray.proofs.Lists.{length-filter_map_all, some-of, get_or-append-last}
 use Rattle.ndarray.proofs.Reached.{cell-at, dot-set}
@@ -19,7 +20,7 @@ pub places_from-some : (p s left : ℕ) → 0 < left → places_from p s left �
 places_from-some p s zero h = absurd (omega arith)
 places_from-some p s (suc n) h = ap (λ m. p ∷ places_from ((p + s) % 2 ^ 64) s m) (let e : n ≡ suc n - 1 = omega arith in e)
 
-length-places_from : (p s n : ℕ) → length (places_from p s n) ≡ n
+pub length-places_from : (p s n : ℕ) → length (places_from p s n) ≡ n
 length-places_from p s zero = refl
 length-places_from p s (suc n) = let ih = length-places_from ((p + s) % 2 ^ 64) s n in omega arith
 
@@ -94,7 +95,7 @@ places_from-push (suc k) p s h =
     let ih = places_from-push k ((p + s) % 2 ^ 64) s (omega arith) in
     ap (λ l. p ∷ l) (ih ∙ ap (λ q. places_from ((p + s) % 2 ^ 64) s k ++ q ∷ []) (last-place p s k))
 
-places_from-last : (p s left : ℕ) → p < 2 ^ 64 → 0 < left → places_from p s left ≡ places_from p s (left - 1) ++ ((p + ((left - 1) * s) % 2 ^ 64) % 2 ^ 64) ∷ []
+pub places_from-last : (p s left : ℕ) → p < 2 ^ 64 → 0 < left → places_from p s left ≡ places_from p s (left - 1) ++ ((p + ((left - 1) * s) % 2 ^ 64) % 2 ^ 64) ∷ []
 places_from-last p s zero h some = absurd (omega arith)
 places_from-last p s (suc n) h some = places_from-push n p s h ∙ ap (λ m. places_from p s m ++ ((p + (m * s) % 2 ^ 64) % 2 ^ 64) ∷ []) (let e : n ≡ suc n - 1 = omega arith in e)
 
@@ -115,6 +116,48 @@ length-row_from : (is : List ℕ) (axis n : ℕ) → length (row_from is axis n)
 length-row_from is axis zero = refl
 length-row_from is axis (suc n) = let ih = length-row_from (set is axis (get_or is axis 0 + 1)) axis n in omega arith
 
+-- what is left behind a row comes after it
+taken-parts : (ys zs : List (List ℕ)) (is : List ℕ) (axis count : ℕ) → TakesRow ys zs is axis count → ys ≡ row_from is axis count ++ zs
+taken-parts ys zs is axis count t = sym (take-append-drop count ys) ∙ (ap (λ l. l ++ drop count ys) t.row ∙ ap (λ l. row_from is axis count ++ l) (sym t.rest))
+
+-- the places of a row, and those behind it
+module _ (start : ℕ) (bs : List ℕ) where
+  row-places : (axis n : ℕ) (is : List ℕ) → length bs ≡ length is → places_along start bs (row_from is axis n) ≡ places_from (place start bs is) (get_or bs axis 0) n
+  row-places axis zero is l = refl
+  row-places axis (suc n) is l =
+      let js : List ℕ = set is axis (get_or is axis 0 + 1) in
+      let ih = row-places axis n js (l ∙ sym (length-set is axis (get_or is axis 0 + 1))) in
+      ap (λ ps. place start bs is ∷ ps) (ih ∙ ap (λ p. places_from p (get_or bs axis 0) n) (sym (place-any start bs is axis l)))
+
+  pub places-last : (ys rest : List (List ℕ)) (is : List ℕ) → ys ≡ rest ++ is ∷ [] → places_along start bs ys ≡ places_along start bs rest ++ place start bs is ∷ []
+  places-last ys rest is e = ap (places_along start bs) e ∙ map-append (place start bs) rest (is ∷ [])
+
+  pub beginning-as_many : (ys rest : List (List ℕ)) (is : List ℕ) → ys ≡ rest ++ is ∷ [] → All (λ js. length bs ≡ length js) ys → All (λ js. length bs ≡ length js) rest
+  beginning-as_many ys rest is e m =
+      let l = length-append rest (is ∷ []) in
+      let w : All (λ js. length bs ≡ length js) (rest ++ is ∷ []) = subst (All (λ js. length bs ≡ length js)) e m in
+      λ k d lt. subst (λ js. length bs ≡ length js) (get_or_append_left rest (is ∷ []) d k lt) (w k d (omega arith))
+
+  module _ (ys zs : List (List ℕ)) (is : List ℕ) (axis count : ℕ) (m : All (λ js. length bs ≡ length js) ys) (t : TakesRow ys zs is axis count) where
+    pub row-as_many : length bs ≡ length is
+    row-as_many = row-first (λ js. length bs ≡ length js) is axis count t.some (subst (All (λ js. length bs ≡ length js)) t.row (All-take (λ js. length bs ≡ length js) count ys m))
+
+    pub rest-as_many : All (λ js. length bs ≡ length js) zs
+    rest-as_many = subst (All (λ js. length bs ≡ length js)) (sym t.rest) (All-drop (λ js. length bs ≡ length js) count ys m)
+
+    pub places-split : places_along start bs ys ≡ places_from (place start bs is) (get_or bs axis 0) count ++ places_along start bs zs
+    places-split =
+        ap (places_along start bs) (taken-parts ys zs is axis count t)
+        ∙ (map-append (place start bs) (row_from is axis count) zs
+        ∙ ap (λ l. l ++ places_along start bs zs) (row-places axis count is row-as_many))
+
+    pub places-count : count + length zs ≡ length ys
+    places-count =
+        let e = ap length (taken-parts ys zs is axis count t) in
+        let a = length-append (row_from is axis count) zs in
+        let r = length-row_from is axis count in
+        omega arith
+
 -- a row is taken of the index lists that are still to come
 module _ {A : Type 0} (g : Grid A) (ys zs : List (List ℕ)) (is : List ℕ) (axis count : ℕ) (h : HasCells g ys) (t : TakesRow ys zs is axis count) where
   pub row-within : All (InBox g.lengths) (row_from is axis count)
@@ -124,7 +167,7 @@ module _ {A : Type 0} (g : Grid A) (ys zs : List (List ℕ)) (is : List ℕ) (ax
   HasCells-row = record { whole = h.whole; within = subst (All (InBox g.lengths)) (sym t.rest) (All-drop (InBox g.lengths) count ys h.within) }
 
   parts : ys ≡ row_from is axis count ++ zs
-  parts = sym (take-append-drop count ys) ∙ (ap (λ l. l ++ drop count ys) t.row ∙ ap (λ l. row_from is axis count ++ l) (sym t.rest))
+  parts = taken-parts ys zs is axis count t
 
   pub row-split : filter_map (cell g) ys ≡ filter_map (cell g) (row_from is axis count) ++ filter_map (cell g) zs
   row-split = ap (filter_map (cell g)) parts ∙ filter_map-append (cell g) (row_from is axis count) zs

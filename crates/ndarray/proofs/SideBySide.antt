@@ -75,7 +75,7 @@ module _ {X Y Z : Type 0} (f : Y → Option Z) (h : X → Y) where
   first-mapped x l m None e ih = rw e ih
   first-mapped x l m (Some z) e ih = rw e (ap (λ k. z ∷ k) ih)
 
-  filter_map-map : (xs : List X) → filter_map f (map h xs) ≡ filter_map (λ x. f (h x)) xs
+  pub filter_map-map : (xs : List X) → filter_map f (map h xs) ≡ filter_map (λ x. f (h x)) xs
   filter_map-map [] = refl
   filter_map-map (x ∷ xs) = first-mapped x (map h xs) xs (f (h x)) refl (filter_map-map xs)
 

@@ -4,3 +4,4 @@ pub mod emptying;
 pub mod lent;
 pub mod move_out;
 pub mod steps;
+pub mod strided;

@@ -7,29 +7,35 @@ ghost use Rattle.ndarray.specs.Grid.{IsGrid};
 ghost use Rattle.ndarray.specs.Orders.{HasInOrder, cells_in};
 ghost use Rattle.ndarray.specs.declared.base.shape.Order.TheVariants.{RowMajor};
 
-use crate::base::array::ArrayViewMut;
+use crate::base::array::{ArrayBase, ArrayViewMut};
 use crate::base::dimension::{Ix1, Lengths};
+use crate::base::region::{Life, RegionRepr};
 use crate::order::Order;
-use crate::places::lent::Places;
+use crate::places::strided::StridedPlaces;
 use std::iter::ExactSizeIterator;
-use std::marker::Model;
+use std::marker::{Model, PhantomData};
 
 /// The cells of a view to write in that are still to come, in row order.
 ///
 /// An iterator takes no memory, and neither does any of its steps.
 #[derive(Drop)]
 pub struct ElementsBaseMut<'a, A, D: Lengths> {
-    places: Places<'a, A, D>,
+    region: RegionRepr<Life<'a>, A>,
+    places: StridedPlaces<D>,
+    // the lifetime of what it lends, so that `A: 'a` follows from the type
+    lends: PhantomData<&'a mut A>,
 }
 
 impl<'a, A, D: Lengths> Model for ElementsBaseMut<'a, A, D> {
-    ghost use Rattle.std.specs.Prelude.{List, map, ⊤};
+    ghost use Rattle.std.specs.Prelude.{List, filter_map};
+    ghost use Rattle.ndarray.specs.base.Slots.{held_at};
+    ghost use Rattle.ndarray.specs.places.Lent.{AreLentAt};
 
     ghost Value = { List A };
 
-    ghost view = { λ s. map (λ item. item.1) s.places };
+    ghost view = { λ s. filter_map (held_at s.region.slots) s.places };
 
-    ghost invariant = { λ _. ⊤ };
+    ghost invariant = { λ s. AreLentAt (held_at s.region.slots) s.places };
 }
 
 impl<'a, A, D: Lengths> ElementsBaseMut<'a, A, D> {
@@ -49,8 +55,11 @@ impl<'a, A, D: Lengths> ElementsBaseMut<'a, A, D> {
         ensures fits { length result < 2 ^ 63 }
         ensures whole { IsGrid v.entry }
     {
+        let ArrayBase { storage, layout } = v;
         ElementsBaseMut {
-            places: Places::in_order(v, order),
+            region: storage,
+            places: StridedPlaces::new(layout, order),
+            lends: PhantomData,
         }
     }
 }
@@ -62,11 +71,12 @@ impl<'a, A, D: Lengths> Iterator for ElementsBaseMut<'a, A, D> {
 
     ghost remaining = { item_count (λ rest. rest) };
 
+    #[inline(always)]
     fn next(&mut self) -> Option<&'a mut A> {
-        let Some((_index, cell)) = self.places.next() else {
+        let Some(place) = self.places.next() else {
             return None;
         };
-        Some(cell)
+        Some(self.region.take(place))
     }
 
     fn size_hint(&self) -> (usize, Option<usize>)
@@ -89,9 +99,9 @@ impl<'a, A> DoubleEndedIterator for ElementsBaseMut<'a, A, Ix1> {
     ghost next_back_gives = { YieldsLastMut (λ rest. rest) };
 
     fn next_back(&mut self) -> Option<&'a mut A> {
-        let Some((_, cell)) = self.places.next_back() else {
+        let Some(place) = self.places.next_back() else {
             return None;
         };
-        Some(cell)
+        Some(self.region.take(place))
     }
 }

@@ -1,0 +1,143 @@
+//! The places of cells, row by row: on a row each is a stride after the one before.
+
+ghost use Rattle.std.specs.Prelude.{◌≡◌, ◌<◌, ◌^◌, length};
+ghost use Rattle.std.specs.Iterator.{YieldsFirst, YieldsLast};
+ghost use Rattle.ndarray.specs.Limits.{IsWithinLimit};
+ghost use Rattle.ndarray.specs.Orders.{box_in};
+ghost use Rattle.ndarray.specs.places.Lent.{places_along};
+
+use crate::base::dimension::{Ix1, Lengths};
+use crate::base::layout::Layout;
+use crate::order::{Order, Walk};
+use std::marker::Model;
+
+/// The places of one row that are still to come: `left` of them, each a stride after the one before.
+#[derive(Drop)]
+struct PlaceRow {
+    place: usize,
+    stride: usize,
+    left: usize,
+}
+
+impl Model for PlaceRow {
+    ghost use Rattle.std.specs.Prelude.{List, ℕ};
+    ghost use Rattle.ndarray.specs.base.Strided.{places_from};
+
+    ghost Value = { List ℕ };
+
+    ghost view = { λ r. places_from r.place r.stride r.left };
+}
+
+impl PlaceRow {
+    /// How many are still to come.
+    fn len(&self) -> usize
+        ensures { result ≡ length self.now }
+    {
+        self.left
+    }
+
+    /// The next place.
+    #[inline(always)]
+    fn next(&mut self) -> Option<usize>
+        ensures { YieldsFirst (λ rest. rest) self.old result self.new }
+    {
+        if self.left == 0 {
+            return None;
+        }
+        let place = self.place;
+        self.left -= 1;
+        self.place = place.wrapping_add(self.stride);
+        Some(place)
+    }
+
+    /// The last place.
+    fn next_back(&mut self) -> Option<usize>
+        ensures { YieldsLast (λ rest. rest) self.old result self.new }
+    {
+        if self.left == 0 {
+            return None;
+        }
+        self.left -= 1;
+        Some(self.place.wrapping_add(self.left.wrapping_mul(self.stride)))
+    }
+}
+
+/// The places of cells that are still to come: those of a row, and those of the index lists behind it.
+#[derive(Drop)]
+pub(crate) struct StridedPlaces<D: Lengths> {
+    row: PlaceRow,
+    layout: Layout<D>,
+    walk: Walk<D>,
+}
+
+impl<D: Lengths> Model for StridedPlaces<D> {
+    ghost use Rattle.std.specs.Prelude.{List, ℕ, ◌≡◌, ◌++◌, ◌+◌, ◌<◌, ◌^◌, length, All};
+    ghost use Rattle.ndarray.specs.places.Lent.{places_along};
+
+    ghost Value = { List ℕ };
+
+    ghost view = { λ s. s.row ++ places_along s.layout.start (D.numbers s.layout.strides) s.walk };
+
+    ghost invariant = { λ s. All (λ is. length (D.numbers s.layout.strides) ≡ length is) s.walk × (length s.row + length s.walk < 2 ^ 63) };
+}
+
+impl<D: Lengths> StridedPlaces<D> {
+    /// The places of all cells, in an order.
+    pub(crate) fn new(layout: Layout<D>, order: Order) -> Self
+        requires limit { IsWithinLimit (D.numbers layout.dim) }
+        requires as_many { length (D.numbers layout.strides) ≡ length (D.numbers layout.dim) }
+        ensures { result ≡ places_along layout.start (D.numbers layout.strides) (box_in order (D.numbers layout.dim)) }
+    {
+        let walk = Walk::new(layout.dim.copied(), order);
+        StridedPlaces {
+            row: PlaceRow {
+                place: 0,
+                stride: 0,
+                left: 0,
+            },
+            layout,
+            walk,
+        }
+    }
+
+    /// How many are still to come.
+    pub(crate) fn len(&self) -> usize
+        ensures { result ≡ length self.now }
+    {
+        self.row.len() + self.walk.len()
+    }
+
+    /// The next place.
+    #[inline(always)]
+    pub(crate) fn next(&mut self) -> Option<usize>
+        ensures { YieldsFirst (λ rest. rest) self.old result self.new }
+    {
+        if let Some(place) = self.row.next() {
+            return Some(place);
+        }
+        let Some(row) = self.walk.next_row() else {
+            return None;
+        };
+        self.row = PlaceRow {
+            place: self.layout.place(&row.first),
+            stride: self.layout.stride(row.axis),
+            left: row.count,
+        };
+        let Some(place) = self.row.next() else {
+            unreachable!()
+        };
+        Some(place)
+    }
+}
+
+impl StridedPlaces<Ix1> {
+    /// The last place.
+    pub(crate) fn next_back(&mut self) -> Option<usize>
+        ensures { YieldsLast (λ rest. rest) self.old result self.new }
+    {
+        match self.walk.next_back() {
+            Some(index) => Some(self.layout.place(&index)),
+            None => self.row.next_back(),
+        }
+    }
+}
