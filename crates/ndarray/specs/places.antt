@@ -2,4 +2,5 @@
 pub mod Emptying
 pub mod Lent
 pub mod Moving
+pub mod Sources
 pub mod Steps

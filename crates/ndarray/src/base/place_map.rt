@@ -1,6 +1,6 @@
 //! Inside `base`: the places of an array's cells, and the index list whose cell lies at a place.
 
-ghost use Rattle.std.specs.Prelude.{◌≡◌, ◌≢◌, ◌<◌, ◌≤◌, ◌^◌, ℕ, List, length, slice_index, slice_get, IfSome, MatchOption};
+ghost use Rattle.std.specs.Prelude.{◌≡◌, ◌≢◌, ◌<◌, ◌≤◌, ◌^◌, ℕ, List, length, slice_index, slice_get, IfSome, IfOk, IfErr, MatchOption};
 ghost use Rattle.ndarray.specs.Grid.{cell, IsGrid};
 ghost use Rattle.ndarray.specs.Index.{InBox, size};
 ghost use Rattle.ndarray.specs.Limits.{IsWithinLimit};
@@ -157,6 +157,26 @@ impl<D: Lengths> PlaceMap<D> {
 }
 
 impl<A: Drop, D: Lengths> Array<A, D> {
+    /// The array's vector, where its elements are the cells in row order; else the array as it is.
+    pub(crate) fn try_into_cells(self) -> Result<Vec<A>, Self>
+        ensures cells { IfOk result (λ v. v.items ≡ self.cells) }
+        ensures back { IfErr result (λ a. a ≡ self) }
+    {
+        let ArrayBase { storage, layout } = self;
+        let len = layout.dim.size();
+        if storage.items.len() != len {
+            return Err(ArrayBase { storage, layout });
+        }
+        if len == 0 {
+            return Ok(storage.items);
+        }
+        if !layout.is_row_major() {
+            return Err(ArrayBase { storage, layout });
+        }
+        let OwnedRepr { items } = storage;
+        Ok(items)
+    }
+
     /// The array's vector, and where its cells lie in it: at each index list's place its cell.
     pub(crate) fn into_storage(self) -> (Vec<A>, PlaceMap<D>)
         ensures lengths { result.1.lengths ≡ self.lengths }

@@ -13,6 +13,7 @@ use crate::places::steps::Steps;
 use std::alloc::{AllocError, Global};
 use std::iter::ExactSizeIterator;
 use std::marker::Model;
+use std::vec;
 
 /// The cells of an array that are still to come, in row order, each moved out of it.
 ///
@@ -20,15 +21,27 @@ use std::marker::Model;
 /// also those that the array hid.
 #[derive(Drop)]
 pub struct IntoIter<A, D: Lengths> {
-    elements: MoveOut<A, Steps<D>>,
+    source: Source<A, D>,
+}
+
+/// What the cells are moved out of.
+#[derive(Drop)]
+enum Source<A, D: Lengths> {
+    /// A vector whose elements are the cells in row order.
+    Whole(vec::IntoIter<A, Global>),
+    /// A vector in which the cells lie at some places.
+    Places(MoveOut<A, Steps<D>>),
 }
 
 impl<A, D: Lengths> Model for IntoIter<A, D> {
-    ghost use Rattle.std.specs.Prelude.{List};
+    ghost use Rattle.std.specs.Prelude.{List, ⊤};
+    ghost use Rattle.ndarray.specs.places.Sources.{cells_left};
 
     ghost Value = { List A };
 
-    ghost view = { λ s. s.elements };
+    ghost view = { λ s. cells_left s.source };
+
+    ghost invariant = { λ _. ⊤ };
 }
 
 impl<A: Drop, D: Lengths> IntoIterator for Array<A, D> {
@@ -41,9 +54,16 @@ impl<A: Drop, D: Lengths> IntoIterator for Array<A, D> {
     ghost into_iter_gives = { λ a it. (it ≡ a.cells) × (length it < 2 ^ 63) };
 
     fn into_iter(self) -> IntoIter<A, D> {
-        let (items, map) = self.into_storage();
-        IntoIter {
-            elements: MoveOut::new(items, Steps::new(map)),
+        match self.try_into_cells() {
+            Ok(cells) => IntoIter {
+                source: Source::Whole(cells.into_iter()),
+            },
+            Err(array) => {
+                let (items, map) = array.into_storage();
+                IntoIter {
+                    source: Source::Places(MoveOut::new(items, Steps::new(map))),
+                }
+            }
         }
     }
 }
@@ -78,7 +98,10 @@ impl<A: Drop, D: Lengths> Iterator for IntoIter<A, D> {
 
     #[inline(always)]
     fn next(&mut self) -> Option<A> {
-        self.elements.next()
+        match &mut self.source {
+            Source::Whole(cells) => cells.next(),
+            Source::Places(cells) => cells.next(),
+        }
     }
 
     fn size_hint(&self) -> (usize, Option<usize>)
@@ -93,6 +116,9 @@ impl<A: Drop, D: Lengths> Iterator for IntoIter<A, D> {
 
 impl<A: Drop, D: Lengths> ExactSizeIterator for IntoIter<A, D> {
     fn len(&self) -> usize {
-        self.elements.len()
+        match &self.source {
+            Source::Whole(cells) => cells.len(),
+            Source::Places(cells) => cells.len(),
+        }
     }
 }
