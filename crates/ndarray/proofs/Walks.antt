@@ -304,24 +304,21 @@ walk-no_axes o (n ∷ ns) is left e some h = absurd (omega arith)
 
 -- a step to the next row
 module _ (o : Order) (ns is : List ℕ) (left k end i count : ℕ) (h : WalkStands o ns is left) (go : 0 < left) (some : 0 < length ns) (ek : k ≡ axis_in o (length ns) 0)
-    (ee : end ≡ get_or ns k 0) (ei : i ≡ get_or is k 0) (ec : count ≡ min (end - i) left) where
+    (ee : end ≡ get_or ns k 0) (ei : i ≡ get_or is k 0) where
   axis-below : k < length ns
   axis-below = let a = axis_in-lt o (length ns) 0 some in omega arith
 
   pub row-inside : i < end
   row-inside = let g = InBox-get ns is k (h.within go) axis-below in omega arith
 
-  pub row-taken : (0 < count) × (take count (walk_rest o ns is left) ≡ row_from is k count)
-  row-taken =
-      let lt = row-inside in
-      let le : count ≤ left = omega arith in
-      (omega arith, sym (walk-first o ns is count left le) ∙ row-walk o ns k some ek count is (WalkStands-fewer o ns is left count h le) (omega arith))
+  pub row-taken : 0 < count → count ≤ end - i → count ≤ left → take count (walk_rest o ns is left) ≡ row_from is k count
+  row-taken c room le = sym (walk-first o ns is count left le) ∙ row-walk o ns k some ek count is (WalkStands-fewer o ns is left count h le) (let lt = row-inside in omega arith)
 
   -- the last index list of the row
-  pub row-last : 0 < left - count → InBox ns (set is k (end - 1)) × (rank_in o ns (set is k (end - 1)) + 1 ≡ rank_in o ns is + count) × (rank_in o ns (set is k (end - 1)) + 1 < size ns)
-  row-last more =
+  pub row-last : 0 < count → count ≤ end - i → 0 < left - count → InBox ns (set is k (i + count - 1)) × (rank_in o ns (set is k (i + count - 1)) + 1 ≡ rank_in o ns is + count) × (rank_in o ns (set is k (i + count - 1)) + 1 < size ns)
+  row-last c room more =
       let lt = row-inside in
       let inside = h.within go in
       let f = h.fits go in
-      let r = row-rank o ns k some ek is (end - 1) inside in
-      (InBox-set ns is k (end - 1) inside (omega arith), omega arith, omega arith)
+      let r = row-rank o ns k some ek is (i + count - 1) inside in
+      (InBox-set ns is k (i + count - 1) inside (omega arith), omega arith, omega arith)

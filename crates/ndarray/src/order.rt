@@ -50,6 +50,17 @@ pub(crate) fn axis_at(order: Order, ndim: usize, p: usize) -> usize
     }
 }
 
+/// How many index lists make a row, of those that are left on an axis. Where the axis is short it is one, for then
+/// a step of the walk costs less than a new row.
+#[inline(always)]
+fn row_len(left: usize, len: usize) -> usize
+    requires { 0 < left }
+    ensures some { 0 < result }
+    ensures within { result ≤ left }
+{
+    if len < 8 { 1 } else { left }
+}
+
 /// Makes `index` the next index list of the box.
 #[inline(always)]
 fn advance<D: Lengths>(order: Order, dim: &D, index: &mut D)
@@ -172,10 +183,11 @@ impl<D: Lengths> Walk<D> {
         }
         let axis = axis_at(self.order, ndim, 0);
         let end = self.dim.axis(axis);
-        let count = (end - first.axis(axis)).min(self.left);
+        let i = first.axis(axis);
+        let count = row_len(end - i, end).min(self.left);
         self.left -= count;
         if self.left > 0 {
-            self.index.set_axis(axis, end - 1);
+            self.index.set_axis(axis, i + count - 1);
             advance(self.order, &self.dim, &mut self.index);
         }
         Some(Row { first, axis, count })
