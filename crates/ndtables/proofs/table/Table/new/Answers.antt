@@ -16,7 +16,7 @@ invariant_of-result-in-ColumnMajor g c =
     let whole : IsGrid rows = rw c.unwrap-rows.ensures at c.from_shape.ensures.whole in
     record {
       limit = c.requires.limit;
-      as_many = ap length c.in_ok-cells-in-ColumnMajor.ensures ∙ (length-cells_in ColumnMajor rows whole ∙ ap size (lengths ∙ c.copied.ensures));
+      as_many = ap length c.in_ok-cells-in-ColumnMajor.ensures ∙ (length-cells_in ColumnMajor rows whole ∙ ap size (lengths ∙ c.copied.ensures.value));
     }
 
 pub returns-in-RowMajor : goal.returns-in-RowMajor
@@ -29,7 +29,7 @@ returns-in_ok-cells-in-ColumnMajor g c =
     let ns = g.D.Lengths.numbers c.args.dim in
     let xs = c.args.cells.items in
     let rows = c.unwrap-rows.result in
-    let lengths : rows.lengths ≡ ns = (rw c.unwrap-rows.ensures at c.from_shape.ensures.lengths) ∙ c.copied.ensures in
+    let lengths : rows.lengths ≡ ns = (rw c.unwrap-rows.ensures at c.from_shape.ensures.lengths) ∙ c.copied.ensures.value in
     let whole : IsGrid rows = rw c.unwrap-rows.ensures at c.from_shape.ensures.whole in
     let told : HasInOrder RowMajor rows (take (size rows.lengths) c.as_slice.result.now) = rw c.unwrap-rows.ensures at c.from_shape.ensures.cells in
     let all : take (size rows.lengths) c.as_slice.result.now ≡ xs =

@@ -16,8 +16,8 @@ returns-clause-same g c =
     let s = c.match-self.shape in
     let v = c.unwrap.result in
     let shaped : (numbers s.dim ≡ numbers t.dim) × (s.order ≡ t.order) = elim c.match-self.branch [
-      | in-RowMajor w ↦ (ap (λ z. numbers z.dim) w.shape-is ∙ (w.into_shape_with_order-shape.ensures.lengths ∙ c.copied-dim.ensures), ap (λ z. z.order) w.shape-is ∙ (w.into_shape_with_order-shape.ensures.order ∙ sym w.in-RowMajor.is))
-      | in-ColumnMajor w ↦ (ap (λ z. numbers z.dim) w.shape-is ∙ (w.f-shape.ensures.lengths ∙ c.copied-dim.ensures), ap (λ z. z.order) w.shape-is ∙ (w.f-shape.ensures.order ∙ sym w.in-ColumnMajor.is))
+      | in-RowMajor w ↦ (ap (λ z. numbers z.dim) w.shape-is ∙ (w.into_shape_with_order-shape.ensures.lengths ∙ c.copied-dim.ensures.value), ap (λ z. z.order) w.shape-is ∙ (w.into_shape_with_order-shape.ensures.order ∙ sym w.in-RowMajor.is))
+      | in-ColumnMajor w ↦ (ap (λ z. numbers z.dim) w.shape-is ∙ (w.f-shape.ensures.lengths ∙ c.copied-dim.ensures.value), ap (λ z. z.order) w.shape-is ∙ (w.f-shape.ensures.order ∙ sym w.in-ColumnMajor.is))
     ] in
     let lengths : v.lengths ≡ numbers s.dim = rw c.unwrap.ensures at c.from_shape.ensures.lengths in
     let whole : IsGrid v = rw c.unwrap.ensures at c.from_shape.ensures.whole in
