@@ -1,2 +1,4 @@
 -- Lemmas for those who prove functions over this library: docs/CALLING.md says which is for which goal.
 pub mod Collecting
+pub mod Folding
+pub mod Testing

@@ -7,11 +7,11 @@ pub record BroadcastsTo (ns ms : List ℕ) : Type 0 where
   pub agree : (k : ℕ) → k < length ns → (slice_index ns k ≡ 1) ⊎ (slice_index ns k ≡ slice_index ms (length ms - length ns + k))
 
 -- index 0 on each axis of length 1
-abbrev pub pinned : List ℕ → List ℕ → List ℕ
-pinned [] js = []
-pinned (n ∷ ns) [] = []
-pinned (n ∷ ns) (j ∷ js) = (if n == 1 then 0 else j) ∷ pinned ns js
+abbrev pub zero_on_unit_axes : List ℕ → List ℕ → List ℕ
+zero_on_unit_axes [] js = []
+zero_on_unit_axes (n ∷ ns) [] = []
+zero_on_unit_axes (n ∷ ns) (j ∷ js) = (if n == 1 then 0 else j) ∷ zero_on_unit_axes ns js
 
 -- the index list of an array of lengths ns that is seen at js: the indices of missing axes are dropped, and an axis of length 1 is at 0
-unfoldable pub squeezed : List ℕ → List ℕ → List ℕ
-squeezed ns js = pinned ns (drop (length js - length ns) js)
+unfoldable pub broadcast_index : List ℕ → List ℕ → List ℕ
+broadcast_index ns js = zero_on_unit_axes ns (drop (length js - length ns) js)

@@ -56,5 +56,5 @@ abbrev pub arranged : {B : Type 0} → List ℕ → (List ℕ → B) → Grid B
 arranged ns f = grid ns (map f (row_order ns))
 
 -- the array of one axis that has the elements of a list as its cells
-abbrev pub line : {B : Type 0} → List B → Grid B
-line xs = grid (length xs ∷ []) xs
+abbrev pub one_axis : {B : Type 0} → List B → Grid B
+one_axis xs = grid (length xs ∷ []) xs

@@ -15,7 +15,7 @@ pub mod Slices
 pub mod Subviews
 pub mod Sums
 pub mod Views
-pub mod Whole
+pub mod Integers
 pub mod Writes
 pub mod base
 pub mod order

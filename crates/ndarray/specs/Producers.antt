@@ -2,15 +2,15 @@
 use Rattle.std.specs.Prelude.{◌≡◌, ◌↔◌, ℕ, ◌+◌, ◌-◌, List, [], ◌∷◌, Option, Some, None, MatchOption, ◌⊎◌, slice_index, slice_set}
 use Rattle.ndarray.specs.Index.{InBox}
 
-module _ {S A : Type 0} (next : S → Option A → S → Type 0) (shows : List ℕ → A → Type 0) where
+module _ {S A : Type 0} (next : S → Option A → S → Type 0) (yields_at : List ℕ → A → Type 0) where
   -- from s on, calls of `next` give an item of each of the index lists in turn, and then `None`
-  abbrev pub GivesFrom : S → List (List ℕ) → Type 0
-  GivesFrom s [] = (x : A) (t : S) → next s (Some x) t → ⊥
-  GivesFrom s (i ∷ is) = ((t : S) → next s None t → ⊥) × ((x : A) (t : S) → next s (Some x) t → shows i x × GivesFrom t is)
+  abbrev pub YieldsInTurnFrom : S → List (List ℕ) → Type 0
+  YieldsInTurnFrom s [] = (x : A) (t : S) → next s (Some x) t → ⊥
+  YieldsInTurnFrom s (i ∷ is) = ((t : S) → next s None t → ⊥) × ((x : A) (t : S) → next s (Some x) t → yields_at i x × YieldsInTurnFrom t is)
 
   -- the same, as one fact
-  pub record Gives (s : S) (is : List (List ℕ)) : Type 0 where
-    pub from : GivesFrom s is
+  pub record YieldsInTurn (s : S) (is : List (List ℕ)) : Type 0 where
+    pub from : YieldsInTurnFrom s is
 
 module _ {P S T A B : Type 0} (first : P → S) (second : P → T) (next : S → Option A → S → Type 0) (others : T → Option B → T → Type 0) where
   -- both sides give an item, or one of them has ended
@@ -21,14 +21,14 @@ module _ {P S T A B : Type 0} (first : P → S) (second : P → T) (next : S →
 
 -- the items of two producers at an index list
 abbrev pub both : {X Y : Type 0} → (List ℕ → X → Type 0) → (List ℕ → Y → Type 0) → List ℕ → X × Y → Type 0
-both shows shown i t = shows i t.0 × shown i t.1
+both yields_at other_yields_at i t = yields_at i t.0 × other_yields_at i t.1
 
 -- a producer of lengths ms shows what one of lengths ns does where the index on the axis is from `from` up to `to`, that index counted from `from`
-pub record IsPart {X : Type 0} (axis from to : ℕ) (ns : List ℕ) (shows : List ℕ → X → Type 0) (ms : List ℕ) (shown : List ℕ → X → Type 0) : Type 0 where
+pub record IsPart {X : Type 0} (axis from to : ℕ) (ns : List ℕ) (yields_at : List ℕ → X → Type 0) (ms : List ℕ) (other_yields_at : List ℕ → X → Type 0) : Type 0 where
   pub lengths : ms ≡ slice_set ns axis (to - from)
-  pub items : (js : List ℕ) → InBox ms js → (x : X) → shown js x ↔ shows (slice_set js axis (from + slice_index js axis)) x
+  pub items : (js : List ℕ) → InBox ms js → (x : X) → other_yields_at js x ↔ yields_at (slice_set js axis (from + slice_index js axis)) x
 
 -- a producer that shows nothing that another does not, at the same lengths
-pub record IsRefinedBy {X : Type 0} (ns : List ℕ) (shows : List ℕ → X → Type 0) (ms : List ℕ) (shown : List ℕ → X → Type 0) : Type 0 where
+pub record IsRefinedBy {X : Type 0} (ns : List ℕ) (yields_at : List ℕ → X → Type 0) (ms : List ℕ) (other_yields_at : List ℕ → X → Type 0) : Type 0 where
   pub lengths : ms ≡ ns
-  pub items : (is : List ℕ) (x : X) → shown is x → shows is x
+  pub items : (is : List ℕ) (x : X) → other_yields_at is x → yields_at is x

@@ -30,15 +30,15 @@ abbrev pub lanes_of : {A : Type 0} → Grid A → ℕ → Grid (Grid A)
 lanes_of g axis = lanes_along g.lengths g axis
 
 -- on each axis the position times the step, plus the index
-abbrev pub moved : List ℕ → List ℕ → List ℕ → List ℕ
-moved [] ps js = []
-moved (s ∷ ss) [] js = []
-moved (s ∷ ss) (p ∷ ps) [] = []
-moved (s ∷ ss) (p ∷ ps) (j ∷ js) = (p * s + j) ∷ moved ss ps js
+abbrev pub window_index : List ℕ → List ℕ → List ℕ → List ℕ
+window_index [] ps js = []
+window_index (s ∷ ss) [] js = []
+window_index (s ∷ ss) (p ∷ ps) [] = []
+window_index (s ∷ ss) (p ∷ ps) (j ∷ js) = (p * s + j) ∷ window_index ss ps js
 
 -- the window of lengths ws at a position, where positions are steps apart
 abbrev pub window : {A : Type 0} → Grid A → List ℕ → List ℕ → List ℕ → Grid A
-window g ws steps ps = tabulate ws (λ js. cell g (moved steps ps js))
+window g ws steps ps = tabulate ws (λ js. cell g (window_index steps ps js))
 
 -- the number of whole chunks on each axis: the length divided by the chunk's, rounded down
 abbrev pub chunk_counts : List ℕ → List ℕ → List ℕ

@@ -2,7 +2,7 @@
 use Rattle.std.specs.Prelude.{◌≡◌, ℕ, suc, Bool, if◌then◌else◌, List, [], ◌∷◌}
 
 -- a commutative monoid: an operation that associates and commutes, with a neutral value
-pub record Monoid (C : Type 0) : Type 0 where
+pub record CommutativeMonoid (C : Type 0) : Type 0 where
   pub unit : C
   pub op : C → C → C
   pub associates : (a b c : C) → op (op a b) c ≡ op a (op b c)
@@ -10,7 +10,7 @@ pub record Monoid (C : Type 0) : Type 0 where
   pub unit_op : (a : C) → op unit a ≡ a
 
 -- the sum of a list: the neutral value for the empty list, else the first value plus the sum of the rest
-abbrev pub total : {C : Type 0} → Monoid C → List C → C
+abbrev pub total : {C : Type 0} → CommutativeMonoid C → List C → C
 total M [] = M.unit
 total M (x ∷ xs) = M.op x (total M xs)
 
@@ -20,5 +20,5 @@ select keep [] = []
 select keep (x ∷ xs) = if keep 0 then x ∷ select (λ i. keep (suc i)) xs else select (λ i. keep (suc i)) xs
 
 -- the sum of every selection is in range
-abbrev pub IsSummable : {C : Type 0} → Monoid C → (C → Type 0) → List C → Type 0
+abbrev pub IsSummable : {C : Type 0} → CommutativeMonoid C → (C → Type 0) → List C → Type 0
 IsSummable M in_range xs = (keep : ℕ → Bool) → in_range (total M (select keep xs))

@@ -1,2 +1,2 @@
 -- What only `order` speaks of.
-pub mod Steps
+pub mod Ranks

@@ -1,6 +1,6 @@
 -- What only `places` speaks of: elements that are moved out.
-pub mod Emptying
+pub mod PartlyMoved
 pub mod Lent
 pub mod Moving
 pub mod Sources
-pub mod Steps
+pub mod CellPlaces

@@ -6,7 +6,7 @@ ghost use Rattle.std.specs.Iterator.SizeHint.{IsExactHint, IsWithinCount};
 ghost use Rattle.ndarray.specs.Index.{InBox, size, IsRowOrder};
 ghost use Rattle.ndarray.specs.Limits.{IsWithinLimit};
 ghost use Rattle.ndarray.specs.Orders.{box_in, IsBoxIn};
-ghost use Rattle.ndarray.specs.order.Steps.{rank_in, axis_in, TakesRow};
+ghost use Rattle.ndarray.specs.order.Ranks.{rank_in, axis_in, TakesRow};
 
 use crate::base::dimension::{Dim, Ix1, Lengths};
 use crate::base::layout::{Layout, default_strides};
@@ -31,7 +31,7 @@ impl<D: Lengths> Model for Walk<D> {
 
     ghost Value = { List (List ℕ) };
 
-    ghost use Rattle.ndarray.specs.order.Steps.{walk_rest, WalkStands};
+    ghost use Rattle.ndarray.specs.order.Ranks.{walk_rest, WalkStands};
 
     ghost view = { λ w. walk_rest w.order (D.numbers w.dim) (D.numbers w.index) w.left };
 

@@ -7,7 +7,7 @@ ghost use Rattle.ndarray.specs.Index.{size};
 
 use crate::base::array::{Array, ArrayBase};
 use crate::base::dimension::Lengths;
-use crate::base::filling::Filling;
+use crate::base::builder::ArrayBuilder;
 use crate::base::shape::Order;
 use crate::base::storage::Data;
 use crate::iter::ElementsBase;
@@ -30,11 +30,11 @@ impl<A: Clone + Drop, S: Data<Elem = A>, D: Lengths> ArrayBase<S, D> {
             let items = clones_of(alloc, cells)?;
             return Ok(ArrayBase::from_elements(self.raw_dim(), order, items));
         }
-        let mut filling = Filling::with_capacity(alloc, self.raw_dim(), Order::RowMajor)?;
+        let mut builder = ArrayBuilder::with_capacity(alloc, self.raw_dim(), Order::RowMajor)?;
         for cell in ElementsBase::new(self.view()) {
-            filling.push(cell.clone()?);
+            builder.push(cell.clone()?);
         }
-        Ok(filling.finish())
+        Ok(builder.finish())
     }
 
     /// An array of the same lengths and cells: this one, where it owns its cells, else one with clones of

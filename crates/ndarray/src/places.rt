@@ -1,7 +1,7 @@
 //! Elements that are moved out of their storage by place.
 pub mod block;
-pub mod emptying;
+pub mod partly_moved;
 pub mod lent;
 pub mod move_out;
-pub mod steps;
+pub mod cell_places;
 pub mod strided;

@@ -2,7 +2,7 @@
 
 ghost use Rattle.std.specs.Prelude.{◌≡◌, ◌↔◌, IsTrue, map};
 ghost use Rattle.ndarray.specs.Sums.{IsSummable, total};
-ghost use Rattle.ndarray.specs.Whole.{int_sums, negative_sum, positive_sum};
+ghost use Rattle.ndarray.specs.Integers.{int_sums, negative_sum, positive_sum};
 
 pub mod values;
 
@@ -26,8 +26,8 @@ impl<A: SumElem, S: Data<Elem = A>, D: Lengths> ArrayBase<S, D> {
     /// }
     /// ```
     pub fn sum(&self) -> A
-        requires { IsSummable A.plus A.InRange (map A.meaning self.now.cells) }
-        ensures { A.meaning result ≡ total A.plus (map A.meaning self.now.cells) }
+        requires { IsSummable A.addition A.InRange (map A.meaning self.now.cells) }
+        ensures { A.meaning result ≡ total A.addition (map A.meaning self.now.cells) }
     {
         if let Some(cells) = self.as_slice_memory_order() {
             return sum_of(cells);
@@ -42,8 +42,8 @@ impl<A: SumElem, S: Data<Elem = A>, D: Lengths> ArrayBase<S, D> {
 
 /// The sum of the elements of a slice, in their order.
 fn sum_of<A: SumElem>(cells: &[A]) -> A
-    requires { IsSummable A.plus A.InRange (map A.meaning cells.now) }
-    ensures { A.meaning result ≡ total A.plus (map A.meaning cells.now) }
+    requires { IsSummable A.addition A.InRange (map A.meaning cells.now) }
+    ensures { A.meaning result ≡ total A.addition (map A.meaning cells.now) }
 {
     let mut sum = A::zero();
     for x in cells {

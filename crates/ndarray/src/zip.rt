@@ -67,7 +67,7 @@ impl<N: Clone, D, const K: usize> Clone for Zip<Parts<N, K>, D> {
 impl Zip<(), ()> {
     /// Begins with a producer, or a reference to an array.
     pub fn from<I: IntoNdProducer>(part: I) -> Zip<Parts<I::Output, 1>, I::Dim>
-        ensures { I.becomes part result.nested }
+        ensures { I.converts_to part result.nested }
     {
         let nested = part.into_producer();
         Zip {
@@ -88,7 +88,7 @@ impl Zip<(), ()> {
     ) -> Zip<Parts<Pair<Indices<I::Dim>, I::Output>, 2>, I::Dim>
     where
         I::Dim: Dimension,
-        ensures part { I.becomes part result.nested.second }
+        ensures part { I.converts_to part result.nested.second }
         ensures lists { result.nested.first ≡ arranged (I.Output.lengths result.nested.second) (λ is. is) }
         ensures items { (is : List ℕ) → InBox (I.Output.lengths result.nested.second) is → (x : I.Dim.Pattern) → (cell result.nested.first is ≡ Some (I.Dim.pattern_numbers x)) ↔ (I.Dim.pattern_numbers x ≡ is) }
     {

@@ -8,8 +8,8 @@ use Rattle.ndarray.specs.Index.{size, row_order, column_order}
 use Rattle.ndarray.specs.Orders.{box_in, IsBoxIn, HasInOrder}
 use Rattle.ndarray.specs.declared.base.shape.Order.{Order}
 use Rattle.ndarray.specs.declared.base.shape.Order.TheVariants.{RowMajor, ColumnMajor}
-use Rattle.ndarray.proofs.Orders.{row_order-is, box_in-is}
-use Rattle.ndarray.proofs.Permutations.{IsBoxIn-rearranges}
+use Rattle.ndarray.proofs.boxes.Orders.{row_order-is, box_in-is}
+use Rattle.ndarray.proofs.lists.Permutations.{IsBoxIn-rearranges}
 use Rattle.ndarray_bench.specs.PairedProducts.{product_at}
 
 pub product-of_cells : (g h : Grid ℕ) (is : List ℕ) (x y : ℕ) → cell g is ≡ Some x → cell h is ≡ Some y → product_at g h is ≡ x * y

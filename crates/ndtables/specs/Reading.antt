@@ -4,7 +4,7 @@ use Rattle.std.specs.Fmt.{signed_decimal}
 use Rattle.std.specs.Str.Parse.{signed_digits_value}
 use Rattle.ndarray.specs.Grid.{Grid}
 use Rattle.ndarray.specs.Sums.{total}
-use Rattle.ndarray.specs.Whole.{int_sums}
+use Rattle.ndarray.specs.Integers.{int_sums}
 use Rattle.ndarray.specs.declared.base.shape.Order.{Order}
 use Rattle.ndtables.specs.Spelling.{IsSignedDigits, SpellsShape}
 

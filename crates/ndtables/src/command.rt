@@ -3,7 +3,7 @@
 ghost use Rattle.std.specs.Prelude.{◌≡◌, ◌↔◌, IsSome, IfSome, IfOk, FitsSigned, string_bytes};
 ghost use Rattle.std.specs.Int.{w64};
 ghost use Rattle.ndarray.specs.Sums.{IsSummable, total};
-ghost use Rattle.ndarray.specs.Whole.{int_sums};
+ghost use Rattle.ndarray.specs.Integers.{int_sums};
 ghost use Rattle.ndtables.specs.Reading.{PrintsSum};
 
 use crate::fault::Fault;

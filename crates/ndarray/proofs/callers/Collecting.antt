@@ -10,10 +10,10 @@ use Rattle.ndarray.specs.Subviews.{lane, lanes_along}
 use Rattle.ndarray.specs.Runs.{Collects, MayGather, TurnAt, TakesAt, GatherTurn}
 use Rattle.ndarray.specs.declared.base.shape.Order.{Order}
 use Rattle.ndarray.specs.declared.base.shape.Order.TheVariants.{RowMajor, ColumnMajor}
-use Rattle.ndarray.proofs.Cells.{same_grid, arranged-whole, arranged-cell}
-use Rattle.ndarray.proofs.Folded.{may-by}
-use Rattle.ndarray.proofs.Lists.{All-to_recursion, All-from_recursion}
-use Rattle.ndarray.proofs.Orders.{row_order-is, column_order-is, box_in-is, box_in-within}
+use Rattle.ndarray.proofs.cells.Cells.{same_grid, arranged-whole, arranged-cell}
+use Rattle.ndarray.proofs.callers.Folding.{may-by}
+use Rattle.ndarray.proofs.lists.Elements.{All-to_recursion, All-from_recursion}
+use Rattle.ndarray.proofs.boxes.Orders.{row_order-is, column_order-is, box_in-is, box_in-within}
 
 middle : {X : Type 0} (P : X → Type 0) (xs : List X) (x : X) (ys : List X) → AllByRecursion P (xs ++ (x ∷ ys)) → P x
 middle P [] x ys h = h.0
@@ -42,16 +42,16 @@ map-map f h (x ∷ xs) = ap (λ l. f (h x) ∷ l) (map-map f h xs)
 
 -- What `map_collect` made, where each call at the items of an index list in the box leaves the closure as it was and answers h of the
 -- index list.
-module _ {F A R : Type 0} (shows : List ℕ → A → Type 0) (calls : F → A → R → F → Type 0) (f : F) (h : List ℕ → R) (ns : List ℕ)
-    (each : (i : List ℕ) (x : A) (r : R) (k : F) → InBox ns i → shows i x → calls f x r k → (k ≡ f) × (r ≡ h i)) where
-  chain : (is : List (List ℕ)) → AllByRecursion (InBox ns) is → (p q : F × List R) → p.0 ≡ f → FoldsTo (TurnAt shows (GatherTurn calls)) p is q → q.1 ≡ p.1 ++ map h is
+module _ {F A R : Type 0} (yields_at : List ℕ → A → Type 0) (call_gives : F → A → R → F → Type 0) (f : F) (h : List ℕ → R) (ns : List ℕ)
+    (each : (i : List ℕ) (x : A) (r : R) (k : F) → InBox ns i → yields_at i x → call_gives f x r k → (k ≡ f) × (r ≡ h i)) where
+  chain : (is : List (List ℕ)) → AllByRecursion (InBox ns) is → (p q : F × List R) → p.0 ≡ f → FoldsTo (TurnAt yields_at (GatherTurn call_gives)) p is q → q.1 ≡ p.1 ++ map h is
   chain [] b p q e c = ap (λ (s : F × List R). s.1) (sym c) ∙ sym (append-nil p.1)
   chain (i ∷ is) b p q e c =
       let (m, (x, s, (r, a, k)), rest) = c in
-      let u = each i x r m.0 b.0 s (subst (λ g. calls g x r m.0) e k) in
+      let u = each i x r m.0 b.0 s (subst (λ g. call_gives g x r m.0) e k) in
       chain is b.1 m q u.0 rest ∙ ap (λ l. l ++ map h is) (a ∙ ap (λ v. p.1 ++ (v ∷ [])) u.1) ∙ append_assoc p.1 (h i ∷ []) (map h is)
 
-  pub collected : (o : Order) (g : Grid R) → IsGrid g → Collects shows calls o ns f g → g ≡ arranged ns h
+  pub collected : (o : Order) (g : Grid R) → IsGrid g → Collects yields_at call_gives o ns f g → g ≡ arranged ns h
   collected o g whole c =
       let b = All-to_recursion (InBox ns) (box_in o ns) (box_in-within o ns) in
       let a : c.answers ≡ map h (box_in o ns) = chain (box_in o ns) b (f, []) (c.gathered.0, c.answers) refl c.gathered.1 in
@@ -64,13 +64,13 @@ module _ {F A R : Type 0} (shows : List ℕ → A → Type 0) (calls : F → A �
       agree-at (cell g) (λ i. Some (h i)) (box_in o ns) is k (box-contains o ns is b') ∙ sym (arranged-cell ns h is b'))
 
 -- A closure that no call changes may be called along the box where it may be called at the items of each index list in it.
-module _ {F A R : Type 0} (shows : List ℕ → A → Type 0) (calls : F → A → R → F → Type 0) (f : F) (ns : List ℕ)
-    (stays : (i : List ℕ) (x : A) (r : R) (k : F) → shows i x → calls f x r k → k ≡ f) where
-  pub may-gather : (asks : F → A → Type 0) (o : Order) → ((i : List ℕ) (x : A) → InBox ns i → shows i x → asks f x) → MayGather shows calls asks (box_in o ns) f
-  may-gather asks o ok = may-by (TurnAt shows (GatherTurn calls)) (λ done q. q.0 ≡ f)
-      (λ done q i r j t. let (x, s, (v, e, k)) = t in stays i x v r.0 s (subst (λ p. calls p x v r.0) j k))
-      (TakesAt shows (λ p x. asks p.0 x)) (box_in o ns) (f, []) refl
-      (λ done i rest q e j x s. subst (λ p. asks p x) (sym j) (ok i x (All-middle (InBox ns) done i rest (box_in o ns) (box_in-within o ns) e) s))
+module _ {F A R : Type 0} (yields_at : List ℕ → A → Type 0) (call_gives : F → A → R → F → Type 0) (f : F) (ns : List ℕ)
+    (stays : (i : List ℕ) (x : A) (r : R) (k : F) → yields_at i x → call_gives f x r k → k ≡ f) where
+  pub may-gather : (can_call : F → A → Type 0) (o : Order) → ((i : List ℕ) (x : A) → InBox ns i → yields_at i x → can_call f x) → MayGather yields_at call_gives can_call (box_in o ns) f
+  may-gather can_call o ok = may-by (TurnAt yields_at (GatherTurn call_gives)) (λ done q. q.0 ≡ f)
+      (λ done q i r j t. let (x, s, (v, e, k)) = t in stays i x v r.0 s (subst (λ p. call_gives p x v r.0) j k))
+      (TakesAt yields_at (λ p x. can_call p.0 x)) (box_in o ns) (f, []) refl
+      (λ done i rest q e j x s. subst (λ p. can_call p x) (sym j) (ok i x (All-middle (InBox ns) done i rest (box_in o ns) (box_in-within o ns) e) s))
 
 -- two facts of the value that there is
 pub if_ok-both : {X E : Type 0} (r : Result X E) (P Q W : X → Type 0) → ((x : X) → P x → Q x → W x) → IfOk r P → IfOk r Q → IfOk r W

@@ -3,10 +3,10 @@ use Rattle.std.specs.Prelude.{◌≡◌, ℕ, ◌+◌, ◌<◌, ◌^◌, List, [
 use Rattle.ndarray.specs.Limits.{IsWithinLimit}
 
 -- the index list counted from a start, axis by axis
-unfoldable pub moved : List ℕ → List ℕ → List ℕ
-moved [] is = is
-moved (s ∷ ss) [] = []
-moved (s ∷ ss) (i ∷ is) = (s + i) ∷ moved ss is
+unfoldable pub shifted_index : List ℕ → List ℕ → List ℕ
+shifted_index [] is = is
+shifted_index (s ∷ ss) [] = []
+shifted_index (s ∷ ss) (i ∷ is) = (s + i) ∷ shifted_index ss is
 
 -- from this start, no index of the box leaves the range
 pub record StartsAt (start ns : List ℕ) : Type 0 where

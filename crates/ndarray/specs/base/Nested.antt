@@ -10,12 +10,12 @@ abbrev pub reach : ℕ → ℕ → ℕ
 reach n b = (n - 1) * magnitude b
 
 -- the index of a place on an axis of length n and stride b that is turned so that its stride goes up
-unfoldable pub turned : ℕ → ℕ → ℕ → ℕ
-turned n b i = cond (nat_eq (magnitude b) (b % 2 ^ 64)) i (n - 1 - i)
+unfoldable pub forward_index : ℕ → ℕ → ℕ → ℕ
+forward_index n b i = cond (nat_eq (magnitude b) (b % 2 ^ 64)) i (n - 1 - i)
 
 -- how far the axis goes below its first place
-unfoldable pub sunk : ℕ → ℕ → ℕ
-sunk n b = cond (nat_eq (magnitude b) (b % 2 ^ 64)) 0 (reach n b)
+unfoldable pub below_first : ℕ → ℕ → ℕ
+below_first n b = cond (nat_eq (magnitude b) (b % 2 ^ 64)) 0 (reach n b)
 
 -- what each axis counts by its length and its stride, added up
 unfoldable pub total : (ℕ → ℕ → ℕ) → List ℕ → List ℕ → ℕ

@@ -25,18 +25,18 @@ module _ {X : Type 0} where
   put_in cs from ws = take from cs ++ (map Some ws ++ drop (length ws) (drop from cs))
 
   -- the places of the mask
-  abbrev pub kept : List Bool → List (Option X) → List (Option X)
-  kept m [] = []
-  kept [] (c ∷ cs) = None ∷ kept [] cs
-  kept (true ∷ m) (c ∷ cs) = c ∷ kept m cs
-  kept (false ∷ m) (c ∷ cs) = None ∷ kept m cs
+  abbrev pub slots_in : List Bool → List (Option X) → List (Option X)
+  slots_in m [] = []
+  slots_in [] (c ∷ cs) = None ∷ slots_in [] cs
+  slots_in (true ∷ m) (c ∷ cs) = c ∷ slots_in m cs
+  slots_in (false ∷ m) (c ∷ cs) = None ∷ slots_in m cs
 
   -- the places that are not of the mask
-  abbrev pub others : List Bool → List (Option X) → List (Option X)
-  others m [] = []
-  others [] (c ∷ cs) = c ∷ others [] cs
-  others (true ∷ m) (c ∷ cs) = None ∷ others m cs
-  others (false ∷ m) (c ∷ cs) = c ∷ others m cs
+  abbrev pub slots_outside : List Bool → List (Option X) → List (Option X)
+  slots_outside m [] = []
+  slots_outside [] (c ∷ cs) = c ∷ slots_outside [] cs
+  slots_outside (true ∷ m) (c ∷ cs) = None ∷ slots_outside m cs
+  slots_outside (false ∷ m) (c ∷ cs) = c ∷ slots_outside m cs
 
   -- the values of both parts, in the order of their places
   abbrev pub weave : List Bool → List (Option X) → List X → List X → List X

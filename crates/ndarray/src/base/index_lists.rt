@@ -5,7 +5,7 @@ ghost use Rattle.ndarray.specs.Grid.{IsGrid, arranged, cell};
 ghost use Rattle.ndarray.specs.Index.{InBox};
 ghost use Rattle.ndarray.specs.Limits.{IsWithinLimit};
 ghost use Rattle.ndarray.specs.Views.{axis_part};
-ghost use Rattle.ndarray.specs.base.IndexLists.{moved};
+ghost use Rattle.ndarray.specs.base.IndexLists.{shifted_index};
 
 use crate::base::axis::Axis;
 use crate::base::dimension::Lengths;
@@ -29,9 +29,9 @@ impl<D: Lengths> Model for Indices<D> {
 
     ghost Value = { Grid (List ℕ) };
 
-    ghost use Rattle.ndarray.specs.base.IndexLists.{StartsAt, moved};
+    ghost use Rattle.ndarray.specs.base.IndexLists.{StartsAt, shifted_index};
 
-    ghost view = { λ s. arranged (D.numbers s.dim) (moved (D.numbers s.start)) };
+    ghost view = { λ s. arranged (D.numbers s.dim) (shifted_index (D.numbers s.start)) };
 
     ghost invariant = { λ s. StartsAt (D.numbers s.start) (D.numbers s.dim) };
 }
@@ -40,7 +40,7 @@ impl<D: Lengths> Model for Indices<D> {
 fn counted_from<D: Lengths>(start: &D, index: &D) -> D
     requires as_many { length (D.numbers start.now) ≡ length (D.numbers index.now) }
     requires room { (k : ℕ) → k < length (D.numbers index.now) → slice_index (D.numbers start.now) k + slice_index (D.numbers index.now) k < 2 ^ 64 }
-    ensures { D.numbers result ≡ moved (D.numbers start.now) (D.numbers index.now) }
+    ensures { D.numbers result ≡ shifted_index (D.numbers start.now) (D.numbers index.now) }
 {
     let mut list = index.copied();
     for k in 0..start.ndim() {

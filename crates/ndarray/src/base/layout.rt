@@ -6,7 +6,7 @@ ghost use Rattle.ndarray.specs.Limits.{IsWithinLimit};
 ghost use Rattle.ndarray.specs.Broadcast.{BroadcastsTo};
 ghost use Rattle.ndarray.specs.base.Places.{place};
 ghost use Rattle.ndarray.specs.base.Strides.{AreStridesOf, StretchedBy};
-ghost use Rattle.ndarray.specs.order.Steps.{rank};
+ghost use Rattle.ndarray.specs.order.Ranks.{rank};
 
 use crate::base::axis::Axis;
 use crate::base::dimension::{Dimension, Lengths, RemoveAxis};

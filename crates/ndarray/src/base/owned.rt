@@ -12,7 +12,7 @@ ghost use Rattle.ndarray.specs.Orders.{HasInOrder, cells_in};
 use crate::base::array::{Array, ArrayBase, ArrayView, CowArray};
 use crate::base::dimension::{Dimension, Lengths};
 use crate::base::error::{ErrorKind, ShapeError};
-use crate::base::filling::Filling;
+use crate::base::builder::ArrayBuilder;
 use crate::base::layout::{Layout, default_strides};
 use crate::base::shape::{Order, Shape, ShapeBuilder};
 use crate::base::storage::{CowRepr, DataOwned};
@@ -136,11 +136,11 @@ impl<A: Zero + Drop, S: DataOwned<Elem = A>, D: Dimension> ArrayBase<S, D> {
     {
         let Shape { dim, order } = shape.into_shape_with_order();
         let size = dim.size();
-        let mut filling = Filling::with_capacity(alloc, dim, order)?;
+        let mut builder = ArrayBuilder::with_capacity(alloc, dim, order)?;
         for _ in 0..size {
-            filling.push(A::zero());
+            builder.push(A::zero());
         }
-        Ok(filling.finish())
+        Ok(builder.finish())
     }
 }
 

@@ -5,8 +5,8 @@ ghost use Rattle.ndarray.specs.Grid.{cell, IsGrid};
 ghost use Rattle.ndarray.specs.Index.{InBox, size};
 ghost use Rattle.ndarray.specs.Limits.{IsWithinLimit};
 ghost use Rattle.ndarray.specs.base.Places.{place};
-ghost use Rattle.ndarray.specs.base.Nested.{magnitude, reach, total, turned, sunk, AreNested};
-ghost use Rattle.ndarray.specs.base.Spots.{place_in};
+ghost use Rattle.ndarray.specs.base.Nested.{magnitude, reach, total, forward_index, below_first, AreNested};
+ghost use Rattle.ndarray.specs.base.CellLayouts.{place_in};
 ghost use Rattle.ndarray.specs.base.Slots.{held_at};
 
 use crate::base::array::{Array, ArrayBase, ArrayViewMut};
@@ -17,7 +17,7 @@ use crate::base::storage::OwnedRepr;
 use std::marker::Model;
 
 /// A stride without its sign.
-fn without_sign(stride: usize) -> usize
+fn magnitude(stride: usize) -> usize
     ensures { result ≡ magnitude stride }
 {
     stride.min(stride.wrapping_neg())
@@ -27,18 +27,18 @@ fn without_sign(stride: usize) -> usize
 fn below_first(len: usize, stride: usize) -> usize
     requires some { 0 < len }
     requires near { reach len stride < 2 ^ 63 }
-    ensures { result ≡ sunk len stride }
+    ensures { result ≡ below_first len stride }
 {
-    let m = without_sign(stride);
+    let m = magnitude(stride);
     if m == stride { 0 } else { (len - 1) * m }
 }
 
 /// An index on the axis turned so that its stride goes up.
-fn upright(len: usize, stride: usize, i: usize) -> usize
+fn forward_index(len: usize, stride: usize, i: usize) -> usize
     requires { i < len }
-    ensures { result ≡ turned len stride i }
+    ensures { result ≡ forward_index len stride i }
 {
-    if without_sign(stride) == stride {
+    if magnitude(stride) == stride {
         i
     } else {
         len - 1 - i
@@ -46,14 +46,14 @@ fn upright(len: usize, stride: usize, i: usize) -> usize
 }
 
 /// Of the axes longer than 1 the one of the largest stride, signs left out.
-fn longest_stride<D: Lengths>(dim: &D, strides: &D) -> Option<usize>
+fn axis_of_largest_stride<D: Lengths>(dim: &D, strides: &D) -> Option<usize>
     requires { length (D.numbers strides.now) ≡ length (D.numbers dim.now) }
     ensures { MatchOption result ((k : ℕ) → k < length (D.numbers dim.now) → slice_index (D.numbers dim.now) k ≤ 1) (λ k. (k < length (D.numbers dim.now)) × (1 < slice_index (D.numbers dim.now) k) × ((j : ℕ) → j < length (D.numbers dim.now) → 1 < slice_index (D.numbers dim.now) j → magnitude (slice_index (D.numbers strides.now) j) ≤ magnitude (slice_index (D.numbers strides.now) k))) }
 {
     let mut best = None;
     let mut most = 0;
     for k in 0..dim.ndim() {
-        let m = without_sign(strides.axis(k));
+        let m = magnitude(strides.axis(k));
         if dim.axis(k) > 1 && m >= most {
             best = Some(k);
             most = m;
@@ -64,17 +64,17 @@ fn longest_stride<D: Lengths>(dim: &D, strides: &D) -> Option<usize>
 
 impl<D: Lengths> Layout<D> {
     /// How far the lowest place of a box that is not empty lies below the first.
-    fn depth(&self) -> usize
+    fn below_start(&self) -> usize
         requires as_many { length (D.numbers self.now.strides) ≡ length (D.numbers self.now.dim) }
         requires some { 0 < size (D.numbers self.now.dim) }
         requires nested { AreNested (D.numbers self.now.dim) (D.numbers self.now.strides) }
-        ensures { result ≡ total sunk (D.numbers self.now.dim) (D.numbers self.now.strides) }
+        ensures { result ≡ total below_first (D.numbers self.now.dim) (D.numbers self.now.strides) }
     {
-        let mut depth = 0;
+        let mut below_start = 0;
         for k in 0..self.dim.ndim() {
-            depth += below_first(self.dim.axis(k), self.strides.axis(k));
+            below_start += below_first(self.dim.axis(k), self.strides.axis(k));
         }
-        depth
+        below_start
     }
 
     /// The index list whose cell lies at a place, of a box whose strides are nested; `None` where none does.
@@ -90,19 +90,19 @@ impl<D: Lengths> Layout<D> {
         if self.dim.size() == 0 {
             return None;
         }
-        let mut rest = at.wrapping_sub(self.start).wrapping_add(self.depth());
+        let mut rest = at.wrapping_sub(self.start).wrapping_add(self.below_start());
         let mut dim = self.dim.copied();
         let mut index = D::zeros(dim.ndim());
-        while let Some(k) = longest_stride(&dim, &self.strides) {
+        while let Some(k) = axis_of_largest_stride(&dim, &self.strides) {
             let stride = self.strides.axis(k);
-            let m = without_sign(stride);
+            let m = magnitude(stride);
             let len = dim.axis(k);
             let i = rest / m;
             if i >= len {
                 return None;
             }
             rest %= m;
-            index.set_axis(k, upright(len, stride, i));
+            index.set_axis(k, forward_index(len, stride, i));
             dim.set_axis(k, 1);
         }
         match self.find(&index) {
@@ -120,13 +120,13 @@ pub struct PlaceMap<D: Lengths> {
 
 impl<D: Lengths> Model for PlaceMap<D> {
     ghost use Rattle.ndarray.specs.base.PlaceMap.{LiesApart};
-    ghost use Rattle.ndarray.specs.base.Spots.{Spot, spot};
+    ghost use Rattle.ndarray.specs.base.CellLayouts.{CellLayout, cell_layout};
 
-    ghost Value = { Spot };
+    ghost Value = { CellLayout };
 
-    ghost view = { λ m. spot (D.numbers m.layout.dim) m.layout.start (D.numbers m.layout.strides) };
+    ghost view = { λ m. cell_layout (D.numbers m.layout.dim) m.layout.start (D.numbers m.layout.strides) };
 
-    ghost invariant = { λ m. LiesApart (spot (D.numbers m.layout.dim) m.layout.start (D.numbers m.layout.strides)) };
+    ghost invariant = { λ m. LiesApart (cell_layout (D.numbers m.layout.dim) m.layout.start (D.numbers m.layout.strides)) };
 }
 
 impl<D: Lengths> PlaceMap<D> {

@@ -1,13 +1,13 @@
 //! Elements at some of the places of a slice, behind one lifetime: what writing views keep theirs in.
 //!
 //! A region is split by places, and its parts live side by side. Raw pointers stay inside `of`,
-//! `into_slice`, `get_mut`, `shared` and `Reading::slice`.
+//! `into_slice`, `get_mut`, `shared` and `SharedRegion::slice`.
 
 ghost use Rattle.std.specs.Prelude.{◌≡◌, ◌≢◌, ℕ, Bool, List, Option, Some, None, map, take, drop};
 ghost use Rattle.std.specs.Borrow.{sem};
 ghost use base.Fml.{GName, ffalse};
-ghost use Rattle.ndarray.specs.base.Slots.{held_at, kept, others, IsFilled, IsRun};
-ghost use Rattle.ndarray.specs.base.Strewn.{region_owns, region_lent, reading_lent};
+ghost use Rattle.ndarray.specs.base.Slots.{held_at, slots_in, slots_outside, IsFilled, IsRun};
+ghost use Rattle.ndarray.specs.base.Scattered.{region_owns, region_lent, shared_region_lent};
 
 use crate::base::array::{ArrayBase, ArrayViewMut};
 use crate::base::dimension::Lengths;
@@ -18,18 +18,18 @@ use std::slice;
 
 /// A lifetime as a type.
 pub struct Life<'a> {
-    mark: PhantomData<&'a mut ()>,
+    marker: PhantomData<&'a mut ()>,
 }
 
 /// The right to read and write, for as long as `M` lives, the elements at some places of a slice.
 /// Places are indices of that slice, and stay so in each part.
 pub struct RegionRepr<M, A> {
     pub(super) ptr: *mut A,
-    pub(super) mark: PhantomData<M>,
+    pub(super) marker: PhantomData<M>,
     // The loan of the elements.
     ghost name: { GName },
-    // The loan of what was opened, where the region came of an opening.
-    ghost tie: { GName },
+    // The loan of what was reborrow, where the region came of an opening.
+    ghost reborrow_name: { GName },
     // The element at each place; `None` at one that is not held.
     ghost slots: { List (Option A) },
 }
@@ -42,7 +42,7 @@ impl<M, A> Model for RegionRepr<M, A> {
 
 impl<M, A> Drop for RegionRepr<M, A> {
     fn drop(self) {
-        let Self { ptr: _, mark: _ } = self;
+        let Self { ptr: _, marker: _ } = self;
     }
 }
 
@@ -56,7 +56,7 @@ impl<'a, A> RegionRepr<Life<'a>, A> {
     {
         RegionRepr {
             ptr: s.as_mut_ptr(),
-            mark: PhantomData,
+            marker: PhantomData,
         }
     }
 
@@ -66,7 +66,7 @@ impl<'a, A> RegionRepr<Life<'a>, A> {
         ensures* writes_back { sem 𝓛 (follows_run A.row self.entry.slots self.entry.name from result.ghost_name) }
         ensures value { take len (drop from self.entry.slots) ≡ map Some result.now }
     {
-        let RegionRepr { ptr, mark: _ } = self;
+        let RegionRepr { ptr, marker: _ } = self;
         unsafe { slice::from_raw_parts_mut(ptr.add(from), len) }
     }
 
@@ -100,18 +100,18 @@ impl<A, M> RegionRepr<M, A> {
     pub(crate) fn split<B>(self, _by: &B) -> (RegionRepr<M, A>, RegionRepr<M, A>)
         ghost mask: { List Bool }
         ensures* writes_back { sem 𝓛 (follows_parts A.row mask self.slots self.name result.0.name result.1.name) }
-        ensures first { result.0.slots ≡ kept mask self.slots }
-        ensures second { result.1.slots ≡ others mask self.slots }
+        ensures first { result.0.slots ≡ slots_in mask self.slots }
+        ensures second { result.1.slots ≡ slots_outside mask self.slots }
     {
-        let Self { ptr, mark: _ } = self;
+        let Self { ptr, marker: _ } = self;
         (
             RegionRepr {
                 ptr,
-                mark: PhantomData,
+                marker: PhantomData,
             },
             RegionRepr {
                 ptr,
-                mark: PhantomData,
+                marker: PhantomData,
             },
         )
     }
@@ -134,10 +134,10 @@ impl<A, M> RegionRepr<M, A> {
     }
 
     /// The same places, to read.
-    pub(crate) fn shared(&self) -> &Reading<A>
+    pub(crate) fn shared(&self) -> &SharedRegion<A>
         ensures { result.now.slots ≡ self.now.slots }
     {
-        unsafe { &*(self as *const RegionRepr<M, A> as *const Reading<A>) }
+        unsafe { &*(self as *const RegionRepr<M, A> as *const SharedRegion<A>) }
     }
 }
 
@@ -185,7 +185,7 @@ impl<M, A> DataMut for RegionRepr<M, A> {
     }
 
     fn lend<D: Lengths>(array: &mut ArrayBase<Self, D>) -> ArrayViewMut<'_, A, D> {
-        let (layout, storage) = array.opened();
+        let (layout, storage) = array.reborrow();
         let layout = layout.copied();
         ArrayBase { storage, layout }
     }
@@ -198,20 +198,20 @@ impl<M, A> DataMut for RegionRepr<M, A> {
 }
 
 /// What a `&` to a region's places reaches. No value of it is ever owned.
-pub struct Reading<A> {
+pub struct SharedRegion<A> {
     ptr: *mut A,
-    mark: PhantomData<A>,
+    marker: PhantomData<A>,
     // The element at each place; `None` at one that is not held.
     ghost slots: { List (Option A) },
 }
 
-impl<A> Model for Reading<A> {
+impl<A> Model for SharedRegion<A> {
     ghost also_owns = { λ _. ffalse };
 
-    ghost also_shares = { λ r _ κ. reading_lent A.row r.ptr r.slots κ };
+    ghost also_shares = { λ r _ κ. shared_region_lent A.row r.ptr r.slots κ };
 }
 
-impl<A> Reading<A> {
+impl<A> SharedRegion<A> {
     /// The element at one place.
     pub(crate) fn get(&self, place: usize) -> &A
         requires { IsFilled self.now.slots place }

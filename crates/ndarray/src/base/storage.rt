@@ -8,7 +8,7 @@ ghost use Rattle.ndarray.specs.base.Storage.{seen_at};
 
 use crate::base::array::{ArrayBase, ArrayViewMut};
 use crate::base::dimension::Lengths;
-use crate::base::region::Reading;
+use crate::base::region::SharedRegion;
 use std::alloc::AllocError;
 
 /// What an array keeps its elements in: elements by places, some of which may hold none.
@@ -109,7 +109,7 @@ pub trait DataOwned: Data {
 /// The elements of a reading view: those of a slice, or those that a writing view holds.
 pub enum ViewRepr<'a, A> {
     Slice(&'a [A]),
-    Part(&'a Reading<A>),
+    Part(&'a SharedRegion<A>),
 }
 
 impl<'a, A> Clone for ViewRepr<'a, A> {

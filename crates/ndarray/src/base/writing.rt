@@ -2,7 +2,7 @@
 
 ghost use Rattle.std.specs.Prelude.{◌≡◌, ◌≤◌, ◌+◌, take, drop, [], ◌∷◌, length, slice_get, IsOk, IfOk, IfErr, ⊤};
 ghost use Rattle.std.specs.Borrow.{sem};
-ghost use Rattle.ndarray.specs.Grid.{IsGrid, line};
+ghost use Rattle.ndarray.specs.Grid.{IsGrid, one_axis};
 ghost use Rattle.ndarray.specs.Orders.{cells_in};
 ghost use Rattle.ndarray.specs.Views.{transposed};
 ghost use Rattle.ndarray.specs.base.Places.{grid_at, places_at, Reaches};

@@ -9,7 +9,7 @@ ghost use Rattle.ndarray.specs.Index.{size};
 use crate::base::array::{Array, CowArray};
 use crate::base::dimension::Lengths;
 use crate::places::move_out::MoveOut;
-use crate::places::steps::Steps;
+use crate::places::cell_places::CellPlaces;
 use std::alloc::{AllocError, Global};
 use std::iter::ExactSizeIterator;
 use std::marker::Model;
@@ -30,7 +30,7 @@ enum Source<A, D: Lengths> {
     /// A vector whose elements are the cells in row order.
     Whole(vec::IntoIter<A, Global>),
     /// A vector in which the cells lie at some places.
-    Places(MoveOut<A, Steps<D>>),
+    Places(MoveOut<A, CellPlaces<D>>),
 }
 
 impl<A, D: Lengths> Model for IntoIter<A, D> {
@@ -61,7 +61,7 @@ impl<A: Drop, D: Lengths> IntoIterator for Array<A, D> {
             Err(array) => {
                 let (items, map) = array.into_storage();
                 IntoIter {
-                    source: Source::Places(MoveOut::new(items, Steps::new(map))),
+                    source: Source::Places(MoveOut::new(items, CellPlaces::new(map))),
                 }
             }
         }

@@ -11,17 +11,17 @@ use std::marker::{Model, Move, Owns, PhantomData};
 use std::mem::{align_of, size_of};
 
 /// The bits of a value whose memory has gone to another owner.
-pub struct Husk<V> {
+pub struct ForgottenBits<V> {
     _value: V,
 }
 
-impl<V> Owns for Husk<V> {
+impl<V> Owns for ForgottenBits<V> {
     ghost Value = { Unit {0} };
 
     ghost shr_at = { λ _ _ _. ftrue };
 }
 
-impl<V> Move for Husk<V> {
+impl<V> Move for ForgottenBits<V> {
     ghost own_val = { λ _ _. ftrue };
 }
 
@@ -45,7 +45,7 @@ pub(crate) fn open<T, A: Allocator>(
     ptr: *mut T,
     len: usize,
     cap: usize,
-) -> (Slots<T>, Deed<T, A>, Husk<Vec<T, A>>)
+) -> (Slots<T>, Deed<T, A>, ForgottenBits<Vec<T, A>>)
     requires { (ptr ≡ vec_ptr vec) × (len ≡ vec_len vec) × (cap ≡ vec_capacity vec) }
     ensures row { (slots_len result.0 ≡ len) × (slots_items result.0 ≡ vec.items) × (slots_filled result.0 ≡ replicate len true) }
     ensures deed { (result.1.ptr ≡ slots_ptr result.0) × (result.1.out ≡ slots_len result.0) × (result.1.alloc ≡ vec_allocator vec) }
@@ -57,7 +57,7 @@ pub(crate) fn open<T, A: Allocator>(
             cap,
             by: PhantomData,
         },
-        Husk { _value: vec },
+        ForgottenBits { _value: vec },
     )
 }
 

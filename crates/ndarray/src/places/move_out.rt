@@ -2,11 +2,11 @@
 ghost use Rattle.std.specs.Prelude.{◌≡◌, ◌<◌, ◌⊎◌, ◌↔◌, ℕ, List, length, filter_map, slice_get, All, Contains, Some, IfSome, IsTrue};
 ghost use Rattle.std.specs.Iterator.{YieldsFirst};
 
-use crate::places::emptying::Emptying;
+use crate::places::partly_moved::PartlyMovedVec;
 use std::marker::Model;
 
 /// Places that are passed one by one, each at most once.
-pub trait Way: Drop {
+pub trait PlaceSequence: Drop {
     // The places that are still to come, in their order.
     ghost to_come: { Self → List ℕ };
 
@@ -14,7 +14,7 @@ pub trait Way: Drop {
     ghost passed: { Self → ℕ → Type 0 };
 
     /// Passes the next place.
-    fn pass(&mut self) -> Option<usize>
+    fn next_place(&mut self) -> Option<usize>
         ensures rest { YieldsFirst to_come self.old result self.new }
         ensures once { IfSome result (λ p. Contains (to_come self.new) p → ⊥) }
         ensures passed { (p : ℕ) → passed self.new p ↔ (passed self.old p ⊎ (result ≡ Some p)) };
@@ -30,12 +30,12 @@ pub trait Way: Drop {
 
 /// A clause sees it as the elements that are still to come. It takes no memory and has no mark of what was moved out: the
 /// way tells. Its end drops each element that was not moved out, also those that the way never reaches.
-pub struct MoveOut<A, W: Way> {
-    left: Emptying<A>,
+pub struct MoveOut<A, W: PlaceSequence> {
+    left: PartlyMovedVec<A>,
     way: W,
 }
 
-impl<A, W: Way> Model for MoveOut<A, W> {
+impl<A, W: PlaceSequence> Model for MoveOut<A, W> {
     ghost use Rattle.std.specs.Prelude.{List};
     ghost use Rattle.ndarray.specs.places.Moving.{found, Stands};
 
@@ -46,7 +46,7 @@ impl<A, W: Way> Model for MoveOut<A, W> {
     ghost invariant = { λ m. Stands (W.passed m.way) (W.to_come m.way) m.left };
 }
 
-impl<A, W: Way> MoveOut<A, W> {
+impl<A, W: PlaceSequence> MoveOut<A, W> {
     /// The elements at the places of a way that has not begun.
     pub fn new(vec: Vec<A>, way: W) -> Self
         requires within { All (λ p. p < length vec.items) (W.to_come way) }
@@ -54,7 +54,7 @@ impl<A, W: Way> MoveOut<A, W> {
         ensures { result ≡ filter_map (slice_get vec.items) (W.to_come way) }
     {
         MoveOut {
-            left: Emptying::of(vec),
+            left: PartlyMovedVec::of(vec),
             way,
         }
     }
@@ -71,14 +71,14 @@ impl<A, W: Way> MoveOut<A, W> {
     pub fn next(&mut self) -> Option<A>
         ensures { YieldsFirst (λ rest. rest) self.old result self.new }
     {
-        let Some(place) = self.way.pass() else {
+        let Some(place) = self.way.next_place() else {
             return None;
         };
         Some(self.left.take(place))
     }
 }
 
-impl<A: Drop, W: Way> Drop for MoveOut<A, W> {
+impl<A: Drop, W: PlaceSequence> Drop for MoveOut<A, W> {
     fn drop(self) {
         let MoveOut { mut left, way } = self;
         for place in 0..left.len() {

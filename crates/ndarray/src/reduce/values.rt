@@ -1,7 +1,7 @@
 //! Elements that stand for values, and that add as their values do.
 
 ghost use Rattle.std.specs.Prelude.{◌≡◌, ◌↔◌, IsTrue};
-ghost use Rattle.ndarray.specs.Sums.{Monoid};
+ghost use Rattle.ndarray.specs.Sums.{CommutativeMonoid};
 
 use num_traits::Zero;
 use std::ops::Add;
@@ -12,7 +12,7 @@ pub trait Valued: Copy {
     ghost Carrier: { Type 0 };
 
     // Plus with zero, on all values.
-    ghost plus: { Monoid Carrier };
+    ghost addition: { CommutativeMonoid Carrier };
 
     // The value of an element.
     ghost meaning: { Self → Carrier };
@@ -32,33 +32,33 @@ pub trait Valued: Copy {
 /// and answers the element of that value.
 pub trait SumElem: Valued + Zero + Add<Self, Output = Self> {
     // The element `zero` has the value zero, and `is_zero` tells the elements of that value.
-    ghost zero_meaning: { Self.meaning Self.zero ≡ Self.plus.unit };
+    ghost zero_meaning: { Self.meaning Self.zero ≡ Self.addition.unit };
 
     ghost is_zero_meaning: { (a : Self) → IsTrue (Self.eq a Self.zero)
-        ↔ (Self.meaning a ≡ Self.plus.unit) };
+        ↔ (Self.meaning a ≡ Self.addition.unit) };
 
     // A sum in range may be taken, has an answer, and each answer has its value.
     ghost add_in_range: { (a b : Self)
-        → Self.InRange (Self.plus.op (Self.meaning a) (Self.meaning b))
+        → Self.InRange (Self.addition.op (Self.meaning a) (Self.meaning b))
         → Self.can_add a b };
 
     ghost add_answers: { (a b : Self)
-        → Self.InRange (Self.plus.op (Self.meaning a) (Self.meaning b))
+        → Self.InRange (Self.addition.op (Self.meaning a) (Self.meaning b))
         → (r : Self) × Self.add_gives a b r };
 
     ghost add_meaning: { (a b r : Self)
-        → Self.InRange (Self.plus.op (Self.meaning a) (Self.meaning b))
+        → Self.InRange (Self.addition.op (Self.meaning a) (Self.meaning b))
         → Self.add_gives a b r
-        → Self.meaning r ≡ Self.plus.op (Self.meaning a) (Self.meaning b) };
+        → Self.meaning r ≡ Self.addition.op (Self.meaning a) (Self.meaning b) };
 }
 
 impl Valued for i64 {
     ghost use Rattle.std.specs.Prelude.{ℤ};
-    ghost use Rattle.ndarray.specs.Whole.{int_sums};
+    ghost use Rattle.ndarray.specs.Integers.{int_sums};
 
     ghost Carrier = { ℤ };
 
-    ghost plus = { int_sums };
+    ghost addition = { int_sums };
 
     ghost meaning = { λ x. x };
 

@@ -12,7 +12,7 @@ use crate::base::axis::Axis;
 use crate::base::dimension::{Ix1, Lengths, RemoveAxis};
 use crate::base::layout::Layout;
 use crate::base::storage::Data;
-use crate::subviews::tiles::{Tiles, TilesIter};
+use crate::subviews::pieces::{Pieces, PiecesIter};
 use std::alloc::AllocError;
 use std::iter::ExactSizeIterator;
 use std::marker::Model;
@@ -22,7 +22,7 @@ use std::marker::Model;
 /// An iterator takes no memory, and each item is made by arithmetic on the one axis.
 #[derive(Drop)]
 pub struct AxisIter<'a, A, D: Lengths> {
-    pub(crate) items: TilesIter<'a, A, Ix1, D>,
+    pub(crate) items: PiecesIter<'a, A, Ix1, D>,
 }
 
 impl<'a, A, D: Lengths> Model for AxisIter<'a, A, D> {
@@ -66,11 +66,11 @@ impl<S: Data, D: RemoveAxis> ArrayBase<S, D> {
     }
 
     /// The items along an axis, by their indices.
-    fn items(&self, axis: Axis) -> Tiles<'_, S::Elem, Ix1, D::Smaller>
+    fn items(&self, axis: Axis) -> Pieces<'_, S::Elem, Ix1, D::Smaller>
         requires { axis.0 < length self.now.lengths }
         ensures { result ≡ arranged (slice_index self.now.lengths axis.0 ∷ []) (λ is. axis_item self.now axis.0 (slice_index is 0)) }
     {
-        Tiles {
+        Pieces {
             storage: self.storage.seen(),
             positions: Layout {
                 start: self.layout.start,

@@ -5,8 +5,8 @@ ghost use Rattle.std.specs.Int.{div_ceil};
 ghost use Rattle.std.specs.Iterator.{UpTo, YieldsFirst, YieldsLast, item_count};
 ghost use Rattle.std.specs.Iterator.SizeHint.{IsExactHint, IsWithinCount};
 ghost use Rattle.ndarray.specs.Subviews.{axis_chunks};
-ghost use Rattle.ndarray.specs.base.Chunks.{chunk_spot};
-ghost use Rattle.ndarray.specs.base.Spots.{spot};
+ghost use Rattle.ndarray.specs.base.Chunks.{chunk_layout};
+ghost use Rattle.ndarray.specs.base.CellLayouts.{cell_layout};
 
 use crate::base::array::{ArrayBase, ArrayViewMut};
 use crate::base::axis::Axis;
@@ -14,30 +14,30 @@ use crate::base::dimension::{Ix1, Lengths};
 use crate::base::layout::Layout;
 use crate::base::storage::DataMut;
 use crate::order::{Order, Walk};
-use crate::subviews::portions::{Portions, PortionsFromEnds, PortionsMut};
+use crate::subviews::piece_layouts::{PieceLayouts, PieceLayoutsFromEnds, PiecesIterMut};
 use std::iter::ExactSizeIterator;
 use std::marker::{Model, PhantomData};
 
 /// Where the chunks along an axis lie that are still to come.
 #[derive(Drop)]
-pub(crate) struct ChunkPortions<D: Lengths> {
+pub(crate) struct ChunkLayouts<D: Lengths> {
     layout: Layout<D>,
     axis: usize,
     size: usize,
     walk: Walk<Ix1>,
 }
 
-impl<D: Lengths> Model for ChunkPortions<D> {
+impl<D: Lengths> Model for ChunkLayouts<D> {
     ghost use Rattle.std.specs.Prelude.{List};
-    ghost use Rattle.ndarray.specs.base.Spots.{Spot};
+    ghost use Rattle.ndarray.specs.base.CellLayouts.{CellLayout};
 
-    ghost Value = { List Spot };
+    ghost Value = { List CellLayout };
 
-    ghost use Rattle.ndarray.specs.base.Chunks.{ChunkSpotsStand, chunk_spots};
+    ghost use Rattle.ndarray.specs.base.Chunks.{ChunkLayoutsStand, chunk_layouts};
 
-    ghost view = { λ s. chunk_spots (D.numbers s.layout.dim) s.layout.start (D.numbers s.layout.strides) s.axis s.size s.walk };
+    ghost view = { λ s. chunk_layouts (D.numbers s.layout.dim) s.layout.start (D.numbers s.layout.strides) s.axis s.size s.walk };
 
-    ghost invariant = { λ s. ChunkSpotsStand (D.numbers s.layout.dim) (D.numbers s.layout.strides) s.axis s.size s.walk };
+    ghost invariant = { λ s. ChunkLayoutsStand (D.numbers s.layout.dim) (D.numbers s.layout.strides) s.axis s.size s.walk };
 }
 
 /// Where the chunk of a number lies, which is below the number of chunks.
@@ -47,7 +47,7 @@ fn chunk<D: Lengths>(layout: &Layout<D>, axis: usize, size: usize, number: usize
     requires fits { slice_index (D.numbers layout.now.dim) axis < 2 ^ 63 }
     requires size { 1 ≤ size }
     requires number { number < div_ceil (slice_index (D.numbers layout.now.dim) axis) size }
-    ensures { spot (D.numbers result.dim) result.start (D.numbers result.strides) ≡ chunk_spot (D.numbers layout.now.dim) layout.now.start (D.numbers layout.now.strides) axis size number }
+    ensures { cell_layout (D.numbers result.dim) result.start (D.numbers result.strides) ≡ chunk_layout (D.numbers layout.now.dim) layout.now.start (D.numbers layout.now.strides) axis size number }
 {
     let len = layout.dim.axis(axis);
     let from = number * size;
@@ -56,10 +56,10 @@ fn chunk<D: Lengths>(layout: &Layout<D>, axis: usize, size: usize, number: usize
     chunk
 }
 
-impl<D: Lengths> Portions for ChunkPortions<D> {
+impl<D: Lengths> PieceLayouts for ChunkLayouts<D> {
     type Dim = D;
 
-    ghost spots = { λ s. s };
+    ghost layouts = { λ s. s };
 
     #[inline(always)]
     fn next(&mut self) -> Option<Layout<D>> {
@@ -74,7 +74,7 @@ impl<D: Lengths> Portions for ChunkPortions<D> {
     }
 }
 
-impl<D: Lengths> PortionsFromEnds for ChunkPortions<D> {
+impl<D: Lengths> PieceLayoutsFromEnds for ChunkLayouts<D> {
     fn next_back(&mut self) -> Option<Layout<D>> {
         let Some(position) = self.walk.next_back() else {
             return None;
@@ -83,7 +83,7 @@ impl<D: Lengths> PortionsFromEnds for ChunkPortions<D> {
     }
 
     fn take_first(&mut self, count: usize) -> Self {
-        ChunkPortions {
+        ChunkLayouts {
             layout: self.layout.copied(),
             axis: self.axis,
             size: self.size,
@@ -98,7 +98,7 @@ impl<D: Lengths> PortionsFromEnds for ChunkPortions<D> {
 /// An iterator takes no memory, and each chunk is made by arithmetic on the one axis.
 #[derive(Drop)]
 pub struct AxisChunksIterMut<'a, A, D: Lengths> {
-    items: PortionsMut<'a, A, ChunkPortions<D>>,
+    items: PiecesIterMut<'a, A, ChunkLayouts<D>>,
 }
 
 impl<'a, A, D: Lengths> Model for AxisChunksIterMut<'a, A, D> {
@@ -145,7 +145,7 @@ fn chunks<'a, A, D: Lengths>(
     view: ArrayViewMut<'a, A, D>,
     axis: Axis,
     size: usize,
-) -> PortionsMut<'a, A, ChunkPortions<D>>
+) -> PiecesIterMut<'a, A, ChunkLayouts<D>>
     requires axis { axis.0 < length view.lengths }
     requires size { 1 ≤ size }
     ensures items { result ≡ axis_chunks view.entry axis.0 size }
@@ -153,9 +153,9 @@ fn chunks<'a, A, D: Lengths>(
 {
     let count = view.len_of(axis).div_ceil(size);
     let ArrayBase { storage, layout } = view;
-    PortionsMut {
+    PiecesIterMut {
         region: storage,
-        portions: ChunkPortions {
+        layouts: ChunkLayouts {
             layout,
             axis: axis.0,
             size,

@@ -13,8 +13,8 @@ use crate::base::axis::Axis;
 use crate::base::dimension::{Ix1, Lengths, RemoveAxis};
 use crate::base::layout::Layout;
 use crate::base::storage::DataMut;
-use crate::subviews::portions::PortionsMut;
-use crate::subviews::tiles_mut::{TilePortions, TilesMut};
+use crate::subviews::piece_layouts::PiecesIterMut;
+use crate::subviews::pieces_mut::{EqualPieceLayouts, PiecesMut};
 use std::iter::ExactSizeIterator;
 use std::marker::{Model, PhantomData};
 
@@ -24,7 +24,7 @@ use std::marker::{Model, PhantomData};
 /// An iterator takes no memory, and each item is made by arithmetic on the one axis.
 #[derive(Drop)]
 pub struct AxisIterMut<'a, A, D: Lengths> {
-    items: PortionsMut<'a, A, TilePortions<Ix1, D>>,
+    items: PiecesIterMut<'a, A, EqualPieceLayouts<Ix1, D>>,
 }
 
 impl<'a, A, D: Lengths> Model for AxisIterMut<'a, A, D> {
@@ -75,12 +75,12 @@ impl<S: DataMut, D: RemoveAxis> ArrayBase<S, D> {
 fn items<'a, A, D: RemoveAxis>(
     view: ArrayViewMut<'a, A, D>,
     axis: Axis,
-) -> TilesMut<'a, A, Ix1, D::Smaller>
+) -> PiecesMut<'a, A, Ix1, D::Smaller>
     requires { axis.0 < length view.lengths }
     ensures { result ≡ arranged (slice_index view.entry.lengths axis.0 ∷ []) (λ is. axis_item view.entry axis.0 (slice_index is 0)) }
 {
     let ArrayBase { storage, layout } = view;
-    TilesMut {
+    PiecesMut {
         region: storage,
         positions: Layout {
             start: layout.start,
@@ -99,7 +99,7 @@ impl<'a, A, D: Lengths> AxisIterMut<'a, A, D> {
         ensures value { result.0 ≡ length self.now ∷ [] }
         ensures limit { IsWithinLimit (length self.now ∷ []) }
     {
-        Ix1(self.items.portions.bounded_len())
+        Ix1(self.items.layouts.bounded_len())
     }
 
     /// The first `index` items still to come, and the rest. Nothing is gone over.

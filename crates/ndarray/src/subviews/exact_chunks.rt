@@ -10,14 +10,14 @@ use crate::base::dimension::{Dimension, Lengths};
 use crate::base::into_dimension::IntoDimension;
 use crate::base::storage::Data;
 use crate::subviews::positions::are_positive;
-use crate::subviews::tiles::{Tiles, TilesIter};
+use crate::subviews::pieces::{Pieces, PiecesIter};
 use std::alloc::AllocError;
 use std::marker::Model;
 
 /// The whole chunks of an array, in row order of their positions.
 #[derive(Drop)]
 pub struct ExactChunks<'a, A, D: Lengths> {
-    pub(crate) tiles: Tiles<'a, A, D, D>,
+    pub(crate) pieces: Pieces<'a, A, D, D>,
 }
 
 impl<'a, A, D: Lengths> Model for ExactChunks<'a, A, D> {
@@ -25,7 +25,7 @@ impl<'a, A, D: Lengths> Model for ExactChunks<'a, A, D> {
 
     ghost Value = { Grid (Grid A) };
 
-    ghost view = { λ s. s.tiles };
+    ghost view = { λ s. s.pieces };
 }
 
 impl<S: Data, D: Dimension> ArrayBase<S, D> {
@@ -53,7 +53,7 @@ impl<S: Data, D: Dimension> ArrayBase<S, D> {
         let chunk = chunk.into_dimension();
         let steps = chunk.copied();
         ExactChunks {
-            tiles: self.pieces(chunk, &steps),
+            pieces: self.pieces(chunk, &steps),
         }
     }
 }
@@ -65,7 +65,7 @@ impl<'a, A, D: Lengths> Clone for ExactChunks<'a, A, D> {
 
     fn clone(&self) -> Result<ExactChunks<'a, A, D>, AllocError> {
         Ok(ExactChunks {
-            tiles: self.tiles.again(),
+            pieces: self.pieces.again(),
         })
     }
 }
@@ -81,7 +81,7 @@ impl<'a, A, D: Lengths> IntoIterator for ExactChunks<'a, A, D> {
 
     fn into_iter(self) -> ExactChunksIter<'a, A, D> {
         ExactChunksIter {
-            items: self.tiles.into_iter(),
+            items: self.pieces.into_iter(),
         }
     }
 }
@@ -90,7 +90,7 @@ impl<'a, A, D: Lengths> IntoIterator for ExactChunks<'a, A, D> {
 /// `run` was asked for.
 #[derive(Drop)]
 pub struct ExactChunksIter<'a, A, D: Lengths> {
-    pub(crate) items: TilesIter<'a, A, D, D>,
+    pub(crate) items: PiecesIter<'a, A, D, D>,
 }
 
 impl<'a, A, D: Lengths> Model for ExactChunksIter<'a, A, D> {

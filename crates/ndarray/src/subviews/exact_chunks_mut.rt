@@ -9,16 +9,16 @@ use crate::base::array::{ArrayBase, ArrayViewMut};
 use crate::base::dimension::{Dimension, Lengths};
 use crate::base::into_dimension::IntoDimension;
 use crate::base::storage::DataMut;
-use crate::subviews::portions::PortionsMut;
+use crate::subviews::piece_layouts::PiecesIterMut;
 use crate::subviews::positions::window_positions;
-use crate::subviews::tiles_mut::{TilePortions, TilesMut};
+use crate::subviews::pieces_mut::{EqualPieceLayouts, PiecesMut};
 use std::marker::{Model, PhantomData};
 
 /// The whole chunks of an array, to write in, in row order of their positions. No two of them share
 /// a cell.
 #[derive(Drop)]
 pub struct ExactChunksMut<'a, A, D: Lengths> {
-    pub(crate) tiles: TilesMut<'a, A, D, D>,
+    pub(crate) pieces: PiecesMut<'a, A, D, D>,
 }
 
 impl<'a, A, D: Lengths> Model for ExactChunksMut<'a, A, D> {
@@ -26,7 +26,7 @@ impl<'a, A, D: Lengths> Model for ExactChunksMut<'a, A, D> {
 
     ghost Value = { Grid (Grid A) };
 
-    ghost view = { λ s. s.tiles };
+    ghost view = { λ s. s.pieces };
 }
 
 impl<S: DataMut, D: Dimension> ArrayBase<S, D> {
@@ -51,18 +51,18 @@ impl<S: DataMut, D: Dimension> ArrayBase<S, D> {
         ensures { result ≡ exact_chunks_of self.old (E.written_numbers chunk) }
     {
         ExactChunksMut {
-            tiles: tiles(self.view_mut(), chunk.into_dimension()),
+            pieces: pieces(self.view_mut(), chunk.into_dimension()),
         }
     }
 }
 
 /// The whole chunks of these lengths, by their positions.
-fn tiles<'a, A, D: Lengths>(view: ArrayViewMut<'a, A, D>, chunk: D) -> TilesMut<'a, A, D, D>
+fn pieces<'a, A, D: Lengths>(view: ArrayViewMut<'a, A, D>, chunk: D) -> PiecesMut<'a, A, D, D>
     requires { ArePositive view.lengths (D.numbers chunk) }
     ensures { result ≡ exact_chunks_of view.entry (D.numbers chunk) }
 {
     let ArrayBase { storage, layout } = view;
-    TilesMut {
+    PiecesMut {
         region: storage,
         positions: window_positions(&layout, &chunk, &chunk),
         dim: chunk,
@@ -82,7 +82,7 @@ impl<'a, A, D: Lengths> IntoIterator for ExactChunksMut<'a, A, D> {
 
     fn into_iter(self) -> ExactChunksIterMut<'a, A, D> {
         ExactChunksIterMut {
-            items: self.tiles.into_iter(),
+            items: self.pieces.into_iter(),
         }
     }
 }
@@ -90,7 +90,7 @@ impl<'a, A, D: Lengths> IntoIterator for ExactChunksMut<'a, A, D> {
 /// The whole chunks that are still to come, to write in, in row order of their positions.
 #[derive(Drop)]
 pub struct ExactChunksIterMut<'a, A, D: Lengths> {
-    pub(crate) items: PortionsMut<'a, A, TilePortions<D, D>>,
+    pub(crate) items: PiecesIterMut<'a, A, EqualPieceLayouts<D, D>>,
 }
 
 impl<'a, A, D: Lengths> Model for ExactChunksIterMut<'a, A, D> {

@@ -10,7 +10,7 @@ use crate::base::axis::Axis;
 use crate::base::dimension::{Dimension, Ix1, Lengths};
 use crate::base::layout::Layout;
 use crate::base::storage::Data;
-use crate::subviews::tiles::{Tiles, TilesIter};
+use crate::subviews::pieces::{Pieces, PiecesIter};
 use std::alloc::AllocError;
 use std::iter::ExactSizeIterator;
 use std::marker::Model;
@@ -19,7 +19,7 @@ use std::marker::Model;
 /// dimension is `D`.
 #[derive(Drop)]
 pub struct Lanes<'a, A, D: Lengths> {
-    pub(crate) tiles: Tiles<'a, A, D, Ix1>,
+    pub(crate) pieces: Pieces<'a, A, D, Ix1>,
 }
 
 impl<'a, A, D: Lengths> Model for Lanes<'a, A, D> {
@@ -27,7 +27,7 @@ impl<'a, A, D: Lengths> Model for Lanes<'a, A, D> {
 
     ghost Value = { Grid (Grid A) };
 
-    ghost view = { λ s. s.tiles };
+    ghost view = { λ s. s.pieces };
 }
 
 impl<S: Data, D: Dimension> ArrayBase<S, D> {
@@ -59,7 +59,7 @@ impl<S: Data, D: Dimension> ArrayBase<S, D> {
             (layout.dim.axis(axis.0), layout.strides.axis(axis.0))
         };
         Lanes {
-            tiles: Tiles {
+            pieces: Pieces {
                 storage: self.storage.seen(),
                 positions: Layout {
                     start: layout.start,
@@ -94,7 +94,7 @@ impl<'a, A, D: Lengths> Clone for Lanes<'a, A, D> {
 
     fn clone(&self) -> Result<Lanes<'a, A, D>, AllocError> {
         Ok(Lanes {
-            tiles: self.tiles.again(),
+            pieces: self.pieces.again(),
         })
     }
 }
@@ -110,7 +110,7 @@ impl<'a, A, D: Lengths> IntoIterator for Lanes<'a, A, D> {
 
     fn into_iter(self) -> LanesIter<'a, A, D> {
         LanesIter {
-            items: self.tiles.into_iter(),
+            items: self.pieces.into_iter(),
         }
     }
 }
@@ -119,7 +119,7 @@ impl<'a, A, D: Lengths> IntoIterator for Lanes<'a, A, D> {
 /// was asked for.
 #[derive(Drop)]
 pub struct LanesIter<'a, A, D: Lengths> {
-    pub(crate) items: TilesIter<'a, A, D, Ix1>,
+    pub(crate) items: PiecesIter<'a, A, D, Ix1>,
 }
 
 impl<'a, A, D: Lengths> Model for LanesIter<'a, A, D> {

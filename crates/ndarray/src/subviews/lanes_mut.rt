@@ -10,8 +10,8 @@ use crate::base::axis::Axis;
 use crate::base::dimension::{Dimension, Ix1, Lengths};
 use crate::base::layout::Layout;
 use crate::base::storage::DataMut;
-use crate::subviews::portions::PortionsMut;
-use crate::subviews::tiles_mut::{TilePortions, TilesMut};
+use crate::subviews::piece_layouts::PiecesIterMut;
+use crate::subviews::pieces_mut::{EqualPieceLayouts, PiecesMut};
 use std::iter::ExactSizeIterator;
 use std::marker::{Model, PhantomData};
 
@@ -19,7 +19,7 @@ use std::marker::{Model, PhantomData};
 /// other axes, whose dimension is `D`. No two of them share a cell.
 #[derive(Drop)]
 pub struct LanesMut<'a, A, D: Lengths> {
-    pub(crate) tiles: TilesMut<'a, A, D, Ix1>,
+    pub(crate) pieces: PiecesMut<'a, A, D, Ix1>,
 }
 
 impl<'a, A, D: Lengths> Model for LanesMut<'a, A, D> {
@@ -27,7 +27,7 @@ impl<'a, A, D: Lengths> Model for LanesMut<'a, A, D> {
 
     ghost Value = { Grid (Grid A) };
 
-    ghost view = { λ s. s.tiles };
+    ghost view = { λ s. s.pieces };
 }
 
 impl<S: DataMut, D: Dimension> ArrayBase<S, D> {
@@ -48,7 +48,7 @@ impl<S: DataMut, D: Dimension> ArrayBase<S, D> {
         ensures { result ≡ lanes_of self.old axis.0 }
     {
         LanesMut {
-            tiles: tiles(self.view_mut(), axis),
+            pieces: pieces(self.view_mut(), axis),
         }
     }
 
@@ -69,10 +69,10 @@ impl<S: DataMut, D: Dimension> ArrayBase<S, D> {
 }
 
 /// The lanes along an axis, by the index lists of the other axes.
-fn tiles<'a, A, D: Dimension>(
+fn pieces<'a, A, D: Dimension>(
     view: ArrayViewMut<'a, A, D>,
     axis: Axis,
-) -> TilesMut<'a, A, D::Smaller, Ix1>
+) -> PiecesMut<'a, A, D::Smaller, Ix1>
     requires { (view.lengths ≡ []) ⊎ (axis.0 < length view.lengths) }
     ensures { result ≡ lanes_of view.entry axis.0 }
 {
@@ -82,7 +82,7 @@ fn tiles<'a, A, D: Dimension>(
     } else {
         (layout.dim.axis(axis.0), layout.strides.axis(axis.0))
     };
-    TilesMut {
+    PiecesMut {
         region: storage,
         positions: Layout {
             start: layout.start,
@@ -106,7 +106,7 @@ impl<'a, A, D: Lengths> IntoIterator for LanesMut<'a, A, D> {
 
     fn into_iter(self) -> LanesIterMut<'a, A, D> {
         LanesIterMut {
-            items: self.tiles.into_iter(),
+            items: self.pieces.into_iter(),
         }
     }
 }
@@ -114,7 +114,7 @@ impl<'a, A, D: Lengths> IntoIterator for LanesMut<'a, A, D> {
 /// The lanes that are still to come, to write in, in row order of their index lists.
 #[derive(Drop)]
 pub struct LanesIterMut<'a, A, D: Lengths> {
-    pub(crate) items: PortionsMut<'a, A, TilePortions<D, Ix1>>,
+    pub(crate) items: PiecesIterMut<'a, A, EqualPieceLayouts<D, Ix1>>,
 }
 
 impl<'a, A, D: Lengths> Model for LanesIterMut<'a, A, D> {

@@ -3,13 +3,13 @@
 ghost use Rattle.std.specs.Prelude.{◌≡◌, ◌↔◌, ◌<◌, ◌≤◌, ◌^◌, length, replicate, IsTrue};
 ghost use Rattle.ndarray.specs.Limits.{IsWithinLimit};
 ghost use Rattle.ndarray.specs.Subviews.{ArePositive, window_count, window_counts, windows_of};
-ghost use Rattle.ndarray.specs.base.Tiles.{AreStepsOf, AreWindowsOf};
+ghost use Rattle.ndarray.specs.base.Pieces.{AreStepsOf, AreWindowsOf};
 
 use crate::base::array::ArrayBase;
 use crate::base::dimension::Lengths;
 use crate::base::layout::Layout;
 use crate::base::storage::Data;
-use crate::subviews::tiles::Tiles;
+use crate::subviews::pieces::Pieces;
 
 /// Whether there are as many numbers as axes, each at least 1.
 pub(crate) fn are_positive<D: Lengths>(dim: &D, numbers: &D) -> bool
@@ -77,12 +77,12 @@ pub(super) fn window_positions<D: Lengths>(layout: &Layout<D>, window: &D, steps
 
 impl<S: Data, D: Lengths> ArrayBase<S, D> {
     /// The windows of these lengths, steps apart on each axis.
-    pub(crate) fn pieces(&self, window: D, steps: &D) -> Tiles<'_, S::Elem, D, D>
+    pub(crate) fn pieces(&self, window: D, steps: &D) -> Pieces<'_, S::Elem, D, D>
         requires window { AreWindowsOf self.now.lengths (D.numbers window) }
         requires steps { ArePositive self.now.lengths (D.numbers steps.now) }
         ensures { result ≡ windows_of self.now (D.numbers window) (D.numbers steps.now) }
     {
-        Tiles {
+        Pieces {
             storage: self.storage.seen(),
             positions: window_positions(&self.layout, &window, steps),
             dim: window,

@@ -11,14 +11,14 @@ use crate::base::dimension::{Dimension, Lengths};
 use crate::base::into_dimension::IntoDimension;
 use crate::base::storage::Data;
 use crate::subviews::positions::{are_positive, ones};
-use crate::subviews::tiles::{Tiles, TilesIter};
+use crate::subviews::pieces::{Pieces, PiecesIter};
 use std::alloc::AllocError;
 use std::marker::Model;
 
 /// The windows of an array, in row order of their positions.
 #[derive(Drop)]
 pub struct Windows<'a, A, D: Lengths> {
-    pub(crate) tiles: Tiles<'a, A, D, D>,
+    pub(crate) pieces: Pieces<'a, A, D, D>,
 }
 
 impl<'a, A, D: Lengths> Model for Windows<'a, A, D> {
@@ -26,7 +26,7 @@ impl<'a, A, D: Lengths> Model for Windows<'a, A, D> {
 
     ghost Value = { Grid (Grid A) };
 
-    ghost view = { λ s. s.tiles };
+    ghost view = { λ s. s.pieces };
 }
 
 /// The windows of an array along one axis, from the first to the last; on the other axes they have
@@ -35,18 +35,18 @@ impl<'a, A, D: Lengths> Model for Windows<'a, A, D> {
 pub struct AxisWindows<'a, A, D: Lengths> {
     // on each axis but this one there is one position
     pub(crate) axis: usize,
-    pub(crate) tiles: Tiles<'a, A, D, D>,
+    pub(crate) pieces: Pieces<'a, A, D, D>,
 }
 
 impl<'a, A, D: Lengths> Model for AxisWindows<'a, A, D> {
-    ghost use Rattle.ndarray.specs.Grid.{Grid, line};
-    ghost use Rattle.ndarray.specs.base.Tiles.{AreAlong};
+    ghost use Rattle.ndarray.specs.Grid.{Grid, one_axis};
+    ghost use Rattle.ndarray.specs.base.Pieces.{AreAlong};
 
     ghost Value = { Grid (Grid A) };
 
-    ghost view = { λ s. line s.tiles.cells };
+    ghost view = { λ s. one_axis s.pieces.cells };
 
-    ghost invariant = { λ s. AreAlong s.axis s.tiles };
+    ghost invariant = { λ s. AreAlong s.axis s.pieces };
 }
 
 impl<S: Data, D: Dimension> ArrayBase<S, D> {
@@ -66,7 +66,7 @@ impl<S: Data, D: Dimension> ArrayBase<S, D> {
         ensures { result ≡ windows_of self.now (E.written_numbers window) (replicate (length self.now.lengths) 1) }
     {
         Windows {
-            tiles: self.pieces(window.into_dimension(), &ones(&self.layout.dim)),
+            pieces: self.pieces(window.into_dimension(), &ones(&self.layout.dim)),
         }
     }
 
@@ -85,7 +85,7 @@ impl<S: Data, D: Dimension> ArrayBase<S, D> {
         ensures { result ≡ windows_of self.now (E.written_numbers window) (E.written_numbers steps) }
     {
         Windows {
-            tiles: self.pieces(window.into_dimension(), &steps.into_dimension()),
+            pieces: self.pieces(window.into_dimension(), &steps.into_dimension()),
         }
     }
 }
@@ -124,7 +124,7 @@ impl<S: Data, D: Lengths> ArrayBase<S, D> {
         steps.set_axis(axis.0, step);
         AxisWindows {
             axis: axis.0,
-            tiles: self.pieces(lengths, &steps),
+            pieces: self.pieces(lengths, &steps),
         }
     }
 }
@@ -136,7 +136,7 @@ impl<'a, A, D: Lengths> Clone for Windows<'a, A, D> {
 
     fn clone(&self) -> Result<Windows<'a, A, D>, AllocError> {
         Ok(Windows {
-            tiles: self.tiles.again(),
+            pieces: self.pieces.again(),
         })
     }
 }
@@ -152,7 +152,7 @@ impl<'a, A, D: Lengths> IntoIterator for Windows<'a, A, D> {
 
     fn into_iter(self) -> WindowsIter<'a, A, D> {
         WindowsIter {
-            items: self.tiles.into_iter(),
+            items: self.pieces.into_iter(),
         }
     }
 }
@@ -168,7 +168,7 @@ impl<'a, A, D: Lengths> IntoIterator for AxisWindows<'a, A, D> {
 
     fn into_iter(self) -> WindowsIter<'a, A, D> {
         WindowsIter {
-            items: self.tiles.into_iter(),
+            items: self.pieces.into_iter(),
         }
     }
 }
@@ -177,7 +177,7 @@ impl<'a, A, D: Lengths> IntoIterator for AxisWindows<'a, A, D> {
 /// was asked for.
 #[derive(Drop)]
 pub struct WindowsIter<'a, A, D: Lengths> {
-    pub(crate) items: TilesIter<'a, A, D, D>,
+    pub(crate) items: PiecesIter<'a, A, D, D>,
 }
 
 impl<'a, A, D: Lengths> Model for WindowsIter<'a, A, D> {

@@ -1,7 +1,7 @@
 //! The calls of `Zip`, for each number of producers.
 
 ghost use Rattle.std.specs.Prelude.{◌≡◌, true, false, IfOk};
-ghost use Rattle.ndarray.specs.Calls.{asks1, calls1, asks_fold1, calls_fold1, asks2, calls2, asks_fold2, calls_fold2, asks3, calls3, asks_fold3, calls_fold3, asks4, calls4, asks_fold4, calls_fold4, asks5, calls5, asks_fold5, calls_fold5, asks6, calls6, asks_fold6, calls_fold6};
+ghost use Rattle.ndarray.specs.Calls.{can_call1, call_gives1, can_call_fold1, call_gives_fold1, can_call2, call_gives2, can_call_fold2, call_gives_fold2, can_call3, call_gives3, can_call_fold3, call_gives_fold3, can_call4, call_gives4, can_call_fold4, call_gives_fold4, can_call5, call_gives5, can_call_fold5, call_gives_fold5, can_call6, call_gives6, can_call_fold6, call_gives_fold6};
 ghost use Rattle.ndarray.specs.Grid.{IsGrid};
 ghost use Rattle.ndarray.specs.Orders.{box_in};
 ghost use Rattle.ndarray.specs.Runs.{MayFold, Folds, MayVisit, Visits, MayTest, TestsUntil, MayFoldWhile, FoldsWhile, MayGather, Collects};
@@ -23,8 +23,8 @@ use std::alloc::{AllocError, Global};
 impl<N: NdProducer<Dim = D>, D: Lengths> Zip<Parts<N, 1>, D> {
     /// Calls `f` once at the items of each index list.
     pub fn for_each<F: FnMut(N::Item)>(self, f: F)
-        requires callable { (o : Order) → MayVisit (N.shows self.nested) (calls1 F.FnMut) (asks1 F.FnMut) (box_in o (N.lengths self.nested)) f }
-        ensures ran { (o : Order) × Visits (N.shows self.nested) (calls1 F.FnMut) (box_in o (N.lengths self.nested)) f }
+        requires callable { (o : Order) → MayVisit (N.yields_at self.nested) (call_gives1 F.FnMut) (can_call1 F.FnMut) (box_in o (N.lengths self.nested)) f }
+        ensures ran { (o : Order) × Visits (N.yields_at self.nested) (call_gives1 F.FnMut) (box_in o (N.lengths self.nested)) f }
     {
         let Zip {
             parts,
@@ -38,8 +38,8 @@ impl<N: NdProducer<Dim = D>, D: Lengths> Zip<Parts<N, 1>, D> {
     /// Calls `f` once at the total and the items of each index list; each answer is the next total, and the
     /// last one the result.
     pub fn fold<B, F: FnMut(B, N::Item) -> B>(self, acc: B, f: F) -> B
-        requires callable { (o : Order) → MayFold (N.shows self.nested) (calls_fold1 F.FnMut) (asks_fold1 F.FnMut) (box_in o (N.lengths self.nested)) f acc }
-        ensures ran { (o : Order) × Folds (N.shows self.nested) (calls_fold1 F.FnMut) (box_in o (N.lengths self.nested)) f acc result }
+        requires callable { (o : Order) → MayFold (N.yields_at self.nested) (call_gives_fold1 F.FnMut) (can_call_fold1 F.FnMut) (box_in o (N.lengths self.nested)) f acc }
+        ensures ran { (o : Order) × Folds (N.yields_at self.nested) (call_gives_fold1 F.FnMut) (box_in o (N.lengths self.nested)) f acc result }
     {
         let Zip {
             parts,
@@ -52,8 +52,8 @@ impl<N: NdProducer<Dim = D>, D: Lengths> Zip<Parts<N, 1>, D> {
 
     /// As `fold`, up to the first answer that is `Done`.
     pub fn fold_while<B, F: FnMut(B, N::Item) -> FoldWhile<B>>(self, acc: B, f: F) -> FoldWhile<B>
-        requires callable { (o : Order) → MayFoldWhile (N.shows self.nested) (calls_fold1 F.FnMut) (asks_fold1 F.FnMut) (box_in o (N.lengths self.nested)) f acc }
-        ensures ran { (o : Order) × FoldsWhile (N.shows self.nested) (calls_fold1 F.FnMut) (box_in o (N.lengths self.nested)) f acc result }
+        requires callable { (o : Order) → MayFoldWhile (N.yields_at self.nested) (call_gives_fold1 F.FnMut) (can_call_fold1 F.FnMut) (box_in o (N.lengths self.nested)) f acc }
+        ensures ran { (o : Order) × FoldsWhile (N.yields_at self.nested) (call_gives_fold1 F.FnMut) (box_in o (N.lengths self.nested)) f acc result }
     {
         let Zip {
             parts,
@@ -66,8 +66,8 @@ impl<N: NdProducer<Dim = D>, D: Lengths> Zip<Parts<N, 1>, D> {
 
     /// Whether `f` answers `true` at the items of each index list; it stops at the first `false`.
     pub fn all<F: FnMut(N::Item) -> bool>(self, f: F) -> bool
-        requires callable { (o : Order) → MayTest (N.shows self.nested) (calls1 F.FnMut) (asks1 F.FnMut) (box_in o (N.lengths self.nested)) f true }
-        ensures ran { (o : Order) × TestsUntil (N.shows self.nested) (calls1 F.FnMut) (box_in o (N.lengths self.nested)) f true false result }
+        requires callable { (o : Order) → MayTest (N.yields_at self.nested) (call_gives1 F.FnMut) (can_call1 F.FnMut) (box_in o (N.lengths self.nested)) f true }
+        ensures ran { (o : Order) × TestsUntil (N.yields_at self.nested) (call_gives1 F.FnMut) (box_in o (N.lengths self.nested)) f true false result }
     {
         let Zip {
             parts,
@@ -80,8 +80,8 @@ impl<N: NdProducer<Dim = D>, D: Lengths> Zip<Parts<N, 1>, D> {
 
     /// Whether `f` answers `true` at the items of some index list; it stops at the first `true`.
     pub fn any<F: FnMut(N::Item) -> bool>(self, f: F) -> bool
-        requires callable { (o : Order) → MayTest (N.shows self.nested) (calls1 F.FnMut) (asks1 F.FnMut) (box_in o (N.lengths self.nested)) f false }
-        ensures ran { (o : Order) × TestsUntil (N.shows self.nested) (calls1 F.FnMut) (box_in o (N.lengths self.nested)) f false true result }
+        requires callable { (o : Order) → MayTest (N.yields_at self.nested) (call_gives1 F.FnMut) (can_call1 F.FnMut) (box_in o (N.lengths self.nested)) f false }
+        ensures ran { (o : Order) × TestsUntil (N.yields_at self.nested) (call_gives1 F.FnMut) (box_in o (N.lengths self.nested)) f false true result }
     {
         let Zip {
             parts,
@@ -100,8 +100,8 @@ impl<N: NdProducer<Dim = D>, D: Lengths> Zip<Parts<N, 1>, D> {
         alloc: Global,
         f: F,
     ) -> Result<Array<R, D>, AllocError>
-        requires callable { (o : Order) → MayGather (N.shows self.nested) (calls1 F.FnMut) (asks1 F.FnMut) (box_in o (N.lengths self.nested)) f }
-        ensures ran { IfOk result (λ g. (o : Order) × Collects (N.shows self.nested) (calls1 F.FnMut) o (N.lengths self.nested) f g) }
+        requires callable { (o : Order) → MayGather (N.yields_at self.nested) (call_gives1 F.FnMut) (can_call1 F.FnMut) (box_in o (N.lengths self.nested)) f }
+        ensures ran { IfOk result (λ g. (o : Order) × Collects (N.yields_at self.nested) (call_gives1 F.FnMut) o (N.lengths self.nested) f g) }
         ensures whole { IfOk result IsGrid }
     {
         let Zip {
@@ -122,8 +122,8 @@ impl<N: NdProducer<Dim = D>, D: Lengths> Zip<Parts<N, 1>, D> {
         f: F,
     )
         requires same { N.lengths self.nested ≡ into.old.lengths }
-        requires callable { (o : Order) → MayGather (N.shows self.nested) (calls1 F.FnMut) (asks1 F.FnMut) (box_in o (N.lengths self.nested)) f }
-        ensures ran { (o : Order) × Collects (N.shows self.nested) (calls1 F.FnMut) o (N.lengths self.nested) f into.new }
+        requires callable { (o : Order) → MayGather (N.yields_at self.nested) (call_gives1 F.FnMut) (can_call1 F.FnMut) (box_in o (N.lengths self.nested)) f }
+        ensures ran { (o : Order) × Collects (N.yields_at self.nested) (call_gives1 F.FnMut) o (N.lengths self.nested) f into.new }
         ensures whole { IsGrid into.new }
     {
         let Zip {
@@ -139,8 +139,8 @@ impl<N: NdProducer<Dim = D>, D: Lengths> Zip<Parts<N, 1>, D> {
 impl<X, Y, N: NdProducer<Item = (X, Y), Dim = D>, D: Lengths> Zip<Parts<N, 2>, D> {
     /// Calls `f` once at the items of each index list.
     pub fn for_each<F: FnMut(X, Y)>(self, f: F)
-        requires callable { (o : Order) → MayVisit (N.shows self.nested) (calls2 F.FnMut) (asks2 F.FnMut) (box_in o (N.lengths self.nested)) f }
-        ensures ran { (o : Order) × Visits (N.shows self.nested) (calls2 F.FnMut) (box_in o (N.lengths self.nested)) f }
+        requires callable { (o : Order) → MayVisit (N.yields_at self.nested) (call_gives2 F.FnMut) (can_call2 F.FnMut) (box_in o (N.lengths self.nested)) f }
+        ensures ran { (o : Order) × Visits (N.yields_at self.nested) (call_gives2 F.FnMut) (box_in o (N.lengths self.nested)) f }
     {
         let Zip {
             parts,
@@ -154,8 +154,8 @@ impl<X, Y, N: NdProducer<Item = (X, Y), Dim = D>, D: Lengths> Zip<Parts<N, 2>, D
     /// Calls `f` once at the total and the items of each index list; each answer is the next total, and the
     /// last one the result.
     pub fn fold<B, F: FnMut(B, X, Y) -> B>(self, acc: B, f: F) -> B
-        requires callable { (o : Order) → MayFold (N.shows self.nested) (calls_fold2 F.FnMut) (asks_fold2 F.FnMut) (box_in o (N.lengths self.nested)) f acc }
-        ensures ran { (o : Order) × Folds (N.shows self.nested) (calls_fold2 F.FnMut) (box_in o (N.lengths self.nested)) f acc result }
+        requires callable { (o : Order) → MayFold (N.yields_at self.nested) (call_gives_fold2 F.FnMut) (can_call_fold2 F.FnMut) (box_in o (N.lengths self.nested)) f acc }
+        ensures ran { (o : Order) × Folds (N.yields_at self.nested) (call_gives_fold2 F.FnMut) (box_in o (N.lengths self.nested)) f acc result }
     {
         let Zip {
             parts,
@@ -168,8 +168,8 @@ impl<X, Y, N: NdProducer<Item = (X, Y), Dim = D>, D: Lengths> Zip<Parts<N, 2>, D
 
     /// As `fold`, up to the first answer that is `Done`.
     pub fn fold_while<B, F: FnMut(B, X, Y) -> FoldWhile<B>>(self, acc: B, f: F) -> FoldWhile<B>
-        requires callable { (o : Order) → MayFoldWhile (N.shows self.nested) (calls_fold2 F.FnMut) (asks_fold2 F.FnMut) (box_in o (N.lengths self.nested)) f acc }
-        ensures ran { (o : Order) × FoldsWhile (N.shows self.nested) (calls_fold2 F.FnMut) (box_in o (N.lengths self.nested)) f acc result }
+        requires callable { (o : Order) → MayFoldWhile (N.yields_at self.nested) (call_gives_fold2 F.FnMut) (can_call_fold2 F.FnMut) (box_in o (N.lengths self.nested)) f acc }
+        ensures ran { (o : Order) × FoldsWhile (N.yields_at self.nested) (call_gives_fold2 F.FnMut) (box_in o (N.lengths self.nested)) f acc result }
     {
         let Zip {
             parts,
@@ -182,8 +182,8 @@ impl<X, Y, N: NdProducer<Item = (X, Y), Dim = D>, D: Lengths> Zip<Parts<N, 2>, D
 
     /// Whether `f` answers `true` at the items of each index list; it stops at the first `false`.
     pub fn all<F: FnMut(X, Y) -> bool>(self, f: F) -> bool
-        requires callable { (o : Order) → MayTest (N.shows self.nested) (calls2 F.FnMut) (asks2 F.FnMut) (box_in o (N.lengths self.nested)) f true }
-        ensures ran { (o : Order) × TestsUntil (N.shows self.nested) (calls2 F.FnMut) (box_in o (N.lengths self.nested)) f true false result }
+        requires callable { (o : Order) → MayTest (N.yields_at self.nested) (call_gives2 F.FnMut) (can_call2 F.FnMut) (box_in o (N.lengths self.nested)) f true }
+        ensures ran { (o : Order) × TestsUntil (N.yields_at self.nested) (call_gives2 F.FnMut) (box_in o (N.lengths self.nested)) f true false result }
     {
         let Zip {
             parts,
@@ -196,8 +196,8 @@ impl<X, Y, N: NdProducer<Item = (X, Y), Dim = D>, D: Lengths> Zip<Parts<N, 2>, D
 
     /// Whether `f` answers `true` at the items of some index list; it stops at the first `true`.
     pub fn any<F: FnMut(X, Y) -> bool>(self, f: F) -> bool
-        requires callable { (o : Order) → MayTest (N.shows self.nested) (calls2 F.FnMut) (asks2 F.FnMut) (box_in o (N.lengths self.nested)) f false }
-        ensures ran { (o : Order) × TestsUntil (N.shows self.nested) (calls2 F.FnMut) (box_in o (N.lengths self.nested)) f false true result }
+        requires callable { (o : Order) → MayTest (N.yields_at self.nested) (call_gives2 F.FnMut) (can_call2 F.FnMut) (box_in o (N.lengths self.nested)) f false }
+        ensures ran { (o : Order) × TestsUntil (N.yields_at self.nested) (call_gives2 F.FnMut) (box_in o (N.lengths self.nested)) f false true result }
     {
         let Zip {
             parts,
@@ -216,8 +216,8 @@ impl<X, Y, N: NdProducer<Item = (X, Y), Dim = D>, D: Lengths> Zip<Parts<N, 2>, D
         alloc: Global,
         f: F,
     ) -> Result<Array<R, D>, AllocError>
-        requires callable { (o : Order) → MayGather (N.shows self.nested) (calls2 F.FnMut) (asks2 F.FnMut) (box_in o (N.lengths self.nested)) f }
-        ensures ran { IfOk result (λ g. (o : Order) × Collects (N.shows self.nested) (calls2 F.FnMut) o (N.lengths self.nested) f g) }
+        requires callable { (o : Order) → MayGather (N.yields_at self.nested) (call_gives2 F.FnMut) (can_call2 F.FnMut) (box_in o (N.lengths self.nested)) f }
+        ensures ran { IfOk result (λ g. (o : Order) × Collects (N.yields_at self.nested) (call_gives2 F.FnMut) o (N.lengths self.nested) f g) }
         ensures whole { IfOk result IsGrid }
     {
         let Zip {
@@ -238,8 +238,8 @@ impl<X, Y, N: NdProducer<Item = (X, Y), Dim = D>, D: Lengths> Zip<Parts<N, 2>, D
         f: F,
     )
         requires same { N.lengths self.nested ≡ into.old.lengths }
-        requires callable { (o : Order) → MayGather (N.shows self.nested) (calls2 F.FnMut) (asks2 F.FnMut) (box_in o (N.lengths self.nested)) f }
-        ensures ran { (o : Order) × Collects (N.shows self.nested) (calls2 F.FnMut) o (N.lengths self.nested) f into.new }
+        requires callable { (o : Order) → MayGather (N.yields_at self.nested) (call_gives2 F.FnMut) (can_call2 F.FnMut) (box_in o (N.lengths self.nested)) f }
+        ensures ran { (o : Order) × Collects (N.yields_at self.nested) (call_gives2 F.FnMut) o (N.lengths self.nested) f into.new }
         ensures whole { IsGrid into.new }
     {
         let Zip {
@@ -255,8 +255,8 @@ impl<X, Y, N: NdProducer<Item = (X, Y), Dim = D>, D: Lengths> Zip<Parts<N, 2>, D
 impl<X, Y, Z, N: NdProducer<Item = ((X, Y), Z), Dim = D>, D: Lengths> Zip<Parts<N, 3>, D> {
     /// Calls `f` once at the items of each index list.
     pub fn for_each<F: FnMut(X, Y, Z)>(self, f: F)
-        requires callable { (o : Order) → MayVisit (N.shows self.nested) (calls3 F.FnMut) (asks3 F.FnMut) (box_in o (N.lengths self.nested)) f }
-        ensures ran { (o : Order) × Visits (N.shows self.nested) (calls3 F.FnMut) (box_in o (N.lengths self.nested)) f }
+        requires callable { (o : Order) → MayVisit (N.yields_at self.nested) (call_gives3 F.FnMut) (can_call3 F.FnMut) (box_in o (N.lengths self.nested)) f }
+        ensures ran { (o : Order) × Visits (N.yields_at self.nested) (call_gives3 F.FnMut) (box_in o (N.lengths self.nested)) f }
     {
         let Zip {
             parts,
@@ -270,8 +270,8 @@ impl<X, Y, Z, N: NdProducer<Item = ((X, Y), Z), Dim = D>, D: Lengths> Zip<Parts<
     /// Calls `f` once at the total and the items of each index list; each answer is the next total, and the
     /// last one the result.
     pub fn fold<B, F: FnMut(B, X, Y, Z) -> B>(self, acc: B, f: F) -> B
-        requires callable { (o : Order) → MayFold (N.shows self.nested) (calls_fold3 F.FnMut) (asks_fold3 F.FnMut) (box_in o (N.lengths self.nested)) f acc }
-        ensures ran { (o : Order) × Folds (N.shows self.nested) (calls_fold3 F.FnMut) (box_in o (N.lengths self.nested)) f acc result }
+        requires callable { (o : Order) → MayFold (N.yields_at self.nested) (call_gives_fold3 F.FnMut) (can_call_fold3 F.FnMut) (box_in o (N.lengths self.nested)) f acc }
+        ensures ran { (o : Order) × Folds (N.yields_at self.nested) (call_gives_fold3 F.FnMut) (box_in o (N.lengths self.nested)) f acc result }
     {
         let Zip {
             parts,
@@ -284,8 +284,8 @@ impl<X, Y, Z, N: NdProducer<Item = ((X, Y), Z), Dim = D>, D: Lengths> Zip<Parts<
 
     /// As `fold`, up to the first answer that is `Done`.
     pub fn fold_while<B, F: FnMut(B, X, Y, Z) -> FoldWhile<B>>(self, acc: B, f: F) -> FoldWhile<B>
-        requires callable { (o : Order) → MayFoldWhile (N.shows self.nested) (calls_fold3 F.FnMut) (asks_fold3 F.FnMut) (box_in o (N.lengths self.nested)) f acc }
-        ensures ran { (o : Order) × FoldsWhile (N.shows self.nested) (calls_fold3 F.FnMut) (box_in o (N.lengths self.nested)) f acc result }
+        requires callable { (o : Order) → MayFoldWhile (N.yields_at self.nested) (call_gives_fold3 F.FnMut) (can_call_fold3 F.FnMut) (box_in o (N.lengths self.nested)) f acc }
+        ensures ran { (o : Order) × FoldsWhile (N.yields_at self.nested) (call_gives_fold3 F.FnMut) (box_in o (N.lengths self.nested)) f acc result }
     {
         let Zip {
             parts,
@@ -298,8 +298,8 @@ impl<X, Y, Z, N: NdProducer<Item = ((X, Y), Z), Dim = D>, D: Lengths> Zip<Parts<
 
     /// Whether `f` answers `true` at the items of each index list; it stops at the first `false`.
     pub fn all<F: FnMut(X, Y, Z) -> bool>(self, f: F) -> bool
-        requires callable { (o : Order) → MayTest (N.shows self.nested) (calls3 F.FnMut) (asks3 F.FnMut) (box_in o (N.lengths self.nested)) f true }
-        ensures ran { (o : Order) × TestsUntil (N.shows self.nested) (calls3 F.FnMut) (box_in o (N.lengths self.nested)) f true false result }
+        requires callable { (o : Order) → MayTest (N.yields_at self.nested) (call_gives3 F.FnMut) (can_call3 F.FnMut) (box_in o (N.lengths self.nested)) f true }
+        ensures ran { (o : Order) × TestsUntil (N.yields_at self.nested) (call_gives3 F.FnMut) (box_in o (N.lengths self.nested)) f true false result }
     {
         let Zip {
             parts,
@@ -312,8 +312,8 @@ impl<X, Y, Z, N: NdProducer<Item = ((X, Y), Z), Dim = D>, D: Lengths> Zip<Parts<
 
     /// Whether `f` answers `true` at the items of some index list; it stops at the first `true`.
     pub fn any<F: FnMut(X, Y, Z) -> bool>(self, f: F) -> bool
-        requires callable { (o : Order) → MayTest (N.shows self.nested) (calls3 F.FnMut) (asks3 F.FnMut) (box_in o (N.lengths self.nested)) f false }
-        ensures ran { (o : Order) × TestsUntil (N.shows self.nested) (calls3 F.FnMut) (box_in o (N.lengths self.nested)) f false true result }
+        requires callable { (o : Order) → MayTest (N.yields_at self.nested) (call_gives3 F.FnMut) (can_call3 F.FnMut) (box_in o (N.lengths self.nested)) f false }
+        ensures ran { (o : Order) × TestsUntil (N.yields_at self.nested) (call_gives3 F.FnMut) (box_in o (N.lengths self.nested)) f false true result }
     {
         let Zip {
             parts,
@@ -332,8 +332,8 @@ impl<X, Y, Z, N: NdProducer<Item = ((X, Y), Z), Dim = D>, D: Lengths> Zip<Parts<
         alloc: Global,
         f: F,
     ) -> Result<Array<R, D>, AllocError>
-        requires callable { (o : Order) → MayGather (N.shows self.nested) (calls3 F.FnMut) (asks3 F.FnMut) (box_in o (N.lengths self.nested)) f }
-        ensures ran { IfOk result (λ g. (o : Order) × Collects (N.shows self.nested) (calls3 F.FnMut) o (N.lengths self.nested) f g) }
+        requires callable { (o : Order) → MayGather (N.yields_at self.nested) (call_gives3 F.FnMut) (can_call3 F.FnMut) (box_in o (N.lengths self.nested)) f }
+        ensures ran { IfOk result (λ g. (o : Order) × Collects (N.yields_at self.nested) (call_gives3 F.FnMut) o (N.lengths self.nested) f g) }
         ensures whole { IfOk result IsGrid }
     {
         let Zip {
@@ -354,8 +354,8 @@ impl<X, Y, Z, N: NdProducer<Item = ((X, Y), Z), Dim = D>, D: Lengths> Zip<Parts<
         f: F,
     )
         requires same { N.lengths self.nested ≡ into.old.lengths }
-        requires callable { (o : Order) → MayGather (N.shows self.nested) (calls3 F.FnMut) (asks3 F.FnMut) (box_in o (N.lengths self.nested)) f }
-        ensures ran { (o : Order) × Collects (N.shows self.nested) (calls3 F.FnMut) o (N.lengths self.nested) f into.new }
+        requires callable { (o : Order) → MayGather (N.yields_at self.nested) (call_gives3 F.FnMut) (can_call3 F.FnMut) (box_in o (N.lengths self.nested)) f }
+        ensures ran { (o : Order) × Collects (N.yields_at self.nested) (call_gives3 F.FnMut) o (N.lengths self.nested) f into.new }
         ensures whole { IsGrid into.new }
     {
         let Zip {
@@ -371,8 +371,8 @@ impl<X, Y, Z, N: NdProducer<Item = ((X, Y), Z), Dim = D>, D: Lengths> Zip<Parts<
 impl<X, Y, Z, U, N: NdProducer<Item = (((X, Y), Z), U), Dim = D>, D: Lengths> Zip<Parts<N, 4>, D> {
     /// Calls `f` once at the items of each index list.
     pub fn for_each<F: FnMut(X, Y, Z, U)>(self, f: F)
-        requires callable { (o : Order) → MayVisit (N.shows self.nested) (calls4 F.FnMut) (asks4 F.FnMut) (box_in o (N.lengths self.nested)) f }
-        ensures ran { (o : Order) × Visits (N.shows self.nested) (calls4 F.FnMut) (box_in o (N.lengths self.nested)) f }
+        requires callable { (o : Order) → MayVisit (N.yields_at self.nested) (call_gives4 F.FnMut) (can_call4 F.FnMut) (box_in o (N.lengths self.nested)) f }
+        ensures ran { (o : Order) × Visits (N.yields_at self.nested) (call_gives4 F.FnMut) (box_in o (N.lengths self.nested)) f }
     {
         let Zip {
             parts,
@@ -386,8 +386,8 @@ impl<X, Y, Z, U, N: NdProducer<Item = (((X, Y), Z), U), Dim = D>, D: Lengths> Zi
     /// Calls `f` once at the total and the items of each index list; each answer is the next total, and the
     /// last one the result.
     pub fn fold<B, F: FnMut(B, X, Y, Z, U) -> B>(self, acc: B, f: F) -> B
-        requires callable { (o : Order) → MayFold (N.shows self.nested) (calls_fold4 F.FnMut) (asks_fold4 F.FnMut) (box_in o (N.lengths self.nested)) f acc }
-        ensures ran { (o : Order) × Folds (N.shows self.nested) (calls_fold4 F.FnMut) (box_in o (N.lengths self.nested)) f acc result }
+        requires callable { (o : Order) → MayFold (N.yields_at self.nested) (call_gives_fold4 F.FnMut) (can_call_fold4 F.FnMut) (box_in o (N.lengths self.nested)) f acc }
+        ensures ran { (o : Order) × Folds (N.yields_at self.nested) (call_gives_fold4 F.FnMut) (box_in o (N.lengths self.nested)) f acc result }
     {
         let Zip {
             parts,
@@ -404,8 +404,8 @@ impl<X, Y, Z, U, N: NdProducer<Item = (((X, Y), Z), U), Dim = D>, D: Lengths> Zi
         acc: B,
         f: F,
     ) -> FoldWhile<B>
-        requires callable { (o : Order) → MayFoldWhile (N.shows self.nested) (calls_fold4 F.FnMut) (asks_fold4 F.FnMut) (box_in o (N.lengths self.nested)) f acc }
-        ensures ran { (o : Order) × FoldsWhile (N.shows self.nested) (calls_fold4 F.FnMut) (box_in o (N.lengths self.nested)) f acc result }
+        requires callable { (o : Order) → MayFoldWhile (N.yields_at self.nested) (call_gives_fold4 F.FnMut) (can_call_fold4 F.FnMut) (box_in o (N.lengths self.nested)) f acc }
+        ensures ran { (o : Order) × FoldsWhile (N.yields_at self.nested) (call_gives_fold4 F.FnMut) (box_in o (N.lengths self.nested)) f acc result }
     {
         let Zip {
             parts,
@@ -418,8 +418,8 @@ impl<X, Y, Z, U, N: NdProducer<Item = (((X, Y), Z), U), Dim = D>, D: Lengths> Zi
 
     /// Whether `f` answers `true` at the items of each index list; it stops at the first `false`.
     pub fn all<F: FnMut(X, Y, Z, U) -> bool>(self, f: F) -> bool
-        requires callable { (o : Order) → MayTest (N.shows self.nested) (calls4 F.FnMut) (asks4 F.FnMut) (box_in o (N.lengths self.nested)) f true }
-        ensures ran { (o : Order) × TestsUntil (N.shows self.nested) (calls4 F.FnMut) (box_in o (N.lengths self.nested)) f true false result }
+        requires callable { (o : Order) → MayTest (N.yields_at self.nested) (call_gives4 F.FnMut) (can_call4 F.FnMut) (box_in o (N.lengths self.nested)) f true }
+        ensures ran { (o : Order) × TestsUntil (N.yields_at self.nested) (call_gives4 F.FnMut) (box_in o (N.lengths self.nested)) f true false result }
     {
         let Zip {
             parts,
@@ -432,8 +432,8 @@ impl<X, Y, Z, U, N: NdProducer<Item = (((X, Y), Z), U), Dim = D>, D: Lengths> Zi
 
     /// Whether `f` answers `true` at the items of some index list; it stops at the first `true`.
     pub fn any<F: FnMut(X, Y, Z, U) -> bool>(self, f: F) -> bool
-        requires callable { (o : Order) → MayTest (N.shows self.nested) (calls4 F.FnMut) (asks4 F.FnMut) (box_in o (N.lengths self.nested)) f false }
-        ensures ran { (o : Order) × TestsUntil (N.shows self.nested) (calls4 F.FnMut) (box_in o (N.lengths self.nested)) f false true result }
+        requires callable { (o : Order) → MayTest (N.yields_at self.nested) (call_gives4 F.FnMut) (can_call4 F.FnMut) (box_in o (N.lengths self.nested)) f false }
+        ensures ran { (o : Order) × TestsUntil (N.yields_at self.nested) (call_gives4 F.FnMut) (box_in o (N.lengths self.nested)) f false true result }
     {
         let Zip {
             parts,
@@ -452,8 +452,8 @@ impl<X, Y, Z, U, N: NdProducer<Item = (((X, Y), Z), U), Dim = D>, D: Lengths> Zi
         alloc: Global,
         f: F,
     ) -> Result<Array<R, D>, AllocError>
-        requires callable { (o : Order) → MayGather (N.shows self.nested) (calls4 F.FnMut) (asks4 F.FnMut) (box_in o (N.lengths self.nested)) f }
-        ensures ran { IfOk result (λ g. (o : Order) × Collects (N.shows self.nested) (calls4 F.FnMut) o (N.lengths self.nested) f g) }
+        requires callable { (o : Order) → MayGather (N.yields_at self.nested) (call_gives4 F.FnMut) (can_call4 F.FnMut) (box_in o (N.lengths self.nested)) f }
+        ensures ran { IfOk result (λ g. (o : Order) × Collects (N.yields_at self.nested) (call_gives4 F.FnMut) o (N.lengths self.nested) f g) }
         ensures whole { IfOk result IsGrid }
     {
         let Zip {
@@ -474,8 +474,8 @@ impl<X, Y, Z, U, N: NdProducer<Item = (((X, Y), Z), U), Dim = D>, D: Lengths> Zi
         f: F,
     )
         requires same { N.lengths self.nested ≡ into.old.lengths }
-        requires callable { (o : Order) → MayGather (N.shows self.nested) (calls4 F.FnMut) (asks4 F.FnMut) (box_in o (N.lengths self.nested)) f }
-        ensures ran { (o : Order) × Collects (N.shows self.nested) (calls4 F.FnMut) o (N.lengths self.nested) f into.new }
+        requires callable { (o : Order) → MayGather (N.yields_at self.nested) (call_gives4 F.FnMut) (can_call4 F.FnMut) (box_in o (N.lengths self.nested)) f }
+        ensures ran { (o : Order) × Collects (N.yields_at self.nested) (call_gives4 F.FnMut) o (N.lengths self.nested) f into.new }
         ensures whole { IsGrid into.new }
     {
         let Zip {
@@ -494,8 +494,8 @@ impl<X, Y, Z, U, V, N: NdProducer<Item = ((((X, Y), Z), U), V), Dim = D>, D: Len
 > {
     /// Calls `f` once at the items of each index list.
     pub fn for_each<F: FnMut(X, Y, Z, U, V)>(self, f: F)
-        requires callable { (o : Order) → MayVisit (N.shows self.nested) (calls5 F.FnMut) (asks5 F.FnMut) (box_in o (N.lengths self.nested)) f }
-        ensures ran { (o : Order) × Visits (N.shows self.nested) (calls5 F.FnMut) (box_in o (N.lengths self.nested)) f }
+        requires callable { (o : Order) → MayVisit (N.yields_at self.nested) (call_gives5 F.FnMut) (can_call5 F.FnMut) (box_in o (N.lengths self.nested)) f }
+        ensures ran { (o : Order) × Visits (N.yields_at self.nested) (call_gives5 F.FnMut) (box_in o (N.lengths self.nested)) f }
     {
         let Zip {
             parts,
@@ -509,8 +509,8 @@ impl<X, Y, Z, U, V, N: NdProducer<Item = ((((X, Y), Z), U), V), Dim = D>, D: Len
     /// Calls `f` once at the total and the items of each index list; each answer is the next total, and the
     /// last one the result.
     pub fn fold<B, F: FnMut(B, X, Y, Z, U, V) -> B>(self, acc: B, f: F) -> B
-        requires callable { (o : Order) → MayFold (N.shows self.nested) (calls_fold5 F.FnMut) (asks_fold5 F.FnMut) (box_in o (N.lengths self.nested)) f acc }
-        ensures ran { (o : Order) × Folds (N.shows self.nested) (calls_fold5 F.FnMut) (box_in o (N.lengths self.nested)) f acc result }
+        requires callable { (o : Order) → MayFold (N.yields_at self.nested) (call_gives_fold5 F.FnMut) (can_call_fold5 F.FnMut) (box_in o (N.lengths self.nested)) f acc }
+        ensures ran { (o : Order) × Folds (N.yields_at self.nested) (call_gives_fold5 F.FnMut) (box_in o (N.lengths self.nested)) f acc result }
     {
         let Zip {
             parts,
@@ -527,8 +527,8 @@ impl<X, Y, Z, U, V, N: NdProducer<Item = ((((X, Y), Z), U), V), Dim = D>, D: Len
         acc: B,
         f: F,
     ) -> FoldWhile<B>
-        requires callable { (o : Order) → MayFoldWhile (N.shows self.nested) (calls_fold5 F.FnMut) (asks_fold5 F.FnMut) (box_in o (N.lengths self.nested)) f acc }
-        ensures ran { (o : Order) × FoldsWhile (N.shows self.nested) (calls_fold5 F.FnMut) (box_in o (N.lengths self.nested)) f acc result }
+        requires callable { (o : Order) → MayFoldWhile (N.yields_at self.nested) (call_gives_fold5 F.FnMut) (can_call_fold5 F.FnMut) (box_in o (N.lengths self.nested)) f acc }
+        ensures ran { (o : Order) × FoldsWhile (N.yields_at self.nested) (call_gives_fold5 F.FnMut) (box_in o (N.lengths self.nested)) f acc result }
     {
         let Zip {
             parts,
@@ -541,8 +541,8 @@ impl<X, Y, Z, U, V, N: NdProducer<Item = ((((X, Y), Z), U), V), Dim = D>, D: Len
 
     /// Whether `f` answers `true` at the items of each index list; it stops at the first `false`.
     pub fn all<F: FnMut(X, Y, Z, U, V) -> bool>(self, f: F) -> bool
-        requires callable { (o : Order) → MayTest (N.shows self.nested) (calls5 F.FnMut) (asks5 F.FnMut) (box_in o (N.lengths self.nested)) f true }
-        ensures ran { (o : Order) × TestsUntil (N.shows self.nested) (calls5 F.FnMut) (box_in o (N.lengths self.nested)) f true false result }
+        requires callable { (o : Order) → MayTest (N.yields_at self.nested) (call_gives5 F.FnMut) (can_call5 F.FnMut) (box_in o (N.lengths self.nested)) f true }
+        ensures ran { (o : Order) × TestsUntil (N.yields_at self.nested) (call_gives5 F.FnMut) (box_in o (N.lengths self.nested)) f true false result }
     {
         let Zip {
             parts,
@@ -555,8 +555,8 @@ impl<X, Y, Z, U, V, N: NdProducer<Item = ((((X, Y), Z), U), V), Dim = D>, D: Len
 
     /// Whether `f` answers `true` at the items of some index list; it stops at the first `true`.
     pub fn any<F: FnMut(X, Y, Z, U, V) -> bool>(self, f: F) -> bool
-        requires callable { (o : Order) → MayTest (N.shows self.nested) (calls5 F.FnMut) (asks5 F.FnMut) (box_in o (N.lengths self.nested)) f false }
-        ensures ran { (o : Order) × TestsUntil (N.shows self.nested) (calls5 F.FnMut) (box_in o (N.lengths self.nested)) f false true result }
+        requires callable { (o : Order) → MayTest (N.yields_at self.nested) (call_gives5 F.FnMut) (can_call5 F.FnMut) (box_in o (N.lengths self.nested)) f false }
+        ensures ran { (o : Order) × TestsUntil (N.yields_at self.nested) (call_gives5 F.FnMut) (box_in o (N.lengths self.nested)) f false true result }
     {
         let Zip {
             parts,
@@ -575,8 +575,8 @@ impl<X, Y, Z, U, V, N: NdProducer<Item = ((((X, Y), Z), U), V), Dim = D>, D: Len
         alloc: Global,
         f: F,
     ) -> Result<Array<R, D>, AllocError>
-        requires callable { (o : Order) → MayGather (N.shows self.nested) (calls5 F.FnMut) (asks5 F.FnMut) (box_in o (N.lengths self.nested)) f }
-        ensures ran { IfOk result (λ g. (o : Order) × Collects (N.shows self.nested) (calls5 F.FnMut) o (N.lengths self.nested) f g) }
+        requires callable { (o : Order) → MayGather (N.yields_at self.nested) (call_gives5 F.FnMut) (can_call5 F.FnMut) (box_in o (N.lengths self.nested)) f }
+        ensures ran { IfOk result (λ g. (o : Order) × Collects (N.yields_at self.nested) (call_gives5 F.FnMut) o (N.lengths self.nested) f g) }
         ensures whole { IfOk result IsGrid }
     {
         let Zip {
@@ -597,8 +597,8 @@ impl<X, Y, Z, U, V, N: NdProducer<Item = ((((X, Y), Z), U), V), Dim = D>, D: Len
         f: F,
     )
         requires same { N.lengths self.nested ≡ into.old.lengths }
-        requires callable { (o : Order) → MayGather (N.shows self.nested) (calls5 F.FnMut) (asks5 F.FnMut) (box_in o (N.lengths self.nested)) f }
-        ensures ran { (o : Order) × Collects (N.shows self.nested) (calls5 F.FnMut) o (N.lengths self.nested) f into.new }
+        requires callable { (o : Order) → MayGather (N.yields_at self.nested) (call_gives5 F.FnMut) (can_call5 F.FnMut) (box_in o (N.lengths self.nested)) f }
+        ensures ran { (o : Order) × Collects (N.yields_at self.nested) (call_gives5 F.FnMut) o (N.lengths self.nested) f into.new }
         ensures whole { IsGrid into.new }
     {
         let Zip {
@@ -617,8 +617,8 @@ impl<X, Y, Z, U, V, W, N: NdProducer<Item = (((((X, Y), Z), U), V), W), Dim = D>
 > {
     /// Calls `f` once at the items of each index list.
     pub fn for_each<F: FnMut(X, Y, Z, U, V, W)>(self, f: F)
-        requires callable { (o : Order) → MayVisit (N.shows self.nested) (calls6 F.FnMut) (asks6 F.FnMut) (box_in o (N.lengths self.nested)) f }
-        ensures ran { (o : Order) × Visits (N.shows self.nested) (calls6 F.FnMut) (box_in o (N.lengths self.nested)) f }
+        requires callable { (o : Order) → MayVisit (N.yields_at self.nested) (call_gives6 F.FnMut) (can_call6 F.FnMut) (box_in o (N.lengths self.nested)) f }
+        ensures ran { (o : Order) × Visits (N.yields_at self.nested) (call_gives6 F.FnMut) (box_in o (N.lengths self.nested)) f }
     {
         let Zip {
             parts,
@@ -632,8 +632,8 @@ impl<X, Y, Z, U, V, W, N: NdProducer<Item = (((((X, Y), Z), U), V), W), Dim = D>
     /// Calls `f` once at the total and the items of each index list; each answer is the next total, and the
     /// last one the result.
     pub fn fold<B, F: FnMut(B, X, Y, Z, U, V, W) -> B>(self, acc: B, f: F) -> B
-        requires callable { (o : Order) → MayFold (N.shows self.nested) (calls_fold6 F.FnMut) (asks_fold6 F.FnMut) (box_in o (N.lengths self.nested)) f acc }
-        ensures ran { (o : Order) × Folds (N.shows self.nested) (calls_fold6 F.FnMut) (box_in o (N.lengths self.nested)) f acc result }
+        requires callable { (o : Order) → MayFold (N.yields_at self.nested) (call_gives_fold6 F.FnMut) (can_call_fold6 F.FnMut) (box_in o (N.lengths self.nested)) f acc }
+        ensures ran { (o : Order) × Folds (N.yields_at self.nested) (call_gives_fold6 F.FnMut) (box_in o (N.lengths self.nested)) f acc result }
     {
         let Zip {
             parts,
@@ -650,8 +650,8 @@ impl<X, Y, Z, U, V, W, N: NdProducer<Item = (((((X, Y), Z), U), V), W), Dim = D>
         acc: B,
         f: F,
     ) -> FoldWhile<B>
-        requires callable { (o : Order) → MayFoldWhile (N.shows self.nested) (calls_fold6 F.FnMut) (asks_fold6 F.FnMut) (box_in o (N.lengths self.nested)) f acc }
-        ensures ran { (o : Order) × FoldsWhile (N.shows self.nested) (calls_fold6 F.FnMut) (box_in o (N.lengths self.nested)) f acc result }
+        requires callable { (o : Order) → MayFoldWhile (N.yields_at self.nested) (call_gives_fold6 F.FnMut) (can_call_fold6 F.FnMut) (box_in o (N.lengths self.nested)) f acc }
+        ensures ran { (o : Order) × FoldsWhile (N.yields_at self.nested) (call_gives_fold6 F.FnMut) (box_in o (N.lengths self.nested)) f acc result }
     {
         let Zip {
             parts,
@@ -664,8 +664,8 @@ impl<X, Y, Z, U, V, W, N: NdProducer<Item = (((((X, Y), Z), U), V), W), Dim = D>
 
     /// Whether `f` answers `true` at the items of each index list; it stops at the first `false`.
     pub fn all<F: FnMut(X, Y, Z, U, V, W) -> bool>(self, f: F) -> bool
-        requires callable { (o : Order) → MayTest (N.shows self.nested) (calls6 F.FnMut) (asks6 F.FnMut) (box_in o (N.lengths self.nested)) f true }
-        ensures ran { (o : Order) × TestsUntil (N.shows self.nested) (calls6 F.FnMut) (box_in o (N.lengths self.nested)) f true false result }
+        requires callable { (o : Order) → MayTest (N.yields_at self.nested) (call_gives6 F.FnMut) (can_call6 F.FnMut) (box_in o (N.lengths self.nested)) f true }
+        ensures ran { (o : Order) × TestsUntil (N.yields_at self.nested) (call_gives6 F.FnMut) (box_in o (N.lengths self.nested)) f true false result }
     {
         let Zip {
             parts,
@@ -678,8 +678,8 @@ impl<X, Y, Z, U, V, W, N: NdProducer<Item = (((((X, Y), Z), U), V), W), Dim = D>
 
     /// Whether `f` answers `true` at the items of some index list; it stops at the first `true`.
     pub fn any<F: FnMut(X, Y, Z, U, V, W) -> bool>(self, f: F) -> bool
-        requires callable { (o : Order) → MayTest (N.shows self.nested) (calls6 F.FnMut) (asks6 F.FnMut) (box_in o (N.lengths self.nested)) f false }
-        ensures ran { (o : Order) × TestsUntil (N.shows self.nested) (calls6 F.FnMut) (box_in o (N.lengths self.nested)) f false true result }
+        requires callable { (o : Order) → MayTest (N.yields_at self.nested) (call_gives6 F.FnMut) (can_call6 F.FnMut) (box_in o (N.lengths self.nested)) f false }
+        ensures ran { (o : Order) × TestsUntil (N.yields_at self.nested) (call_gives6 F.FnMut) (box_in o (N.lengths self.nested)) f false true result }
     {
         let Zip {
             parts,

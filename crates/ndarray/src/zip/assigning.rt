@@ -35,8 +35,8 @@ pub(crate) fn assign_items<
 >(p: P, order: Order, into: &mut ArrayBase<S, P::Dim>, f: C)
     requires same { P.lengths p ≡ into.old.lengths }
     requires whole { IsGrid into.old }
-    requires callable { MayGather (P.shows p) C.calls C.asks (box_in order (P.lengths p)) f }
-    ensures ran { Collects (P.shows p) C.calls order (P.lengths p) f into.new }
+    requires callable { MayGather (P.yields_at p) C.call_gives C.can_call (box_in order (P.lengths p)) f }
+    ensures ran { Collects (P.yields_at p) C.call_gives order (P.lengths p) f into.new }
     ensures whole { IsGrid into.new }
 {
     match p.try_flat(order) {
@@ -70,8 +70,8 @@ fn assign_each<P: NdProducer, R: Drop, S: DataMut<Elem = R>, C: ItemCall<P::Item
     mut f: C,
 )
     requires same { P.lengths p ≡ into.old.lengths }
-    requires callable { MayGather (P.shows p) C.calls C.asks (box_in order (P.lengths p)) f }
-    ensures ran { Collects (P.shows p) C.calls order (P.lengths p) f into.new }
+    requires callable { MayGather (P.yields_at p) C.call_gives C.can_call (box_in order (P.lengths p)) f }
+    ensures ran { Collects (P.yields_at p) C.call_gives order (P.lengths p) f into.new }
     ensures whole { IsGrid into.new }
 {
     let mut run = p.run(order).zip(Walk::new(into.raw_dim(), order));
@@ -94,9 +94,9 @@ struct Answers<P, F, C> {
 
 impl<P: NdProducer, R: Drop, C: ItemCall<P::Item, Out = R>> CellWriter<R>
     for Answers<P, P::Flat, C> {
-    ghost can_write = { λ w n. (p : P) × ((o : Order) × (P.flat_form p o w.flat × MayGather (P.shows p) C.calls C.asks (box_in o (P.lengths p)) w.f × (size (P.lengths p) ≡ n))) };
+    ghost can_write = { λ w n. (p : P) × ((o : Order) × (P.flat_form p o w.flat × MayGather (P.yields_at p) C.call_gives C.can_call (box_in o (P.lengths p)) w.f × (size (P.lengths p) ≡ n))) };
 
-    ghost writes = { λ w xs. (p : P) (o : Order) → P.flat_form p o w.flat → Gathers (P.shows p) C.calls (box_in o (P.lengths p)) w.f xs };
+    ghost writes = { λ w xs. (p : P) (o : Order) → P.flat_form p o w.flat → Gathers (P.yields_at p) C.call_gives (box_in o (P.lengths p)) w.f xs };
 
     fn write(self, slice: &mut [R]) {
         let Answers {

@@ -1,6 +1,6 @@
 //! How a closure of one to six items is called at an item of nested pairs.
 
-ghost use Rattle.ndarray.specs.Calls.{asks1, calls1, asks_fold1, calls_fold1, asks2, calls2, asks_fold2, calls_fold2, asks3, calls3, asks_fold3, calls_fold3, asks4, calls4, asks_fold4, calls_fold4, asks5, calls5, asks_fold5, calls_fold5, asks6, calls6, asks_fold6, calls_fold6};
+ghost use Rattle.ndarray.specs.Calls.{can_call1, call_gives1, can_call_fold1, call_gives_fold1, can_call2, call_gives2, can_call_fold2, call_gives_fold2, can_call3, call_gives3, can_call_fold3, call_gives_fold3, can_call4, call_gives4, can_call_fold4, call_gives_fold4, can_call5, call_gives5, can_call_fold5, call_gives_fold5, can_call6, call_gives6, can_call_fold6, call_gives_fold6};
 
 /// What can be called at an item.
 pub(crate) trait ItemCall<A>: Drop {
@@ -8,15 +8,15 @@ pub(crate) trait ItemCall<A>: Drop {
     type Out;
 
     // Whether it may be called.
-    ghost asks: { Self → A → Type 0 };
+    ghost can_call: { Self → A → Type 0 };
 
     // Whether a call may give this answer and leave it so.
-    ghost calls: { Self → A → Self.Out → Self → Type 0 };
+    ghost call_gives: { Self → A → Self.Out → Self → Type 0 };
 
     /// Calls it.
     fn call(&mut self, item: A) -> Self::Out
-        requires { asks self.old item }
-        ensures { calls self.old item result self.new };
+        requires { can_call self.old item }
+        ensures { call_gives self.old item result self.new };
 }
 
 /// What can be called at a total and an item.
@@ -25,15 +25,15 @@ pub(crate) trait FoldCall<B, A>: Drop {
     type Out;
 
     // Whether it may be called.
-    ghost asks: { Self → B → A → Type 0 };
+    ghost can_call: { Self → B → A → Type 0 };
 
     // Whether a call may give this answer and leave it so.
-    ghost calls: { Self → B → A → Self.Out → Self → Type 0 };
+    ghost call_gives: { Self → B → A → Self.Out → Self → Type 0 };
 
     /// Calls it.
     fn call(&mut self, total: B, item: A) -> Self::Out
-        requires { asks self.old total item }
-        ensures { calls self.old total item result self.new };
+        requires { can_call self.old total item }
+        ensures { call_gives self.old total item result self.new };
 }
 
 /// A closure of one item.
@@ -43,9 +43,9 @@ pub(crate) struct On1<F>(pub(crate) F);
 impl<X, O, F: FnMut(X) -> O> ItemCall<X> for On1<F> {
     type Out = O;
 
-    ghost asks = { λ c t. asks1 F.FnMut c.0 t };
+    ghost can_call = { λ c t. can_call1 F.FnMut c.0 t };
 
-    ghost calls = { λ c t r d. calls1 F.FnMut c.0 t r d.0 };
+    ghost call_gives = { λ c t r d. call_gives1 F.FnMut c.0 t r d.0 };
 
     fn call(&mut self, item: X) -> O {
         (self.0)(item)
@@ -55,9 +55,9 @@ impl<X, O, F: FnMut(X) -> O> ItemCall<X> for On1<F> {
 impl<B, X, O, F: FnMut(B, X) -> O> FoldCall<B, X> for On1<F> {
     type Out = O;
 
-    ghost asks = { λ c b t. asks_fold1 F.FnMut c.0 b t };
+    ghost can_call = { λ c b t. can_call_fold1 F.FnMut c.0 b t };
 
-    ghost calls = { λ c b t r d. calls_fold1 F.FnMut c.0 b t r d.0 };
+    ghost call_gives = { λ c b t r d. call_gives_fold1 F.FnMut c.0 b t r d.0 };
 
     fn call(&mut self, total: B, item: X) -> O {
         (self.0)(total, item)
@@ -71,9 +71,9 @@ pub(crate) struct On2<F>(pub(crate) F);
 impl<X, Y, O, F: FnMut(X, Y) -> O> ItemCall<(X, Y)> for On2<F> {
     type Out = O;
 
-    ghost asks = { λ c t. asks2 F.FnMut c.0 t };
+    ghost can_call = { λ c t. can_call2 F.FnMut c.0 t };
 
-    ghost calls = { λ c t r d. calls2 F.FnMut c.0 t r d.0 };
+    ghost call_gives = { λ c t r d. call_gives2 F.FnMut c.0 t r d.0 };
 
     fn call(&mut self, item: (X, Y)) -> O {
         let (x, y) = item;
@@ -84,9 +84,9 @@ impl<X, Y, O, F: FnMut(X, Y) -> O> ItemCall<(X, Y)> for On2<F> {
 impl<B, X, Y, O, F: FnMut(B, X, Y) -> O> FoldCall<B, (X, Y)> for On2<F> {
     type Out = O;
 
-    ghost asks = { λ c b t. asks_fold2 F.FnMut c.0 b t };
+    ghost can_call = { λ c b t. can_call_fold2 F.FnMut c.0 b t };
 
-    ghost calls = { λ c b t r d. calls_fold2 F.FnMut c.0 b t r d.0 };
+    ghost call_gives = { λ c b t r d. call_gives_fold2 F.FnMut c.0 b t r d.0 };
 
     fn call(&mut self, total: B, item: (X, Y)) -> O {
         let (x, y) = item;
@@ -101,9 +101,9 @@ pub(crate) struct On3<F>(pub(crate) F);
 impl<X, Y, Z, O, F: FnMut(X, Y, Z) -> O> ItemCall<((X, Y), Z)> for On3<F> {
     type Out = O;
 
-    ghost asks = { λ c t. asks3 F.FnMut c.0 t };
+    ghost can_call = { λ c t. can_call3 F.FnMut c.0 t };
 
-    ghost calls = { λ c t r d. calls3 F.FnMut c.0 t r d.0 };
+    ghost call_gives = { λ c t r d. call_gives3 F.FnMut c.0 t r d.0 };
 
     fn call(&mut self, item: ((X, Y), Z)) -> O {
         let ((x, y), z) = item;
@@ -114,9 +114,9 @@ impl<X, Y, Z, O, F: FnMut(X, Y, Z) -> O> ItemCall<((X, Y), Z)> for On3<F> {
 impl<B, X, Y, Z, O, F: FnMut(B, X, Y, Z) -> O> FoldCall<B, ((X, Y), Z)> for On3<F> {
     type Out = O;
 
-    ghost asks = { λ c b t. asks_fold3 F.FnMut c.0 b t };
+    ghost can_call = { λ c b t. can_call_fold3 F.FnMut c.0 b t };
 
-    ghost calls = { λ c b t r d. calls_fold3 F.FnMut c.0 b t r d.0 };
+    ghost call_gives = { λ c b t r d. call_gives_fold3 F.FnMut c.0 b t r d.0 };
 
     fn call(&mut self, total: B, item: ((X, Y), Z)) -> O {
         let ((x, y), z) = item;
@@ -131,9 +131,9 @@ pub(crate) struct On4<F>(pub(crate) F);
 impl<X, Y, Z, U, O, F: FnMut(X, Y, Z, U) -> O> ItemCall<(((X, Y), Z), U)> for On4<F> {
     type Out = O;
 
-    ghost asks = { λ c t. asks4 F.FnMut c.0 t };
+    ghost can_call = { λ c t. can_call4 F.FnMut c.0 t };
 
-    ghost calls = { λ c t r d. calls4 F.FnMut c.0 t r d.0 };
+    ghost call_gives = { λ c t r d. call_gives4 F.FnMut c.0 t r d.0 };
 
     fn call(&mut self, item: (((X, Y), Z), U)) -> O {
         let (((x, y), z), u) = item;
@@ -144,9 +144,9 @@ impl<X, Y, Z, U, O, F: FnMut(X, Y, Z, U) -> O> ItemCall<(((X, Y), Z), U)> for On
 impl<B, X, Y, Z, U, O, F: FnMut(B, X, Y, Z, U) -> O> FoldCall<B, (((X, Y), Z), U)> for On4<F> {
     type Out = O;
 
-    ghost asks = { λ c b t. asks_fold4 F.FnMut c.0 b t };
+    ghost can_call = { λ c b t. can_call_fold4 F.FnMut c.0 b t };
 
-    ghost calls = { λ c b t r d. calls_fold4 F.FnMut c.0 b t r d.0 };
+    ghost call_gives = { λ c b t r d. call_gives_fold4 F.FnMut c.0 b t r d.0 };
 
     fn call(&mut self, total: B, item: (((X, Y), Z), U)) -> O {
         let (((x, y), z), u) = item;
@@ -161,9 +161,9 @@ pub(crate) struct On5<F>(pub(crate) F);
 impl<X, Y, Z, U, V, O, F: FnMut(X, Y, Z, U, V) -> O> ItemCall<((((X, Y), Z), U), V)> for On5<F> {
     type Out = O;
 
-    ghost asks = { λ c t. asks5 F.FnMut c.0 t };
+    ghost can_call = { λ c t. can_call5 F.FnMut c.0 t };
 
-    ghost calls = { λ c t r d. calls5 F.FnMut c.0 t r d.0 };
+    ghost call_gives = { λ c t r d. call_gives5 F.FnMut c.0 t r d.0 };
 
     fn call(&mut self, item: ((((X, Y), Z), U), V)) -> O {
         let ((((x, y), z), u), v) = item;
@@ -175,9 +175,9 @@ impl<B, X, Y, Z, U, V, O, F: FnMut(B, X, Y, Z, U, V) -> O> FoldCall<B, ((((X, Y)
     for On5<F> {
     type Out = O;
 
-    ghost asks = { λ c b t. asks_fold5 F.FnMut c.0 b t };
+    ghost can_call = { λ c b t. can_call_fold5 F.FnMut c.0 b t };
 
-    ghost calls = { λ c b t r d. calls_fold5 F.FnMut c.0 b t r d.0 };
+    ghost call_gives = { λ c b t r d. call_gives_fold5 F.FnMut c.0 b t r d.0 };
 
     fn call(&mut self, total: B, item: ((((X, Y), Z), U), V)) -> O {
         let ((((x, y), z), u), v) = item;
@@ -193,9 +193,9 @@ impl<X, Y, Z, U, V, W, O, F: FnMut(X, Y, Z, U, V, W) -> O> ItemCall<(((((X, Y), 
     for On6<F> {
     type Out = O;
 
-    ghost asks = { λ c t. asks6 F.FnMut c.0 t };
+    ghost can_call = { λ c t. can_call6 F.FnMut c.0 t };
 
-    ghost calls = { λ c t r d. calls6 F.FnMut c.0 t r d.0 };
+    ghost call_gives = { λ c t r d. call_gives6 F.FnMut c.0 t r d.0 };
 
     fn call(&mut self, item: (((((X, Y), Z), U), V), W)) -> O {
         let (((((x, y), z), u), v), w) = item;
@@ -209,9 +209,9 @@ impl<B, X, Y, Z, U, V, W, O, F: FnMut(B, X, Y, Z, U, V, W) -> O> FoldCall<
 > for On6<F> {
     type Out = O;
 
-    ghost asks = { λ c b t. asks_fold6 F.FnMut c.0 b t };
+    ghost can_call = { λ c b t. can_call_fold6 F.FnMut c.0 b t };
 
-    ghost calls = { λ c b t r d. calls_fold6 F.FnMut c.0 b t r d.0 };
+    ghost call_gives = { λ c b t r d. call_gives_fold6 F.FnMut c.0 b t r d.0 };
 
     fn call(&mut self, total: B, item: (((((X, Y), Z), U), V), W)) -> O {
         let (((((x, y), z), u), v), w) = item;

@@ -7,7 +7,7 @@ ghost use Rattle.ndarray.specs.Orders.{box_in};
 ghost use Rattle.ndarray.specs.Runs.{MayGather, Collects};
 
 use crate::base::array::Array;
-use crate::base::filling::Filling;
+use crate::base::builder::ArrayBuilder;
 use crate::order::Order;
 use crate::zip::calls::ItemCall;
 use crate::zip::producer::NdProducer;
@@ -20,29 +20,29 @@ pub(crate) fn collect_items<P: NdProducer, R: Drop, C: ItemCall<P::Item, Out = R
     order: Order,
     mut f: C,
 ) -> Result<Array<R, P::Dim>, AllocError>
-    requires callable { MayGather (P.shows p) C.calls C.asks (box_in order (P.lengths p)) f }
-    ensures ran { IfOk result (λ g. Collects (P.shows p) C.calls order (P.lengths p) f g) }
+    requires callable { MayGather (P.yields_at p) C.call_gives C.can_call (box_in order (P.lengths p)) f }
+    ensures ran { IfOk result (λ g. Collects (P.yields_at p) C.call_gives order (P.lengths p) f g) }
     ensures axes { IfOk result (λ g. P.Dim.has_axes (length g.lengths)) }
     ensures whole { IfOk result IsGrid }
     ensures empty { size (P.lengths p) ≡ 0 → IsOk result }
 {
-    let mut filling = Filling::with_capacity(alloc, p.raw_dim(), order)?;
+    let mut builder = ArrayBuilder::with_capacity(alloc, p.raw_dim(), order)?;
     match p.try_flat(order) {
         Ok(flat) => {
             let mut run = P::run_flat(flat);
             while let Some(y) = run.next() {
                 let r = f.call(y);
-                filling.push(r);
+                builder.push(r);
             }
-            Ok(filling.finish())
+            Ok(builder.finish())
         }
         Err(p) => {
             let mut run = p.run(order);
             while let Some(x) = run.next() {
                 let r = f.call(x);
-                filling.push(r);
+                builder.push(r);
             }
-            Ok(filling.finish())
+            Ok(builder.finish())
         }
     }
 }

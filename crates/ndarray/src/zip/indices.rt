@@ -59,7 +59,7 @@ impl<D: Dimension> NdProducer for Indices<D> {
 
     type Run = Patterns<D>;
 
-    ghost shows = { λ s i x. cell s i ≡ Some (D.pattern_numbers x) };
+    ghost yields_at = { λ s i x. cell s i ≡ Some (D.pattern_numbers x) };
 
     fn raw_dim(&self) -> D {
         self.raw_dim()

@@ -11,9 +11,9 @@ use crate::zip::{Parts, Zip};
 impl<N: NdProducer<Dim = D>, D: Lengths> Zip<Parts<N, 1>, D> {
     /// Walks one more producer along, of the same shape, which the caller owes; the test is `fits`.
     pub fn and<J: IntoNdProducer<Dim = D>>(self, part: J) -> Zip<Parts<Pair<N, J::Output>, 2>, D>
-        requires { (r : J.Output) → J.becomes part r → N.lengths self.nested ≡ J.Output.lengths r }
+        requires { (r : J.Output) → J.converts_to part r → N.lengths self.nested ≡ J.Output.lengths r }
         ensures before { result.nested.first ≡ self.nested }
-        ensures last { J.becomes part result.nested.second }
+        ensures last { J.converts_to part result.nested.second }
     {
         let Zip { parts, dimension } = self;
         let Parts { nested: first } = parts;
@@ -33,7 +33,7 @@ impl<N: NdProducer<Dim = D>, D: Lengths> Zip<Parts<N, 1>, D> {
         J::Output: NdProducer<Dim = D>,
         requires { BroadcastsTo (J.own_lengths part) (N.lengths self.nested) }
         ensures before { result.nested.first ≡ self.nested }
-        ensures last { J.stretches part (N.lengths self.nested) result.nested.second }
+        ensures last { J.broadcasts_as part (N.lengths self.nested) result.nested.second }
     {
         let Zip { parts, dimension } = self;
         let Parts { nested: first } = parts;
@@ -50,9 +50,9 @@ impl<N: NdProducer<Dim = D>, D: Lengths> Zip<Parts<N, 1>, D> {
 impl<N: NdProducer<Dim = D>, D: Lengths> Zip<Parts<N, 2>, D> {
     /// Walks one more producer along, of the same shape, which the caller owes; the test is `fits`.
     pub fn and<J: IntoNdProducer<Dim = D>>(self, part: J) -> Zip<Parts<Pair<N, J::Output>, 3>, D>
-        requires { (r : J.Output) → J.becomes part r → N.lengths self.nested ≡ J.Output.lengths r }
+        requires { (r : J.Output) → J.converts_to part r → N.lengths self.nested ≡ J.Output.lengths r }
         ensures before { result.nested.first ≡ self.nested }
-        ensures last { J.becomes part result.nested.second }
+        ensures last { J.converts_to part result.nested.second }
     {
         let Zip { parts, dimension } = self;
         let Parts { nested: first } = parts;
@@ -72,7 +72,7 @@ impl<N: NdProducer<Dim = D>, D: Lengths> Zip<Parts<N, 2>, D> {
         J::Output: NdProducer<Dim = D>,
         requires { BroadcastsTo (J.own_lengths part) (N.lengths self.nested) }
         ensures before { result.nested.first ≡ self.nested }
-        ensures last { J.stretches part (N.lengths self.nested) result.nested.second }
+        ensures last { J.broadcasts_as part (N.lengths self.nested) result.nested.second }
     {
         let Zip { parts, dimension } = self;
         let Parts { nested: first } = parts;
@@ -89,9 +89,9 @@ impl<N: NdProducer<Dim = D>, D: Lengths> Zip<Parts<N, 2>, D> {
 impl<N: NdProducer<Dim = D>, D: Lengths> Zip<Parts<N, 3>, D> {
     /// Walks one more producer along, of the same shape, which the caller owes; the test is `fits`.
     pub fn and<J: IntoNdProducer<Dim = D>>(self, part: J) -> Zip<Parts<Pair<N, J::Output>, 4>, D>
-        requires { (r : J.Output) → J.becomes part r → N.lengths self.nested ≡ J.Output.lengths r }
+        requires { (r : J.Output) → J.converts_to part r → N.lengths self.nested ≡ J.Output.lengths r }
         ensures before { result.nested.first ≡ self.nested }
-        ensures last { J.becomes part result.nested.second }
+        ensures last { J.converts_to part result.nested.second }
     {
         let Zip { parts, dimension } = self;
         let Parts { nested: first } = parts;
@@ -111,7 +111,7 @@ impl<N: NdProducer<Dim = D>, D: Lengths> Zip<Parts<N, 3>, D> {
         J::Output: NdProducer<Dim = D>,
         requires { BroadcastsTo (J.own_lengths part) (N.lengths self.nested) }
         ensures before { result.nested.first ≡ self.nested }
-        ensures last { J.stretches part (N.lengths self.nested) result.nested.second }
+        ensures last { J.broadcasts_as part (N.lengths self.nested) result.nested.second }
     {
         let Zip { parts, dimension } = self;
         let Parts { nested: first } = parts;
@@ -128,9 +128,9 @@ impl<N: NdProducer<Dim = D>, D: Lengths> Zip<Parts<N, 3>, D> {
 impl<N: NdProducer<Dim = D>, D: Lengths> Zip<Parts<N, 4>, D> {
     /// Walks one more producer along, of the same shape, which the caller owes; the test is `fits`.
     pub fn and<J: IntoNdProducer<Dim = D>>(self, part: J) -> Zip<Parts<Pair<N, J::Output>, 5>, D>
-        requires { (r : J.Output) → J.becomes part r → N.lengths self.nested ≡ J.Output.lengths r }
+        requires { (r : J.Output) → J.converts_to part r → N.lengths self.nested ≡ J.Output.lengths r }
         ensures before { result.nested.first ≡ self.nested }
-        ensures last { J.becomes part result.nested.second }
+        ensures last { J.converts_to part result.nested.second }
     {
         let Zip { parts, dimension } = self;
         let Parts { nested: first } = parts;
@@ -150,7 +150,7 @@ impl<N: NdProducer<Dim = D>, D: Lengths> Zip<Parts<N, 4>, D> {
         J::Output: NdProducer<Dim = D>,
         requires { BroadcastsTo (J.own_lengths part) (N.lengths self.nested) }
         ensures before { result.nested.first ≡ self.nested }
-        ensures last { J.stretches part (N.lengths self.nested) result.nested.second }
+        ensures last { J.broadcasts_as part (N.lengths self.nested) result.nested.second }
     {
         let Zip { parts, dimension } = self;
         let Parts { nested: first } = parts;
@@ -167,9 +167,9 @@ impl<N: NdProducer<Dim = D>, D: Lengths> Zip<Parts<N, 4>, D> {
 impl<N: NdProducer<Dim = D>, D: Lengths> Zip<Parts<N, 5>, D> {
     /// Walks one more producer along, of the same shape, which the caller owes; the test is `fits`.
     pub fn and<J: IntoNdProducer<Dim = D>>(self, part: J) -> Zip<Parts<Pair<N, J::Output>, 6>, D>
-        requires { (r : J.Output) → J.becomes part r → N.lengths self.nested ≡ J.Output.lengths r }
+        requires { (r : J.Output) → J.converts_to part r → N.lengths self.nested ≡ J.Output.lengths r }
         ensures before { result.nested.first ≡ self.nested }
-        ensures last { J.becomes part result.nested.second }
+        ensures last { J.converts_to part result.nested.second }
     {
         let Zip { parts, dimension } = self;
         let Parts { nested: first } = parts;
@@ -189,7 +189,7 @@ impl<N: NdProducer<Dim = D>, D: Lengths> Zip<Parts<N, 5>, D> {
         J::Output: NdProducer<Dim = D>,
         requires { BroadcastsTo (J.own_lengths part) (N.lengths self.nested) }
         ensures before { result.nested.first ≡ self.nested }
-        ensures last { J.stretches part (N.lengths self.nested) result.nested.second }
+        ensures last { J.broadcasts_as part (N.lengths self.nested) result.nested.second }
     {
         let Zip { parts, dimension } = self;
         let Parts { nested: first } = parts;

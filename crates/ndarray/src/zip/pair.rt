@@ -30,7 +30,7 @@ impl<P: NdProducer, Q: NdProducer> NdProducer for Pair<P, Q> {
 
     type Run = PairRun<P::Run, Q::Run>;
 
-    ghost shows = { λ s. both (P.shows s.first) (Q.shows s.second) };
+    ghost yields_at = { λ s. both (P.yields_at s.first) (Q.yields_at s.second) };
 
     fn raw_dim(&self) -> P::Dim {
         self.first.raw_dim()

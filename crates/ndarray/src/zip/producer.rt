@@ -5,7 +5,7 @@ ghost use Rattle.std.specs.Iterator.{IsFinite};
 ghost use Rattle.ndarray.specs.Broadcast.{BroadcastsTo};
 ghost use Rattle.ndarray.specs.Limits.{IsWithinLimit};
 ghost use Rattle.ndarray.specs.Orders.{box_in};
-ghost use Rattle.ndarray.specs.Producers.{Gives, IsPart, IsRefinedBy};
+ghost use Rattle.ndarray.specs.Producers.{YieldsInTurn, IsPart, IsRefinedBy};
 ghost use Rattle.ndarray.specs.declared.base.shape.Order.{Order};
 
 use crate::base::axis::Axis;
@@ -30,7 +30,7 @@ pub trait NdProducer: Shaped + Drop + Sized {
     type Run: Iterator<Item = Self::Item> + Drop;
 
     // Whether an item may be handed out at an index list.
-    ghost shows: { Self → List ℕ → Self.Item → Type 0 };
+    ghost yields_at: { Self → List ℕ → Self.Item → Type 0 };
 
     /// The lengths.
     fn raw_dim(&self) -> Self::Dim
@@ -44,14 +44,14 @@ pub trait NdProducer: Shaped + Drop + Sized {
     fn split_at(self, axis: Axis, index: usize) -> (Self, Self)
         requires axis_below { axis.0 < length (Self.lengths self) }
         requires index_at_most { index ≤ slice_index (Self.lengths self) axis.0 }
-        ensures first { IsPart axis.0 0 index (Self.lengths self) (shows self) (Self.lengths result.0) (shows result.0) }
-        ensures second { IsPart axis.0 index (slice_index (Self.lengths self) axis.0) (Self.lengths self) (shows self) (Self.lengths result.1) (shows result.1) };
+        ensures first { IsPart axis.0 0 index (Self.lengths self) (yields_at self) (Self.lengths result.0) (yields_at result.0) }
+        ensures second { IsPart axis.0 index (slice_index (Self.lengths self) axis.0) (Self.lengths self) (yields_at self) (Self.lengths result.1) (yields_at result.1) };
 
     /// An item at each index list, in the order.
     fn run(self, order: Order) -> Self::Run
         ensures can { Self.Run.can_next result }
         ensures finite { IsFinite (Self.Run.remaining result) }
-        ensures gives { Gives Self.Run.next_gives (shows self) result (box_in order (Self.lengths self)) };
+        ensures gives { YieldsInTurn Self.Run.next_gives (yields_at self) result (box_in order (Self.lengths self)) };
 
     /// The same producer where its items lie side by side in an order, so that a run over them takes no
     /// strides.
@@ -70,18 +70,18 @@ pub trait NdProducer: Shaped + Drop + Sized {
     /// The flat form, where the items lie side by side in the order; else the producer.
     fn try_flat(self, order: Order) -> Result<Self::Flat, Self>
         ensures flat { IfOk result (λ flat. flat_form self order flat) }
-        ensures back { IfErr result (λ p. IsRefinedBy (Self.lengths self) (shows self) (Self.lengths p) (shows p)) };
+        ensures back { IfErr result (λ p. IsRefinedBy (Self.lengths self) (yields_at self) (Self.lengths p) (yields_at p)) };
 
     /// The producer of a flat form.
     fn from_flat(flat: Self::Flat) -> Self
         requires { (p : Self) × ((o : Order) × flat_form p o flat) }
-        ensures { (p : Self) (o : Order) → flat_form p o flat → IsRefinedBy (Self.lengths p) (shows p) (Self.lengths result) (shows result) };
+        ensures { (p : Self) (o : Order) → flat_form p o flat → IsRefinedBy (Self.lengths p) (yields_at p) (Self.lengths result) (yields_at result) };
 
     /// An item at each index list, in the order in which they lie.
     fn run_flat(flat: Self::Flat) -> Self::FlatRun
         ensures can { Self.FlatRun.can_next result }
         ensures finite { IsFinite (Self.FlatRun.remaining result) }
-        ensures gives { (p : Self) (o : Order) → flat_form p o flat → Gives Self.FlatRun.next_gives (shows p) result (box_in o (Self.lengths p)) };
+        ensures gives { (p : Self) (o : Order) → flat_form p o flat → YieldsInTurn Self.FlatRun.next_gives (yields_at p) result (box_in o (Self.lengths p)) };
 }
 
 /// A producer whose clones have its lengths.
@@ -98,13 +98,13 @@ pub trait IntoBroadcast<D: Lengths> {
     ghost own_lengths: { Self → List ℕ };
 
     // Whether a view is what is seen at these lengths.
-    ghost stretches: { Self → List ℕ → Self.Output → Type 0 };
+    ghost broadcasts_as: { Self → List ℕ → Self.Output → Type 0 };
 
     /// What is seen at the shape.
     fn into_broadcast(self, dim: D) -> Self::Output
         requires broadcasts { BroadcastsTo (own_lengths self) (D.numbers dim) }
         requires limit { IsWithinLimit (D.numbers dim) }
-        ensures seen { stretches self (D.numbers dim) result }
+        ensures seen { broadcasts_as self (D.numbers dim) result }
         ensures lengths { Self.Output.lengths result ≡ D.numbers dim };
 }
 
@@ -120,11 +120,11 @@ pub trait IntoNdProducer {
     type Output: NdProducer<Item = Self::Item, Dim = Self::Dim>;
 
     // Whether it becomes this producer.
-    ghost becomes: { Self → Self.Output → Type 0 };
+    ghost converts_to: { Self → Self.Output → Type 0 };
 
     /// The producer.
     fn into_producer(self) -> Self::Output
-        ensures { becomes self result };
+        ensures { converts_to self result };
 }
 
 impl<P: NdProducer> IntoNdProducer for P {
@@ -134,7 +134,7 @@ impl<P: NdProducer> IntoNdProducer for P {
 
     type Output = P;
 
-    ghost becomes = { λ s r. r ≡ s };
+    ghost converts_to = { λ s r. r ≡ s };
 
     fn into_producer(self) -> P {
         self

@@ -2,7 +2,7 @@
 
 ghost use Rattle.std.specs.Prelude.{◌≡◌, ◌∷◌, [], length, Some};
 ghost use Rattle.std.proofs.Common.{ap};
-ghost use Rattle.ndarray.specs.Grid.{cell, line};
+ghost use Rattle.ndarray.specs.Grid.{cell, one_axis};
 ghost use Rattle.ndarray.specs.declared.base.shape.Order.TheVariants.{RowMajor};
 
 use crate::base::array::ArrayView;
@@ -26,20 +26,20 @@ impl<'a, A, D: Lengths> NdProducer for Lanes<'a, A, D> {
 
     type Run = LanesIter<'a, A, D>;
 
-    ghost shows = { λ s i x. cell s i ≡ Some x };
+    ghost yields_at = { λ s i x. cell s i ≡ Some x };
 
     fn raw_dim(&self) -> D {
-        self.tiles.raw_dim()
+        self.pieces.raw_dim()
     }
 
     fn split_at(self, axis: Axis, index: usize) -> (Self, Self) {
-        let (first, second) = self.tiles.split_at(axis, index);
-        (Lanes { tiles: first }, Lanes { tiles: second })
+        let (first, second) = self.pieces.split_at(axis, index);
+        (Lanes { pieces: first }, Lanes { pieces: second })
     }
 
     fn run(self, order: Order) -> LanesIter<'a, A, D> {
         LanesIter {
-            items: self.tiles.run(order),
+            items: self.pieces.run(order),
         }
     }
 
@@ -77,20 +77,20 @@ impl<'a, A, D: Lengths> NdProducer for ExactChunks<'a, A, D> {
 
     type Run = ExactChunksIter<'a, A, D>;
 
-    ghost shows = { λ s i x. cell s i ≡ Some x };
+    ghost yields_at = { λ s i x. cell s i ≡ Some x };
 
     fn raw_dim(&self) -> D {
-        self.tiles.raw_dim()
+        self.pieces.raw_dim()
     }
 
     fn split_at(self, axis: Axis, index: usize) -> (Self, Self) {
-        let (first, second) = self.tiles.split_at(axis, index);
-        (ExactChunks { tiles: first }, ExactChunks { tiles: second })
+        let (first, second) = self.pieces.split_at(axis, index);
+        (ExactChunks { pieces: first }, ExactChunks { pieces: second })
     }
 
     fn run(self, order: Order) -> ExactChunksIter<'a, A, D> {
         ExactChunksIter {
-            items: self.tiles.run(order),
+            items: self.pieces.run(order),
         }
     }
 
@@ -128,20 +128,20 @@ impl<'a, A, D: Lengths> NdProducer for Windows<'a, A, D> {
 
     type Run = WindowsIter<'a, A, D>;
 
-    ghost shows = { λ s i x. cell s i ≡ Some x };
+    ghost yields_at = { λ s i x. cell s i ≡ Some x };
 
     fn raw_dim(&self) -> D {
-        self.tiles.raw_dim()
+        self.pieces.raw_dim()
     }
 
     fn split_at(self, axis: Axis, index: usize) -> (Self, Self) {
-        let (first, second) = self.tiles.split_at(axis, index);
-        (Windows { tiles: first }, Windows { tiles: second })
+        let (first, second) = self.pieces.split_at(axis, index);
+        (Windows { pieces: first }, Windows { pieces: second })
     }
 
     fn run(self, order: Order) -> WindowsIter<'a, A, D> {
         WindowsIter {
-            items: self.tiles.run(order),
+            items: self.pieces.run(order),
         }
     }
 
@@ -179,27 +179,27 @@ impl<'a, A, D: Lengths> NdProducer for AxisWindows<'a, A, D> {
 
     type Run = WindowsIter<'a, A, D>;
 
-    ghost shows = { λ s i x. cell s i ≡ Some x };
+    ghost yields_at = { λ s i x. cell s i ≡ Some x };
 
     fn raw_dim(&self) -> Ix1 {
-        Ix1(self.tiles.raw_dim().size())
+        Ix1(self.pieces.raw_dim().size())
     }
 
     fn split_at(self, _axis: Axis, index: usize) -> (Self, Self) {
-        let AxisWindows { axis, tiles } = self;
-        let (first, second) = tiles.split_at(Axis(axis), index);
+        let AxisWindows { axis, pieces } = self;
+        let (first, second) = pieces.split_at(Axis(axis), index);
         (
-            AxisWindows { axis, tiles: first },
+            AxisWindows { axis, pieces: first },
             AxisWindows {
                 axis,
-                tiles: second,
+                pieces: second,
             },
         )
     }
 
     fn run(self, _order: Order) -> WindowsIter<'a, A, D> {
         WindowsIter {
-            items: self.tiles.into_iter(),
+            items: self.pieces.into_iter(),
         }
     }
 
@@ -237,7 +237,7 @@ impl<'a, A, D: Lengths> NdProducer for AxisIter<'a, A, D> {
 
     type Run = AxisIter<'a, A, D>;
 
-    ghost shows = { λ s i x. cell (line s) i ≡ Some x };
+    ghost yields_at = { λ s i x. cell (one_axis s) i ≡ Some x };
 
     fn raw_dim(&self) -> Ix1 {
         Ix1(self.items.bounded_len())

@@ -25,7 +25,7 @@ impl<'a, A, D: Lengths> NdProducer for ArrayView<'a, A, D> {
 
     type Run = ElementsBase<'a, A, D>;
 
-    ghost shows = { λ v i x. cell v i ≡ Some x.now };
+    ghost yields_at = { λ v i x. cell v i ≡ Some x.now };
 
     fn raw_dim(&self) -> D {
         self.raw_dim()
@@ -75,7 +75,7 @@ where
 
     type Output = ArrayView<'b, S::Elem, D>;
 
-    ghost becomes = { λ a v. v ≡ a.now };
+    ghost converts_to = { λ a v. v ≡ a.now };
 
     fn into_producer(self) -> ArrayView<'b, S::Elem, D> {
         self.view()
@@ -91,7 +91,7 @@ impl<'a, A, E: Lengths, D: Lengths> IntoBroadcast<D> for ArrayView<'a, A, E> {
 
     ghost own_lengths = { λ v. v.lengths };
 
-    ghost stretches = { λ v ns r. r ≡ broadcast_to v ns };
+    ghost broadcasts_as = { λ v ns r. r ≡ broadcast_to v ns };
 
     fn into_broadcast(self, dim: D) -> ArrayView<'a, A, D> {
         let Some(view) = self.broadcast_to(dim) else {
@@ -109,7 +109,7 @@ where
 
     ghost own_lengths = { λ a. a.now.lengths };
 
-    ghost stretches = { λ a ns r. r ≡ broadcast_to a.now ns };
+    ghost broadcasts_as = { λ a ns r. r ≡ broadcast_to a.now ns };
 
     fn into_broadcast(self, dim: D) -> ArrayView<'b, S::Elem, D> {
         self.view().into_broadcast(dim)

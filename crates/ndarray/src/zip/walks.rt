@@ -16,8 +16,8 @@ pub(crate) fn fold_items<P: NdProducer, B, C: FoldCall<B, P::Item, Out = B>>(
     init: B,
     mut f: C,
 ) -> B
-    requires callable { MayFold (P.shows p) C.calls C.asks (box_in order (P.lengths p)) f init }
-    ensures ran { Folds (P.shows p) C.calls (box_in order (P.lengths p)) f init result }
+    requires callable { MayFold (P.yields_at p) C.call_gives C.can_call (box_in order (P.lengths p)) f init }
+    ensures ran { Folds (P.yields_at p) C.call_gives (box_in order (P.lengths p)) f init result }
 {
     let mut acc = init;
     match p.try_flat(order) {
@@ -43,8 +43,8 @@ pub(crate) fn visit_items<P: NdProducer, C: ItemCall<P::Item, Out = ()>>(
     order: Order,
     mut f: C,
 )
-    requires callable { MayVisit (P.shows p) C.calls C.asks (box_in order (P.lengths p)) f }
-    ensures ran { Visits (P.shows p) C.calls (box_in order (P.lengths p)) f }
+    requires callable { MayVisit (P.yields_at p) C.call_gives C.can_call (box_in order (P.lengths p)) f }
+    ensures ran { Visits (P.yields_at p) C.call_gives (box_in order (P.lengths p)) f }
 {
     match p.try_flat(order) {
         Ok(flat) => {
@@ -68,8 +68,8 @@ pub(crate) fn all_items<P: NdProducer, C: ItemCall<P::Item, Out = bool>>(
     order: Order,
     mut f: C,
 ) -> bool
-    requires callable { MayTest (P.shows p) C.calls C.asks (box_in order (P.lengths p)) f true }
-    ensures ran { TestsUntil (P.shows p) C.calls (box_in order (P.lengths p)) f true false result }
+    requires callable { MayTest (P.yields_at p) C.call_gives C.can_call (box_in order (P.lengths p)) f true }
+    ensures ran { TestsUntil (P.yields_at p) C.call_gives (box_in order (P.lengths p)) f true false result }
 {
     match p.try_flat(order) {
         Ok(flat) => {
@@ -98,8 +98,8 @@ pub(crate) fn any_items<P: NdProducer, C: ItemCall<P::Item, Out = bool>>(
     order: Order,
     mut f: C,
 ) -> bool
-    requires callable { MayTest (P.shows p) C.calls C.asks (box_in order (P.lengths p)) f false }
-    ensures ran { TestsUntil (P.shows p) C.calls (box_in order (P.lengths p)) f false true result }
+    requires callable { MayTest (P.yields_at p) C.call_gives C.can_call (box_in order (P.lengths p)) f false }
+    ensures ran { TestsUntil (P.yields_at p) C.call_gives (box_in order (P.lengths p)) f false true result }
 {
     match p.try_flat(order) {
         Ok(flat) => {
@@ -129,8 +129,8 @@ pub(crate) fn fold_items_while<P: NdProducer, B, C: FoldCall<B, P::Item, Out = F
     init: B,
     mut f: C,
 ) -> FoldWhile<B>
-    requires callable { MayFoldWhile (P.shows p) C.calls C.asks (box_in order (P.lengths p)) f init }
-    ensures ran { FoldsWhile (P.shows p) C.calls (box_in order (P.lengths p)) f init result }
+    requires callable { MayFoldWhile (P.yields_at p) C.call_gives C.can_call (box_in order (P.lengths p)) f init }
+    ensures ran { FoldsWhile (P.yields_at p) C.call_gives (box_in order (P.lengths p)) f init result }
 {
     let mut acc = init;
     match p.try_flat(order) {

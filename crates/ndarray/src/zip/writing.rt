@@ -1,7 +1,7 @@
 //! Views to write in, and what is handed out to write in, as producers.
 
 ghost use Rattle.std.specs.Prelude.{◌≡◌, [], ◌∷◌, length, Some};
-ghost use Rattle.ndarray.specs.Grid.{cell, line, IsGrid};
+ghost use Rattle.ndarray.specs.Grid.{cell, one_axis, IsGrid};
 ghost use Rattle.ndarray.specs.Limits.{IsWithinLimit};
 ghost use Rattle.ndarray.specs.Orders.{cells_in};
 ghost use Rattle.ndarray.specs.declared.base.shape.Order.TheVariants.{RowMajor};
@@ -25,7 +25,7 @@ impl<'a, A: 'a, D: Lengths> NdProducer for ArrayViewMut<'a, A, D> {
 
     type Run = ElementsBaseMut<'a, A, D>;
 
-    ghost shows = { λ v i x. cell v i ≡ Some x.now };
+    ghost yields_at = { λ v i x. cell v i ≡ Some x.now };
 
     fn raw_dim(&self) -> D {
         self.raw_dim()
@@ -85,7 +85,7 @@ where
 
     type Output = ArrayViewMut<'b, S::Elem, D>;
 
-    ghost becomes = { λ a v. v ≡ a.now };
+    ghost converts_to = { λ a v. v ≡ a.now };
 
     fn into_producer(self) -> ArrayViewMut<'b, S::Elem, D> {
         self.view_mut()
@@ -103,7 +103,7 @@ impl<'a, A, D: Lengths> NdProducer for AxisIterMut<'a, A, D> {
 
     type Run = AxisIterMut<'a, A, D>;
 
-    ghost shows = { λ s i x. cell (line s) i ≡ Some x };
+    ghost yields_at = { λ s i x. cell (one_axis s) i ≡ Some x };
 
     fn raw_dim(&self) -> Ix1 {
         self.raw_dim()
@@ -151,20 +151,20 @@ impl<'a, A, D: Lengths> NdProducer for LanesMut<'a, A, D> {
 
     type Run = LanesIterMut<'a, A, D>;
 
-    ghost shows = { λ s i x. cell s i ≡ Some x };
+    ghost yields_at = { λ s i x. cell s i ≡ Some x };
 
     fn raw_dim(&self) -> D {
-        self.tiles.raw_dim()
+        self.pieces.raw_dim()
     }
 
     fn split_at(self, axis: Axis, index: usize) -> (Self, Self) {
-        let (first, second) = self.tiles.split_at(axis, index);
-        (LanesMut { tiles: first }, LanesMut { tiles: second })
+        let (first, second) = self.pieces.split_at(axis, index);
+        (LanesMut { pieces: first }, LanesMut { pieces: second })
     }
 
     fn run(self, order: Order) -> LanesIterMut<'a, A, D> {
         LanesIterMut {
-            items: self.tiles.run(order),
+            items: self.pieces.run(order),
         }
     }
 
@@ -202,23 +202,23 @@ impl<'a, A, D: Lengths> NdProducer for ExactChunksMut<'a, A, D> {
 
     type Run = ExactChunksIterMut<'a, A, D>;
 
-    ghost shows = { λ s i x. cell s i ≡ Some x };
+    ghost yields_at = { λ s i x. cell s i ≡ Some x };
 
     fn raw_dim(&self) -> D {
-        self.tiles.raw_dim()
+        self.pieces.raw_dim()
     }
 
     fn split_at(self, axis: Axis, index: usize) -> (Self, Self) {
-        let (first, second) = self.tiles.split_at(axis, index);
+        let (first, second) = self.pieces.split_at(axis, index);
         (
-            ExactChunksMut { tiles: first },
-            ExactChunksMut { tiles: second },
+            ExactChunksMut { pieces: first },
+            ExactChunksMut { pieces: second },
         )
     }
 
     fn run(self, order: Order) -> ExactChunksIterMut<'a, A, D> {
         ExactChunksIterMut {
-            items: self.tiles.run(order),
+            items: self.pieces.run(order),
         }
     }
 

@@ -1,8 +1,8 @@
 use Rattle.std.proofs.Common.{arith, ◌≡◌, ◌+◌}
 use Rattle.ndarray.specs.Index.{InBox}
-use Rattle.ndarray.specs.order.Steps.{rank_in}
-use Rattle.ndarray.proofs.Boxes.{InBox-length, InBox-get}
-use Rattle.ndarray.proofs.Walks.{step-here, step-carry}
+use Rattle.ndarray.specs.order.Ranks.{rank_in}
+use Rattle.ndarray.proofs.boxes.Boxes.{InBox-length, InBox-get}
+use Rattle.ndarray.proofs.boxes.Walks.{step-here, step-carry}
 use Rattle.ndarray.proofs.order.advance.Goals as goal
 
 pub axis-i-requires : goal.axis-i-requires

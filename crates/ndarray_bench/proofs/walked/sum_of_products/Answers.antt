@@ -3,7 +3,7 @@ use Rattle.std.specs.List.{sum_by}
 use Rattle.ndarray.specs.Grid.{cell}
 use Rattle.ndarray.specs.Index.{row_order}
 use Rattle.ndarray.specs.Orders.{box_in}
-use Rattle.ndarray.proofs.Folded.{fold-follows, may-follow}
+use Rattle.ndarray.proofs.callers.Folding.{fold-follows, may-follow}
 use Rattle.ndarray_bench.specs.PairedProducts.{product_at}
 use Rattle.ndarray_bench.proofs.PairedProducts.{product-of_cells, sum-part, sum-in_either_order}
 use Rattle.ndarray_bench.proofs.walked.sum_of_products.Goals as goal

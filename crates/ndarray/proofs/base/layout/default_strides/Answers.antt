@@ -1,6 +1,6 @@
 use Rattle.std.proofs.Common.{arith, ◌≡◌, ◌*◌, ◌+◌, ap, length, length-set}
-use Rattle.ndarray.specs.order.Steps.{block_in}
-use Rattle.ndarray.proofs.Strides.{block_in-fits, block-step, strides-more}
+use Rattle.ndarray.specs.order.Ranks.{block_in}
+use Rattle.ndarray.proofs.strides.Strides.{block_in-fits, block-step, strides-more}
 use Rattle.ndarray.proofs.base.layout.default_strides.Goals as goal
 
 more : (g : _) (c : goal.After-axis-block g) → c.loop-p.block * c.axis-block.result ≡ block_in c.args.order (g.D.Lengths.numbers c.args.dim.now) (c.loop-p.p + 1)

@@ -1,5 +1,5 @@
 -- So far the list has the first numbers of the list that it becomes.
-use Rattle.ndarray.proofs.Filled.{IsFilledTo}
+use Rattle.ndarray.proofs.lists.Prefixes.{IsFilledTo}
 use Rattle.ndarray.proofs.base.layout.same_numbers.Given as goal
 
 abbrev pub invariant-loop-k : goal.invariant-loop-k

@@ -3,7 +3,7 @@ use Rattle.std.specs.Iterator.{ActsAs, Drains}
 use Rattle.std.specs.Iterator.Adapters.{map_steps}
 use Rattle.std.specs.Iterator.Runs.{WholeRun}
 use Rattle.ndarray.specs.Collected.{GivesEach}
-use Rattle.ndarray.proofs.Collected.{if_ok, mapped-drains, mapped-runs}
+use Rattle.ndarray.proofs.lists.Collections.{if_ok, mapped-drains, mapped-runs}
 use Rattle.ndarray.proofs.iter.collected.to_vec_mapped.Goals as goal
 use Rattle.ndarray.proofs.iter.collected.to_vec_mapped.Goals.{After-to_vec}
 

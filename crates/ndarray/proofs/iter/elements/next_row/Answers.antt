@@ -1,7 +1,7 @@
 use Rattle.std.proofs.Common.{arith, ◌++◌, sym, ap, ◌∙◌, length}
 use Rattle.std.specs.Prelude.{filter_map}
 use Rattle.ndarray.specs.Grid.{cell}
-use Rattle.ndarray.proofs.Rows.{row-within, HasCells-row, row-length, row-count, row-split}
+use Rattle.ndarray.proofs.strides.Rows.{row-within, HasCells-row, row-length, row-count, row-split}
 use Rattle.ndarray.proofs.iter.elements.next_row.Goals as goal
 
 pub cells_along-requires : goal.cells_along-requires

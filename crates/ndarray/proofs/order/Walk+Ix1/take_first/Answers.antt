@@ -1,7 +1,7 @@
 use Rattle.std.proofs.Common.{◌≡◌, ◌+◌, ◌-◌, ◌∷◌, [], ap, ◌∙◌, arith, rules, length, drop, inl, inr}
 use Rattle.std.proofs.lemmas.Bool.{cases_lt}
-use Rattle.ndarray.specs.order.Steps.{WalkStands, walk_rest}
-use Rattle.ndarray.proofs.Walks.{walk-later, length-walk_rest, one-fits}
+use Rattle.ndarray.specs.order.Ranks.{WalkStands, walk_rest}
+use Rattle.ndarray.proofs.boxes.Walks.{walk-later, length-walk_rest, one-fits}
 use Rattle.ndarray.proofs.order.Walk+Ix1.take_first.Goals as goal
 
 pub overflow_add-self : goal.overflow_add-self

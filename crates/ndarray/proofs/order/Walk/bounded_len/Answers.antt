@@ -1,7 +1,7 @@
 use Rattle.std.proofs.Common.{ap, sym, ◌∙◌, length, arith, inl, inr}
 use Rattle.std.proofs.lemmas.Bool.{cases_lt}
-use Rattle.ndarray.proofs.Sizes.{size-le}
-use Rattle.ndarray.proofs.Walks.{length-walk_rest}
+use Rattle.ndarray.proofs.boxes.Sizes.{size-le}
+use Rattle.ndarray.proofs.boxes.Walks.{length-walk_rest}
 use Rattle.ndarray.proofs.order.Walk.bounded_len.Goals as goal
 
 pub returns-clause-value : goal.returns-clause-value

@@ -2,10 +2,10 @@ use Rattle.std.proofs.Common.{rules, arith, ◌≡◌, ℕ, ◌-◌, ◌<◌, �
 use Rattle.std.proofs.lemmas.Bool.Decides.{nat_tests}
 use Rattle.std.specs.Prelude.{Contains, IsTrue}
 use Rattle.ndarray.specs.Index.{InBox}
-use Rattle.ndarray.specs.order.Steps.{rank_in}
-use Rattle.ndarray.proofs.Boxes.{InBox-length}
-use Rattle.ndarray.proofs.Strides.{place-strides}
-use Rattle.ndarray.proofs.Walks.{to-come, to-come_back}
+use Rattle.ndarray.specs.order.Ranks.{rank_in}
+use Rattle.ndarray.proofs.boxes.Boxes.{InBox-length}
+use Rattle.ndarray.proofs.strides.Strides.{place-strides}
+use Rattle.ndarray.proofs.boxes.Walks.{to-come, to-come_back}
 use Rattle.ndarray.proofs.order.Walk.is_to_come.Goals as goal
 use Rattle.ndarray.proofs.order.Walk.is_to_come.Goals.{then-next-rank, else-next-rank}
 

@@ -1,5 +1,5 @@
 use Rattle.std.proofs.Common.{ap, sym, ◌∙◌, length}
-use Rattle.ndarray.proofs.Walks.{length-walk_rest}
+use Rattle.ndarray.proofs.boxes.Walks.{length-walk_rest}
 use Rattle.ndarray.proofs.order.Walk.len.Goals as goal
 
 pub returns : goal.returns

@@ -1,10 +1,10 @@
 use Rattle.std.proofs.Common.{ap, sym, ◌∙◌, length, ◌≡◌, replicate, subst, List, ℕ}
 use Rattle.ndarray.specs.Orders.{IsBoxIn}
-use Rattle.ndarray.specs.order.Steps.{WalkStands, walk_rest}
-use Rattle.ndarray.proofs.Walks.{walk-new, walk-stands_new}
-use Rattle.ndarray.proofs.Orders.{box_in-is}
-use Rattle.ndarray.proofs.Permutations.{IsBoxIn-rearranges}
-use Rattle.ndarray.proofs.Unique.{box_in-unique}
+use Rattle.ndarray.specs.order.Ranks.{WalkStands, walk_rest}
+use Rattle.ndarray.proofs.boxes.Walks.{walk-new, walk-stands_new}
+use Rattle.ndarray.proofs.boxes.Orders.{box_in-is}
+use Rattle.ndarray.proofs.lists.Permutations.{IsBoxIn-rearranges}
+use Rattle.ndarray.proofs.boxes.UniqueOrder.{box_in-unique}
 use Rattle.ndarray.proofs.order.Walk.new.Goals as goal
 
 pub invariant_of-result : goal.invariant_of-result

@@ -1,8 +1,8 @@
 use Rattle.std.proofs.Common.{arith, refl, ◌≡◌, ◌+◌, ◌-◌, ◌<◌, ◌∷◌, [], ap, sym, ◌∙◌, length, take, drop, get_or, subst, min}
-use Rattle.ndarray.specs.order.Steps.{axis_in, row_from, rank_in}
+use Rattle.ndarray.specs.order.Ranks.{axis_in, row_from, rank_in}
 use Rattle.ndarray.specs.Index.{InBox, size}
-use Rattle.ndarray.proofs.Boxes.{InBox-length}
-use Rattle.ndarray.proofs.Walks.{walk-skip, walk-no_axes, row-inside, row-taken, row-last, length-walk_rest, walk_rest-next}
+use Rattle.ndarray.proofs.boxes.Boxes.{InBox-length}
+use Rattle.ndarray.proofs.boxes.Walks.{walk-skip, walk-no_axes, row-inside, row-taken, row-last, length-walk_rest, walk_rest-next}
 use Rattle.ndarray.proofs.order.Walk.next_row.Goals as goal
 use Rattle.ndarray.proofs.order.Walk.next_row.Goals.{then-self-gt0, else-self-gt0, After-axis-i}
 

@@ -1,5 +1,5 @@
 use Rattle.std.proofs.Common.{rules, arith, ◌≡◌, ◌+◌, ◌-◌, ◌∷◌, ap, sym, ◌∙◌, length}
-use Rattle.ndarray.proofs.Walks.{walk_rest-next}
+use Rattle.ndarray.proofs.boxes.Walks.{walk_rest-next}
 use Rattle.ndarray.proofs.order.WalkIterator.next.Goals as goal
 use Rattle.ndarray.proofs.order.WalkIterator.next.Goals.{then-self-gt0, else-self-gt0}
 

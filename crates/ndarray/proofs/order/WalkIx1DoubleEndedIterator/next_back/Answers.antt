@@ -1,5 +1,5 @@
 use Rattle.std.proofs.Common.{rules, arith, ◌-◌, ◌≡◌, ap, sym, ◌∙◌, length, length-append}
-use Rattle.ndarray.proofs.Walks.{walk_rest-back_one, one-fits}
+use Rattle.ndarray.proofs.boxes.Walks.{walk_rest-back_one, one-fits}
 use Rattle.ndarray.proofs.order.WalkIx1DoubleEndedIterator.next_back.Goals as goal
 
 pub overflow_add-result : goal.overflow_add-result

@@ -54,7 +54,7 @@ use Rattle.std_alloc.proofs.VecSteps.Rows.{all_room}
 use Rattle.std_alloc.proofs.VecSteps.Shapes.{after}
 use Rattle.std_alloc.proofs.vec.Blocks.{all, Rest, vec_in}
 use Rattle.std_alloc.proofs.vec.Spares.{Row, into_key, parts_typed, Row-seen, Into, at_into, Into-goes, Into-gives}
-use Rattle.ndarray.proofs.Deeds.{Dd, deed_had}
+use Rattle.ndarray.proofs.moving.Deeds.{Dd, deed_had}
 use Rattle.core.proofs.slots.Slots.into_raw_parts.Met as callee
 use Rattle.ndarray.specs.contracts.places.block.close as F
 use Rattle.ndarray.specs.contracts.places.block.close.Key.{name as #self}

@@ -47,7 +47,7 @@ use Rattle.std_alloc.proofs.VecSteps.Opens.{not_live, vec_had}
 use Rattle.std_alloc.proofs.VecSteps.Shapes.{after}
 use Rattle.std_alloc.proofs.vec.Blocks.{flags, all, Rest, vec_out}
 use Rattle.std_alloc.proofs.vec.Spares.{Row, from_key, row_Typed, From, at_from, Made, from_goes, from_gives}
-use Rattle.ndarray.proofs.Deeds.{Dd, Hk, Three, made, three_val, husk_val, husk_typed, three_typed, deed_made, husk_made, three_made}
+use Rattle.ndarray.proofs.moving.Deeds.{Dd, Hk, Three, made, three_val, bits_val, bits_typed, three_typed, deed_made, bits_made, three_made}
 use Rattle.core.proofs.slots.Slots.from_raw_parts.Met as callee
 use Rattle.ndarray.specs.contracts.places.block.open as F
 use Rattle.ndarray.specs.contracts.places.block.open.Key.{name as #self}
@@ -115,11 +115,11 @@ module _ (E : El) where
         sets ! (is ! (of_opd ! (get ! refl)) got.0) refl (tt, words) $
         sets ! (of_opd ! (get ! refl)) refl (tt, tt) $ sets ! (of_opd ! (get ! refl)) refl (tt, record { fits = fc }) $ sets ! (agg ! (no_more !)) refl (tt, tt) $
         sets ! (agg ! (and_then ! (get ! refl) (and_then ! (get ! refl) (and_then ! (get ! refl) (no_more !))))) refl (tt, lease) $
-        sets ! (of_opd ! (get ! refl)) refl (vec_typed E hv b o n c fa fl fc) $ sets ! (agg ! (and_then ! (get ! refl) (no_more !))) refl (husk_typed E hv b o n c fa fl fc) $
+        sets ! (of_opd ! (get ! refl)) refl (vec_typed E hv b o n c fa fl fc) $ sets ! (agg ! (and_then ! (get ! refl) (no_more !))) refl (bits_typed E hv b o n c fa fl fc) $
         sets ! (agg ! (and_then ! (get ! refl) (and_then ! (get ! refl) (and_then ! (get ! refl) (no_more !))))) refl (three_typed E hv b o n c fa fl fc) $
         returns ! (look_at ! 0 refl) $ free_all ! refl $
-        let d : (Dd E).Denot = made E a b o n c bounds in let shell : Val = husk_val (vec_val E hv b o n c) in
-        move ! (2 ∷ []) $ deed_made E ! a b o n c bounds fc fit $ husk_made E ! hv b o n c fa fl fc $ move ! (2 ∷ 1 ∷ 0 ∷ []) $
+        let d : (Dd E).Denot = made E a b o n c bounds in let shell : Val = bits_val (vec_val E hv b o n c) in
+        move ! (2 ∷ []) $ deed_made E ! a b o n c bounds fc fit $ bits_made E ! hv b o n c fa fl fc $ move ! (2 ∷ 1 ∷ 0 ∷ []) $
         use3 𝓛 (‵ ((Three E).own_val (r, d, tt) (three_val (row_val b o n) (lease_val (block_ptr b o) c) shell ∷ []))) (three_made 𝓛 (Row E) (Dd E) (Hk E) r d tt (row_val b o n) (lease_val (block_ptr b o) c) shell) $
         -- [the three; T's token; A's token]
         let Has : Type 0 = (slots_len r ≡ z.0.3.1.1.0) × (slots_items r ≡ xs) × (slots_filled r ≡ replicate (z.0.3.1.1.0) true) in

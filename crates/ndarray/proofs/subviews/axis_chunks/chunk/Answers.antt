@@ -1,5 +1,5 @@
 use Rattle.std.proofs.Common.{arith}
-use Rattle.ndarray.proofs.Chunked.{chunk-begins}
+use Rattle.ndarray.proofs.pieces.Chunks.{chunk-begins}
 use Rattle.ndarray.proofs.subviews.axis_chunks.chunk.Goals as goal
 
 pub overflow_mul-from : goal.overflow_mul-from

@@ -6,13 +6,13 @@ use Rattle.std.specs.List.{range_with_len}
 use Rattle.ndarray.specs.Index.{row_order}
 use Rattle.ndarray.specs.Limits.{nonzero_size}
 use Rattle.ndarray.specs.Subviews.{axis_chunk}
-use Rattle.ndarray.specs.base.Chunks.{chunk_spots, chunks_along}
-use Rattle.ndarray.specs.base.Portions.{grids_at}
+use Rattle.ndarray.specs.base.Chunks.{chunk_layouts, chunks_along}
+use Rattle.ndarray.specs.base.Masks.{grids_at}
 use Rattle.ndarray.specs.base.Slots.{held_at}
-use Rattle.ndarray.proofs.Chunked.{div_ceil-le}
-use Rattle.ndarray.proofs.ChunksApart.{chunks-share, chunks-seen}
-use Rattle.ndarray.proofs.Orders.{row_order-is, row_order-one}
-use Rattle.ndarray.proofs.Sizes.{limit-one}
+use Rattle.ndarray.proofs.pieces.Chunks.{div_ceil-le}
+use Rattle.ndarray.proofs.pieces.DisjointChunks.{chunks-share, chunks-seen}
+use Rattle.ndarray.proofs.boxes.Orders.{row_order-is, row_order-one}
+use Rattle.ndarray.proofs.boxes.Sizes.{limit-one}
 use Rattle.ndarray.proofs.subviews.axis_chunks_mut.chunks.Goals as goal
 
 pub new-requires : goal.new-requires
@@ -43,7 +43,7 @@ returns-clause-items g c =
     let count = div_ceil (get_or ns k 0) s in
     let at = held_at c.view.inside.storage.slots in
     let same = ap (λ v. get_or v.lengths k 0) c.view.view_is in
-    ap (λ ps. grids_at at (chunk_spots ns c.view.inside.layout.start bs k s ps)) (walked g c)
+    ap (λ ps. grids_at at (chunk_layouts ns c.view.inside.layout.start bs k s ps)) (walked g c)
     ∙ (chunks-seen at ns c.view.inside.layout.start bs k s c.view.invariant (axis-lt g c) c.requires.size c.args.view c.view.view_is (row_order (count ∷ [])) (row_order-is (count ∷ [])).within
     ∙ (ap (chunks_along c.args.view k s) (row_order-one count)
     ∙ (map-map (λ p. axis_chunk c.args.view k s (get_or p 0 0)) (λ i. i ∷ []) (range_with_len 0 count)

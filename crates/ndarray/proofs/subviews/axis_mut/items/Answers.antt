@@ -1,8 +1,8 @@
 use Rattle.std.proofs.Common.{ap, length, arith, refl, ◌<◌, ◌∷◌, [], get_or}
 use Rattle.std.specs.Prelude.{remove, insert}
 use Rattle.ndarray.specs.base.Slots.{held_at}
-use Rattle.ndarray.proofs.Pieces.{pieces-seen}
-use Rattle.ndarray.proofs.PiecesApart.{AreApartImages, items-apart, pieces-share}
+use Rattle.ndarray.proofs.pieces.Pieces.{pieces-seen}
+use Rattle.ndarray.proofs.pieces.DisjointPieces.{AreApartImages, items-apart, pieces-share}
 use Rattle.ndarray.proofs.subviews.axis_mut.items.Goals as goal
 
 images : (g : _) (c : goal.After-drop-layout-2 g) → AreApartImages (g.D.Lengths.numbers c.view.inside.layout.dim) c.view.inside.layout.start (g.D.Lengths.numbers c.view.inside.layout.strides) c.Ix1.result.0 c.Ix1-2.result.0 (g.D.Smaller.Lengths.numbers c.remove_axis.result) (g.D.Smaller.Lengths.numbers c.remove_axis-2.result) (λ p js. insert js c.args.axis.0 (get_or p 0 0))

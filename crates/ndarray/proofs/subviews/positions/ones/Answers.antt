@@ -1,6 +1,6 @@
 use Rattle.std.proofs.Common.{arith}
 use Rattle.std.proofs.lemmas.List.{length-replicate, get_or-replicate}
-use Rattle.ndarray.proofs.Filled.{IsFilledTo-none, IsFilledTo-more, IsFilledTo-all}
+use Rattle.ndarray.proofs.lists.Prefixes.{IsFilledTo-none, IsFilledTo-more, IsFilledTo-all}
 use Rattle.ndarray.proofs.subviews.positions.ones.Goals as goal
 
 pub loop-k-init : goal.loop-k-init

@@ -1,5 +1,5 @@
 use Rattle.std.proofs.Common.{length, replicate}
-use Rattle.ndarray.proofs.Filled.{IsFilledTo}
+use Rattle.ndarray.proofs.lists.Prefixes.{IsFilledTo}
 use Rattle.ndarray.proofs.subviews.positions.ones.Given as goal
 
 abbrev pub invariant-loop-k : goal.invariant-loop-k

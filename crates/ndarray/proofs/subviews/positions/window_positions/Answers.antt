@@ -2,9 +2,9 @@ use Rattle.std.proofs.Common.{◌≡◌, ◌⊎◌, ◌<◌, ◌+◌, ◌*◌, �
 use Rattle.std.proofs.lemmas.Bool.{cases_lt}
 use Rattle.std.proofs.lemmas.List.{length-replicate}
 use Rattle.ndarray.specs.Subviews.{window_count, window_counts}
-use Rattle.ndarray.proofs.Filled.{IsFilledTo-none, IsFilledTo-more, IsFilledTo-all}
-use Rattle.ndarray.proofs.Sizes.{nonzero-one_of, size-le}
-use Rattle.ndarray.proofs.Steps.{length-window_counts, get_or-window_counts}
+use Rattle.ndarray.proofs.lists.Prefixes.{IsFilledTo-none, IsFilledTo-more, IsFilledTo-all}
+use Rattle.ndarray.proofs.boxes.Sizes.{nonzero-one_of, size-le}
+use Rattle.ndarray.proofs.pieces.Windows.{length-window_counts, get_or-window_counts}
 use Rattle.ndarray.proofs.subviews.positions.window_positions.Goals as goal
 use Rattle.ndarray.proofs.subviews.positions.window_positions.Goals.{then-windows-eq0, else-windows-eq0}
 

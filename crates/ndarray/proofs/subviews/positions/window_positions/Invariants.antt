@@ -1,6 +1,6 @@
 use Rattle.std.proofs.Common.{◌≡◌, ℕ, ◌*◌, ◌%◌, ◌^◌, ◌<◌, ◌⊎◌, length, get_or}
 use Rattle.ndarray.specs.Subviews.{window_counts}
-use Rattle.ndarray.proofs.Filled.{IsFilledTo}
+use Rattle.ndarray.proofs.lists.Prefixes.{IsFilledTo}
 use Rattle.ndarray.proofs.subviews.positions.window_positions.Given as goal
 
 -- so far the numbers of windows and, where there are windows, their distances

@@ -1,6 +1,6 @@
 use Rattle.std.proofs.Common.{◌∙◌, ap}
 use Rattle.ndarray.specs.Grid.{arranged}
-use Rattle.ndarray.proofs.IndexLists.{lists-own}
+use Rattle.ndarray.proofs.boxes.ShiftedBoxes.{lists-own}
 use Rattle.ndarray.proofs.zip.Zip+unit+unit.indexed.Goals as goal
 
 pub returns-clause-items : goal.returns-clause-items

@@ -1,16 +1,16 @@
 use Rattle.std.proofs.Common.{◌∙◌, ap, sym, subst, refl}
 use Rattle.ndarray.specs.Orders.{box_in, cells_in}
 use Rattle.ndarray.specs.Runs.{MayGather, Collects}
-use Rattle.ndarray.proofs.Cells.{cells_in-HasInOrder}
-use Rattle.ndarray.proofs.Refined.{Collects-refined, MayGather-refined}
+use Rattle.ndarray.proofs.cells.Cells.{cells_in-HasInOrder}
+use Rattle.ndarray.proofs.runs.Refinement.{Collects-refined, MayGather-refined}
 use Rattle.ndarray.proofs.zip.assigning.assign_items.Goals as goal
 
 pub assign_each-requires-clause-callable : goal.assign_each-requires-clause-callable
 assign_each-requires-clause-callable g c =
     let back = c.in-Err-write_cells_in.ensures.back.0 in
     let less = c.from_flat.ensures c.args.p c.args.order (subst (g.P.NdProducer.flat_form c.args.p c.args.order) (sym (ap (λ a. a.flat) back)) c.in-Ok.ensures.flat) in
-    subst (λ f. MayGather (g.P.NdProducer.shows c.from_flat.result) g.C.ItemCall.calls g.C.ItemCall.asks (box_in c.args.order (g.P.Shaped.lengths c.from_flat.result)) f) (sym (ap (λ a. a.f) back))
-    (MayGather-refined g.C.ItemCall.calls less c.args.order c.args.f g.C.ItemCall.asks c.requires.callable)
+    subst (λ f. MayGather (g.P.NdProducer.yields_at c.from_flat.result) g.C.ItemCall.call_gives g.C.ItemCall.can_call (box_in c.args.order (g.P.Shaped.lengths c.from_flat.result)) f) (sym (ap (λ a. a.f) back))
+    (MayGather-refined g.C.ItemCall.call_gives less c.args.order c.args.f g.C.ItemCall.can_call c.requires.callable)
 
 pub assign_each-requires-clause-same : goal.assign_each-requires-clause-same
 assign_each-requires-clause-same g c =
@@ -19,7 +19,7 @@ assign_each-requires-clause-same g c =
     less.lengths ∙ (c.requires.same ∙ ap (λ v. v.lengths) (sym back.1))
 
 pub assign_each-requires-in-Err-clause-callable : goal.assign_each-requires-in-Err-clause-callable
-assign_each-requires-in-Err-clause-callable g c = MayGather-refined g.C.ItemCall.calls c.in-Err.ensures.back c.args.order c.args.f g.C.ItemCall.asks c.requires.callable
+assign_each-requires-in-Err-clause-callable g c = MayGather-refined g.C.ItemCall.call_gives c.in-Err.ensures.back c.args.order c.args.f g.C.ItemCall.can_call c.requires.callable
 
 pub returns-in-Ok-write_cells_in-clause-ran : goal.returns-in-Ok-write_cells_in-clause-ran
 returns-in-Ok-write_cells_in-clause-ran g c =
@@ -37,8 +37,8 @@ pub returns-in-Err-write_cells_in-clause-ran : goal.returns-in-Err-write_cells_i
 returns-in-Err-write_cells_in-clause-ran g c =
     let back = c.in-Err-write_cells_in.ensures.back.0 in
     let less = c.from_flat.ensures c.args.p c.args.order (subst (g.P.NdProducer.flat_form c.args.p c.args.order) (sym (ap (λ a. a.flat) back)) c.in-Ok.ensures.flat) in
-    Collects-refined g.C.ItemCall.calls less c.args.order c.args.f c.assign_each.new.into
-    (subst (λ f. Collects (g.P.NdProducer.shows c.from_flat.result) g.C.ItemCall.calls c.args.order (g.P.Shaped.lengths c.from_flat.result) f c.assign_each.new.into) (ap (λ a. a.f) back) c.assign_each.ensures.ran)
+    Collects-refined g.C.ItemCall.call_gives less c.args.order c.args.f c.assign_each.new.into
+    (subst (λ f. Collects (g.P.NdProducer.yields_at c.from_flat.result) g.C.ItemCall.call_gives c.args.order (g.P.Shaped.lengths c.from_flat.result) f c.assign_each.new.into) (ap (λ a. a.f) back) c.assign_each.ensures.ran)
 
 pub returns-in-Err-clause-ran : goal.returns-in-Err-clause-ran
-returns-in-Err-clause-ran g c = Collects-refined g.C.ItemCall.calls c.in-Err.ensures.back c.args.order c.args.f c.assign_each-in-Err.new.into c.assign_each-in-Err.ensures.ran
+returns-in-Err-clause-ran g c = Collects-refined g.C.ItemCall.call_gives c.in-Err.ensures.back c.args.order c.args.f c.assign_each-in-Err.new.into c.assign_each-in-Err.ensures.ran

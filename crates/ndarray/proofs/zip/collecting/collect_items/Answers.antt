@@ -1,14 +1,14 @@
 use Rattle.std.proofs.Common.{rules, ◌≡◌, ◌++◌, ◌∷◌, [], ap, ◌∙◌, arith}
 use Rattle.ndarray.specs.Index.{size}
-use Rattle.ndarray.proofs.Gathered.{gathered-length, gathered-room}
-use Rattle.ndarray.proofs.Orders.{length-box_in}
-use Rattle.ndarray.proofs.Turns.{at_start, at_end, may_take, next_turn, Gives-less}
+use Rattle.ndarray.proofs.runs.Answers.{gathered-length, gathered-room}
+use Rattle.ndarray.proofs.boxes.Orders.{length-box_in}
+use Rattle.ndarray.proofs.runs.Turns.{at_start, at_end, may_take, next_turn, YieldsInTurn-less}
 use Rattle.ndarray.proofs.zip.collecting.collect_items.Goals as goal
 
 pub loop-y-init : goal.loop-y-init
 loop-y-init g c =
-    let e : c.in_ok-filling.filling.cells ≡ [] = ap (λ k. k.cells) c.in_ok-filling.ensures.room in
-    (c.run_flat-run.ensures.can, c.run_flat-run.ensures.finite, rw e (at_start _ _ _ _ (c.run_flat-run.ensures.gives _ _ c.in-Ok.ensures.flat)), ap (λ k. k.lengths) c.in_ok-filling.ensures.room ∙ c.raw_dim.ensures.lengths, ap (λ k. k.order) c.in_ok-filling.ensures.room)
+    let e : c.in_ok-builder.builder.cells ≡ [] = ap (λ k. k.cells) c.in_ok-builder.ensures.room in
+    (c.run_flat-run.ensures.can, c.run_flat-run.ensures.finite, rw e (at_start _ _ _ _ (c.run_flat-run.ensures.gives _ _ c.in-Ok.ensures.flat)), ap (λ k. k.lengths) c.in_ok-builder.ensures.room ∙ c.raw_dim.ensures.lengths, ap (λ k. k.order) c.in_ok-builder.ensures.room)
 
 pub call-r-requires : goal.call-r-requires
 call-r-requires g c = may_take _ _ _ c.requires.callable c.loop-y.invariant.2 c.in-Some.ensures.steps
@@ -22,7 +22,7 @@ push-requires g c =
 
 pub loop-y-preserved : goal.loop-y-preserved
 loop-y-preserved g c =
-    let e : c.push.new.self.cells ≡ c.loop-y.filling.cells ++ (c.call-r.result ∷ []) = ap (λ k. k.cells) c.push.ensures in (
+    let e : c.push.new.self.cells ≡ c.loop-y.builder.cells ++ (c.call-r.result ∷ []) = ap (λ k. k.cells) c.push.ensures in (
       search rules,
       search rules,
       next_turn _ _ _ c.loop-y.invariant.2 c.in-Some.ensures.steps (c.call-r.result, e, c.call-r.ensures),
@@ -43,7 +43,7 @@ returns-in-Ok-clause-ran g c =
     let t = at_end _ _ _ c.loop-y.invariant.2 (rw c.in_default.is at c.next.ensures.steps) in
     record {
       lengths = c.finish.ensures.lengths ∙ c.loop-y.invariant.3;
-      answers = c.loop-y.filling.cells;
+      answers = c.loop-y.builder.cells;
       cells = rw c.loop-y.invariant.4 at c.finish.ensures.cells;
       list = rw c.loop-y.invariant.4 at c.finish.ensures.list;
       gathered = (c.loop-y.f, t);
@@ -51,8 +51,8 @@ returns-in-Ok-clause-ran g c =
 
 pub loop-x-init : goal.loop-x-init
 loop-x-init g c =
-    let e : c.in_ok-filling.filling.cells ≡ [] = ap (λ k. k.cells) c.in_ok-filling.ensures.room in
-    (c.run-run.ensures.can, c.run-run.ensures.finite, rw e (at_start _ _ _ _ (Gives-less c.args.order c.in-Err.ensures.back c.run-run.ensures.gives)), ap (λ k. k.lengths) c.in_ok-filling.ensures.room ∙ c.raw_dim.ensures.lengths, ap (λ k. k.order) c.in_ok-filling.ensures.room)
+    let e : c.in_ok-builder.builder.cells ≡ [] = ap (λ k. k.cells) c.in_ok-builder.ensures.room in
+    (c.run-run.ensures.can, c.run-run.ensures.finite, rw e (at_start _ _ _ _ (YieldsInTurn-less c.args.order c.in-Err.ensures.back c.run-run.ensures.gives)), ap (λ k. k.lengths) c.in_ok-builder.ensures.room ∙ c.raw_dim.ensures.lengths, ap (λ k. k.order) c.in_ok-builder.ensures.room)
 
 pub call-r-requires-in-Some-next : goal.call-r-requires-in-Some-next
 call-r-requires-in-Some-next g c = may_take _ _ _ c.requires.callable c.loop-x.invariant.2 c.in-Some-next.ensures.steps
@@ -66,7 +66,7 @@ push-requires-in-Some-next g c =
 
 pub loop-x-preserved : goal.loop-x-preserved
 loop-x-preserved g c =
-    let e : c.push-in-Some-next.new.self.cells ≡ c.loop-x.filling.cells ++ (c.call-r-in-Some-next.result ∷ []) = ap (λ k. k.cells) c.push-in-Some-next.ensures in (
+    let e : c.push-in-Some-next.new.self.cells ≡ c.loop-x.builder.cells ++ (c.call-r-in-Some-next.result ∷ []) = ap (λ k. k.cells) c.push-in-Some-next.ensures in (
       search rules,
       search rules,
       next_turn _ _ _ c.loop-x.invariant.2 c.in-Some-next.ensures.steps (c.call-r-in-Some-next.result, e, c.call-r-in-Some-next.ensures),
@@ -87,7 +87,7 @@ returns-clause-ran g c =
     let t = at_end _ _ _ c.loop-x.invariant.2 (rw c.in_default-next.is at c.next-in-loop-x.ensures.steps) in
     record {
       lengths = c.finish-in-Err.ensures.lengths ∙ c.loop-x.invariant.3;
-      answers = c.loop-x.filling.cells;
+      answers = c.loop-x.builder.cells;
       cells = rw c.loop-x.invariant.4 at c.finish-in-Err.ensures.cells;
       list = rw c.loop-x.invariant.4 at c.finish-in-Err.ensures.list;
       gathered = (c.loop-x.f, t);

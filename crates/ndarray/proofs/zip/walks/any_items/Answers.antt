@@ -1,5 +1,5 @@
 use Rattle.std.proofs.Common.{rules, refl}
-use Rattle.ndarray.proofs.Turns.{at_start, may_take, next_turn, ran_out, stopped_at, Gives-less}
+use Rattle.ndarray.proofs.runs.Turns.{at_start, may_take, next_turn, ran_out, stopped_at, YieldsInTurn-less}
 use Rattle.ndarray.proofs.zip.walks.any_items.Goals as goal
 use Rattle.ndarray.proofs.zip.walks.any_items.Goals.{in-Ok+in_default, in-Err+in_default-next}
 
@@ -16,7 +16,7 @@ pub returns-then-call : goal.returns-then-call
 returns-then-call g c = record { ran = stopped_at _ _ _ _ _ c.loop-y.invariant.2 c.in-Some.ensures.steps (refl, (_, rw c.if-call.true at c.call.ensures)) }
 
 pub loop-x-init : goal.loop-x-init
-loop-x-init g c = (c.run-run.ensures.can, c.run-run.ensures.finite, at_start _ _ _ _ (Gives-less c.args.order c.in-Err.ensures.back c.run-run.ensures.gives))
+loop-x-init g c = (c.run-run.ensures.can, c.run-run.ensures.finite, at_start _ _ _ _ (YieldsInTurn-less c.args.order c.in-Err.ensures.back c.run-run.ensures.gives))
 
 pub call-requires-in-Some-next : goal.call-requires-in-Some-next
 call-requires-in-Some-next g c = may_take _ _ _ c.requires.callable c.loop-x.invariant.2 c.in-Some-next.ensures.steps

@@ -1,5 +1,5 @@
 use Rattle.std.proofs.Common.{rules}
-use Rattle.ndarray.proofs.Turns.{at_start, at_end, may_take, next_turn, Gives-less}
+use Rattle.ndarray.proofs.runs.Turns.{at_start, at_end, may_take, next_turn, YieldsInTurn-less}
 use Rattle.ndarray.proofs.zip.walks.fold_items.Goals as goal
 use Rattle.ndarray.proofs.zip.walks.fold_items.Goals.{in-Ok+in_default, in-Err+in_default-next}
 
@@ -13,7 +13,7 @@ pub loop-y-preserved : goal.loop-y-preserved
 loop-y-preserved g c = (search rules, search rules, next_turn _ _ _ c.loop-y.invariant.2 c.in-Some.ensures.steps c.call-acc.ensures)
 
 pub loop-x-init : goal.loop-x-init
-loop-x-init g c = (c.run-run.ensures.can, c.run-run.ensures.finite, at_start _ _ _ _ (Gives-less c.args.order c.in-Err.ensures.back c.run-run.ensures.gives))
+loop-x-init g c = (c.run-run.ensures.can, c.run-run.ensures.finite, at_start _ _ _ _ (YieldsInTurn-less c.args.order c.in-Err.ensures.back c.run-run.ensures.gives))
 
 pub call-acc-requires-in-Some-next : goal.call-acc-requires-in-Some-next
 call-acc-requires-in-Some-next g c = may_take _ _ _ c.requires.callable c.loop-x.invariant.2 c.in-Some-next.ensures.steps

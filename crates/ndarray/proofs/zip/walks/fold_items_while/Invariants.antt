@@ -1,18 +1,18 @@
 use Rattle.ndarray.specs.Orders.{box_in}
 use Rattle.ndarray.specs.Runs.{GoTurn}
-use Rattle.ndarray.proofs.Turns.{Reached}
+use Rattle.ndarray.proofs.runs.Turns.{Reached}
 use Rattle.ndarray.proofs.zip.walks.fold_items_while.Given as goal
 
 abbrev pub invariant-loop-x : goal.invariant-loop-x
 invariant-loop-x g l =
     (goal.iterator-loop-x g).can_next l.run
     × (goal.iterator-loop-x g).is_finite l.run
-    × Reached (goal.iterator-loop-x g).next_gives (g.P.NdProducer.shows l.fn.p) (GoTurn g.C.FoldCall.calls)
+    × Reached (goal.iterator-loop-x g).next_gives (g.P.NdProducer.yields_at l.fn.p) (GoTurn g.C.FoldCall.call_gives)
     (box_in l.fn.order (g.P.Shaped.lengths l.fn.p)) l.run (l.fn.f, l.fn.init) (l.f, l.acc)
 
 abbrev pub invariant-loop-y : goal.invariant-loop-y
 invariant-loop-y g l =
     (goal.iterator-loop-y g).can_next l.run
     × (goal.iterator-loop-y g).is_finite l.run
-    × Reached (goal.iterator-loop-y g).next_gives (g.P.NdProducer.shows l.fn.p) (GoTurn g.C.FoldCall.calls)
+    × Reached (goal.iterator-loop-y g).next_gives (g.P.NdProducer.yields_at l.fn.p) (GoTurn g.C.FoldCall.call_gives)
     (box_in l.fn.order (g.P.Shaped.lengths l.fn.p)) l.run (l.fn.f, l.fn.init) (l.f, l.acc)

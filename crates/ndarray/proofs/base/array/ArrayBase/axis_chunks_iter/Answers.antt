@@ -7,9 +7,9 @@ use Rattle.ndarray.specs.Limits.{nonzero_size}
 use Rattle.ndarray.specs.Index.{row_order}
 use Rattle.ndarray.specs.Subviews.{axis_chunk}
 use Rattle.ndarray.specs.base.Chunks.{chunks_along}
-use Rattle.ndarray.proofs.Chunked.{div_ceil-le}
-use Rattle.ndarray.proofs.Orders.{row_order-is, row_order-one}
-use Rattle.ndarray.proofs.Sizes.{limit-one}
+use Rattle.ndarray.proofs.pieces.Chunks.{div_ceil-le}
+use Rattle.ndarray.proofs.boxes.Orders.{row_order-is, row_order-one}
+use Rattle.ndarray.proofs.boxes.Sizes.{limit-one}
 use Rattle.ndarray.proofs.base.array.ArrayBase.axis_chunks_iter.Goals as goal
 
 pub new-requires : goal.new-requires

@@ -2,7 +2,7 @@ use Rattle.std.proofs.Common.{ap, ◌∙◌, ◌∷◌, [], map, get_or}
 use Rattle.std.proofs.lemmas.Simd.{map-map}
 use Rattle.std.specs.List.{range_with_len}
 use Rattle.ndarray.specs.Views.{axis_item}
-use Rattle.ndarray.proofs.Orders.{row_order-one}
+use Rattle.ndarray.proofs.boxes.Orders.{row_order-one}
 use Rattle.ndarray.proofs.base.array.ArrayBase.axis_iter.Goals as goal
 
 pub returns-clause-items : goal.returns-clause-items

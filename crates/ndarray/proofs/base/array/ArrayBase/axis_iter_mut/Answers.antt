@@ -3,7 +3,7 @@ use Rattle.std.proofs.lemmas.Simd.{map-map}
 use Rattle.std.specs.List.{range_with_len}
 use Rattle.ndarray.specs.Subviews.{axis_items}
 use Rattle.ndarray.specs.Views.{axis_item}
-use Rattle.ndarray.proofs.Orders.{row_order-one}
+use Rattle.ndarray.proofs.boxes.Orders.{row_order-one}
 use Rattle.ndarray.proofs.base.array.ArrayBase.axis_iter_mut.Goals as goal
 
 pub returns : goal.returns

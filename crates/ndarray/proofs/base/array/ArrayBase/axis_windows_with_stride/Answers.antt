@@ -1,9 +1,9 @@
 use Rattle.std.proofs.Common.{◌≡◌, ap, subst, sym, ◌∙◌, length, replicate, set}
-use Rattle.ndarray.specs.Grid.{IsGrid, line}
+use Rattle.ndarray.specs.Grid.{IsGrid, one_axis}
 use Rattle.ndarray.specs.Subviews.{window, window_counts, windows_of}
-use Rattle.ndarray.proofs.AlongAxis.{AreAlong-set}
-use Rattle.ndarray.proofs.Cells.{arranged-whole}
-use Rattle.ndarray.proofs.OneAxis.{axis_windows-line, window_counts-axis}
+use Rattle.ndarray.proofs.cells.AlongAxis.{AreAlong-set}
+use Rattle.ndarray.proofs.cells.Cells.{arranged-whole}
+use Rattle.ndarray.proofs.pieces.OneAxisWindows.{axis_windows-one_axis, window_counts-axis}
 use Rattle.ndarray.proofs.base.array.ArrayBase.axis_windows_with_stride.Goals as goal
 
 pieces : (g : _) (c : goal.After-drop-steps g) → c.pieces.result ≡ windows_of c.args.self.now (set c.args.self.now.lengths c.args.axis.0 c.args.window) (set (replicate (length c.args.self.now.lengths) 1) c.args.axis.0 c.args.step)
@@ -26,4 +26,4 @@ invariant_of-result g c =
     (ap (λ v. v.lengths) (pieces g c) ∙ window_counts-axis a.lengths k c.args.window c.args.step c.requires.axis)
 
 pub returns : goal.returns
-returns g c = ap (λ t. line t.cells) (pieces g c) ∙ axis_windows-line c.args.self.now c.args.axis.0 c.args.window c.args.step c.requires.axis
+returns g c = ap (λ t. one_axis t.cells) (pieces g c) ∙ axis_windows-one_axis c.args.self.now c.args.axis.0 c.args.window c.args.step c.requires.axis

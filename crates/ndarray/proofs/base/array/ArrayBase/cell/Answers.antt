@@ -1,5 +1,5 @@
 use Rattle.std.proofs.Common.{sym}
-use Rattle.ndarray.proofs.Reached.{cell_found, cell_not_found}
+use Rattle.ndarray.proofs.strides.Reach.{cell_found, cell_not_found}
 use Rattle.ndarray.proofs.base.array.ArrayBase.cell.Goals as goal
 
 pub returns-in-Some-clause-value : goal.returns-in-Some-clause-value

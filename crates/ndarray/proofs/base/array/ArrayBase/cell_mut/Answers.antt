@@ -2,8 +2,8 @@ use Rattle.std.proofs.Common.{sym, ◌∙◌, ap, inl, inr, refl, subst}
 use Rattle.std.specs.Prelude.{IsTrue}
 use Rattle.std.specs.Option.{is_some}
 use Rattle.ndarray.specs.Index.{InBox}
-use Rattle.ndarray.proofs.Reached.{cell_found, cell_not_found}
-use Rattle.ndarray.proofs.Writes.{grid-written}
+use Rattle.ndarray.proofs.strides.Reach.{cell_found, cell_not_found}
+use Rattle.ndarray.proofs.cells.Writes.{grid-written}
 use Rattle.ndarray.proofs.base.array.ArrayBase.cell_mut.Goals as goal
 
 pub returns-in-None : goal.returns-in-None

@@ -1,6 +1,6 @@
 use Rattle.std.proofs.Common.{ap, ◌∙◌}
 use Rattle.ndarray.specs.Subviews.{windows_of}
-use Rattle.ndarray.proofs.OneAxis.{exact_chunks-windows}
+use Rattle.ndarray.proofs.pieces.OneAxisWindows.{exact_chunks-windows}
 use Rattle.ndarray.proofs.base.array.ArrayBase.exact_chunks.Goals as goal
 
 pub returns : goal.returns

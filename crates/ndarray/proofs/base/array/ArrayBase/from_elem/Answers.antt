@@ -1,8 +1,8 @@
 use Rattle.std.proofs.Common.{◌≡◌, ◌∙◌}
 use Rattle.std.specs.Prelude.{◌⊎◌}
 use Rattle.std.proofs.lemmas.List.Elements.{All-same}
-use Rattle.ndarray.proofs.Cells.{All-cells, cells-alike}
-use Rattle.ndarray.proofs.Lists.{All-from_recursion, All-to_recursion}
+use Rattle.ndarray.proofs.cells.Cells.{All-cells, cells-alike}
+use Rattle.ndarray.proofs.lists.Elements.{All-from_recursion, All-to_recursion}
 use Rattle.ndarray.proofs.base.array.ArrayBase.from_elem.Goals as goal
 
 pub returns-clause-cells : goal.returns-clause-cells

@@ -2,8 +2,8 @@ use Rattle.std.proofs.Common.{sym, ap, ◌∙◌, ◌≡◌, subst}
 use Rattle.std.specs.Prelude.{zip}
 use Rattle.ndarray.specs.Index.{row_order}
 use Rattle.ndarray.specs.Grid.{HasCells}
-use Rattle.ndarray.proofs.Cells.{along-row_order, HasCells-row_order}
-use Rattle.ndarray.proofs.Indexed.{indexed-row_order, indexed-cells, indexed-own, indexed-fits}
+use Rattle.ndarray.proofs.cells.Cells.{along-row_order, HasCells-row_order}
+use Rattle.ndarray.proofs.cells.IndexedCells.{indexed-row_order, indexed-cells, indexed-own, indexed-fits}
 use Rattle.ndarray.proofs.base.array.ArrayBase.indexed_iter.Goals as goal
 
 walked : (g : _) (c : goal.After-new g) → c.new.result ≡ row_order c.args.self.now.lengths

@@ -3,7 +3,7 @@ use Rattle.std.specs.Prelude.{zip}
 use Rattle.ndarray.specs.Grid.{IsGrid}
 use Rattle.ndarray.specs.Index.{row_order}
 use Rattle.ndarray.specs.Limits.{IsWithinLimit}
-use Rattle.ndarray.proofs.Indexed.{indexed-row_order, indexed-cells, indexed-own, indexed-fits}
+use Rattle.ndarray.proofs.cells.IndexedCells.{indexed-row_order, indexed-cells, indexed-own, indexed-fits}
 use Rattle.ndarray.proofs.base.array.ArrayBase.indexed_iter_mut.Goals as goal
 
 pub returns : goal.returns

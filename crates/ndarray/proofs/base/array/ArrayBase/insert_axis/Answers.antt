@@ -1,9 +1,9 @@
 use Rattle.std.proofs.Common.{◌≤◌, arith, length, ap, refl, ◌∙◌}
 use Rattle.std.specs.Prelude.{insert, remove}
 use Rattle.ndarray.specs.base.Places.{Rearranges}
-use Rattle.ndarray.proofs.Reached.{length-cells_at}
-use Rattle.ndarray.proofs.Images.{Reaches-rearranged, grid-seen}
-use Rattle.ndarray.proofs.Items.{rearranges-inserted}
+use Rattle.ndarray.proofs.strides.Reach.{length-cells_at}
+use Rattle.ndarray.proofs.views.Images.{Reaches-rearranged, grid-seen}
+use Rattle.ndarray.proofs.views.Items.{rearranges-inserted}
 use Rattle.ndarray.proofs.base.array.ArrayBase.insert_axis.Goals as goal
 
 inserted : (g : _) (c : goal.After-insert_axis g) → Rearranges (g.S.Data.apart c.self.inside.storage) (g.D.Lengths.numbers c.self.inside.layout.dim) c.self.inside.layout.start (g.D.Lengths.numbers c.self.inside.layout.strides) (g.D.Larger.Lengths.numbers c.insert_axis.result.dim) c.insert_axis.result.start (g.D.Larger.Lengths.numbers c.insert_axis.result.strides) (λ js. remove js c.args.axis.0)

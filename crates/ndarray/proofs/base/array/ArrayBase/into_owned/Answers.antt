@@ -1,5 +1,5 @@
 use Rattle.std.proofs.Common.{◌∙◌, inl, sym}
-use Rattle.ndarray.proofs.Reached.{length-cells_at, grid_at-same, Reaches-same}
+use Rattle.ndarray.proofs.strides.Reach.{length-cells_at, grid_at-same, Reaches-same}
 use Rattle.ndarray.proofs.base.array.ArrayBase.into_owned.Goals as goal
 
 pub returns-in-Ok-clause-cells : goal.returns-in-Ok-clause-cells

@@ -1,16 +1,16 @@
 use Rattle.std.proofs.Common.{◌≡◌, ◌<◌, ◌-◌, ◌+◌, ◌%◌, ◌^◌, arith, length, get_or, ap, refl, sym, ◌∙◌, subst}
 use Rattle.std.proofs.lemmas.List.{set-get_or}
 use Rattle.ndarray.specs.Grid.{cell, tabulate}
-use Rattle.ndarray.specs.Views.{turned}
+use Rattle.ndarray.specs.Views.{mirrored_index}
 use Rattle.ndarray.specs.base.Places.{Rearranges}
-use Rattle.ndarray.proofs.Cuts.{IsCut, IsCut-turned, rearranges-cut}
-use Rattle.ndarray.proofs.Images.{Reaches-rearranged, grid-seen}
-use Rattle.ndarray.proofs.Reached.{length-cells_at}
-use Rattle.ndarray.proofs.Sizes.{length-fits}
+use Rattle.ndarray.proofs.views.Cuts.{IsCut, IsCut-turned, rearranges-cut}
+use Rattle.ndarray.proofs.views.Images.{Reaches-rearranged, grid-seen}
+use Rattle.ndarray.proofs.strides.Reach.{length-cells_at}
+use Rattle.ndarray.proofs.boxes.Sizes.{length-fits}
 use Rattle.ndarray.proofs.base.array.ArrayBase.invert_axis.Goals as goal
 
-turn : (g : _) (c : goal.After-cut g) → Rearranges (g.S.Data.apart c.self.inside.storage) (g.D.Lengths.numbers c.self.inside.layout.dim) c.self.inside.layout.start (g.D.Lengths.numbers c.self.inside.layout.strides) (g.D.Lengths.numbers c.cut.new.self.dim) c.cut.new.self.start (g.D.Lengths.numbers c.cut.new.self.strides) (turned (g.D.Lengths.numbers c.self.inside.layout.dim) c.args.axis.0)
-unfolding turned
+turn : (g : _) (c : goal.After-cut g) → Rearranges (g.S.Data.apart c.self.inside.storage) (g.D.Lengths.numbers c.self.inside.layout.dim) c.self.inside.layout.start (g.D.Lengths.numbers c.self.inside.layout.strides) (g.D.Lengths.numbers c.cut.new.self.dim) c.cut.new.self.start (g.D.Lengths.numbers c.cut.new.self.strides) (mirrored_index (g.D.Lengths.numbers c.self.inside.layout.dim) c.args.axis.0)
+unfolding mirrored_index
 turn g c =
     let a = c.self.inside.layout in
     let ns = g.D.Lengths.numbers a.dim in
@@ -28,7 +28,7 @@ returns-clause-value g c =
     let same = ap (λ v. v.lengths) c.self.view_is in
     let lengths : g.D.Lengths.numbers c.cut.new.self.dim ≡ c.args.self.now.lengths = rw (c.cut.ensures.dim, c.axis-len.ensures, set-get_or) same in
     grid-seen (turn g c) (g.S.Data.at c.self.inside.storage) _ _ _ (λ p. refl) c.self.invariant c.self.view_is lengths
-    ∙ ap (λ ns. tabulate c.args.self.now.lengths (λ is. cell c.args.self.now (turned ns c.args.axis.0 is))) same
+    ∙ ap (λ ns. tabulate c.args.self.now.lengths (λ is. cell c.args.self.now (mirrored_index ns c.args.axis.0 is))) same
 
 pub returns-clause-whole : goal.returns-clause-whole
 returns-clause-whole g c = length-cells_at _ _ _ _ (invariant_of-self g c)

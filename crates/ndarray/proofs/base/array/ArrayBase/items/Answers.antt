@@ -1,6 +1,6 @@
 use Rattle.std.proofs.Common.{ap, length, arith, ◌<◌, ◌∷◌, [], get_or}
 use Rattle.std.specs.Prelude.{remove, insert}
-use Rattle.ndarray.proofs.Pieces.{AreImages, items-images, pieces-reach, pieces-seen}
+use Rattle.ndarray.proofs.pieces.Pieces.{AreImages, items-images, pieces-reach, pieces-seen}
 use Rattle.ndarray.proofs.base.array.ArrayBase.items.Goals as goal
 
 images : (g : _) (c : goal.After-remove_axis-2 g) → AreImages (g.D.Lengths.numbers c.self.inside.layout.dim) c.self.inside.layout.start (g.D.Lengths.numbers c.self.inside.layout.strides) c.Ix1.result.0 c.Ix1-2.result.0 (g.D.Smaller.Lengths.numbers c.remove_axis.result) (g.D.Smaller.Lengths.numbers c.remove_axis-2.result) (λ p js. insert js c.args.axis.0 (get_or p 0 0))

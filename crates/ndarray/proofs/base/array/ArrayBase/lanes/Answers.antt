@@ -1,6 +1,6 @@
 use Rattle.std.proofs.Common.{◌<◌, ap, length, arith, inl, inr, ◌∙◌}
 use Rattle.std.proofs.lemmas.List.{nil_from_length}
-use Rattle.ndarray.proofs.Pieces.{AreOfLane, lanes-reach, lanes-seen}
+use Rattle.ndarray.proofs.pieces.Pieces.{AreOfLane, lanes-reach, lanes-seen}
 use Rattle.ndarray.proofs.base.array.ArrayBase.lanes.Goals as goal
 use Rattle.ndarray.proofs.base.array.ArrayBase.lanes.Goals.{then-ndim-eq0, else-ndim-eq0}
 

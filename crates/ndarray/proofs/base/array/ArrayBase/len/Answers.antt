@@ -1,5 +1,5 @@
 use Rattle.std.proofs.Common.{ap, sym, ◌∙◌, length}
-use Rattle.ndarray.proofs.Reached.{length-cells_at}
+use Rattle.ndarray.proofs.strides.Reach.{length-cells_at}
 use Rattle.ndarray.proofs.base.array.ArrayBase.len.Goals as goal
 
 pub returns-clause-cells : goal.returns-clause-cells

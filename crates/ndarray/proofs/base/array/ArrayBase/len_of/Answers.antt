@@ -1,5 +1,5 @@
 use Rattle.std.proofs.Common.{◌<◌, ◌^◌, ap, length, arith, subst, sym}
-use Rattle.ndarray.proofs.Sizes.{length-fits}
+use Rattle.ndarray.proofs.boxes.Sizes.{length-fits}
 use Rattle.ndarray.proofs.base.array.ArrayBase.len_of.Goals as goal
 
 pub returns-clause-fits : goal.returns-clause-fits

@@ -1,11 +1,11 @@
 use Rattle.std.proofs.Common.{ap, sym, ◌∙◌, subst}
-use Rattle.ndarray.specs.Subviews.{ArePositive, moved, window_counts}
-use Rattle.ndarray.specs.base.Tiles.{AreStepsOf, AreWindowsOf}
-use Rattle.ndarray.proofs.Pieces.{AreImages, pieces-reach, pieces-seen}
-use Rattle.ndarray.proofs.Steps.{windows-images}
+use Rattle.ndarray.specs.Subviews.{ArePositive, window_index, window_counts}
+use Rattle.ndarray.specs.base.Pieces.{AreStepsOf, AreWindowsOf}
+use Rattle.ndarray.proofs.pieces.Pieces.{AreImages, pieces-reach, pieces-seen}
+use Rattle.ndarray.proofs.pieces.Windows.{windows-images}
 use Rattle.ndarray.proofs.base.array.ArrayBase.pieces.Goals as goal
 
-images : (g : _) (c : goal.After-copied g) → AreImages (g.D.Lengths.numbers c.self.inside.layout.dim) c.self.inside.layout.start (g.D.Lengths.numbers c.self.inside.layout.strides) (g.D.Lengths.numbers c.window_positions.result.dim) (g.D.Lengths.numbers c.window_positions.result.strides) (g.D.Lengths.numbers c.args.window) (g.D.Lengths.numbers c.copied.result) (moved (g.D.Lengths.numbers c.args.steps.now))
+images : (g : _) (c : goal.After-copied g) → AreImages (g.D.Lengths.numbers c.self.inside.layout.dim) c.self.inside.layout.start (g.D.Lengths.numbers c.self.inside.layout.strides) (g.D.Lengths.numbers c.window_positions.result.dim) (g.D.Lengths.numbers c.window_positions.result.strides) (g.D.Lengths.numbers c.args.window) (g.D.Lengths.numbers c.copied.result) (window_index (g.D.Lengths.numbers c.args.steps.now))
 images g c =
     let a = c.self.inside.layout in
     let ns = g.D.Lengths.numbers a.dim in

@@ -1,6 +1,6 @@
 use Rattle.std.proofs.Common.{subst}
 use Rattle.ndarray.specs.Grid.{IsGrid}
-use Rattle.ndarray.proofs.Reached.{length-cells_at}
+use Rattle.ndarray.proofs.strides.Reach.{length-cells_at}
 use Rattle.ndarray.proofs.base.array.ArrayBase.raw_dim.Goals as goal
 
 pub returns-clause-whole : goal.returns-clause-whole

@@ -1,7 +1,7 @@
 use Rattle.std.proofs.Common.{reverse, refl, ap, ◌∙◌}
 use Rattle.ndarray.specs.base.Places.{Rearranges}
-use Rattle.ndarray.proofs.Reached.{length-cells_at}
-use Rattle.ndarray.proofs.Images.{rearranges-reversed, Reaches-rearranged, grid-seen}
+use Rattle.ndarray.proofs.strides.Reach.{length-cells_at}
+use Rattle.ndarray.proofs.views.Images.{rearranges-reversed, Reaches-rearranged, grid-seen}
 use Rattle.ndarray.proofs.base.array.ArrayBase.reversed_axes.Goals as goal
 
 turn : (g : _) (c : goal.After-drop-layout-2 g) → Rearranges (g.S.Data.apart c.self.inside.storage) (g.D.Lengths.numbers c.self.inside.layout.dim) c.self.inside.layout.start (g.D.Lengths.numbers c.self.inside.layout.strides) (g.D.Lengths.numbers c.reversed.result) c.self.inside.layout.start (g.D.Lengths.numbers c.reversed-2.result) reverse

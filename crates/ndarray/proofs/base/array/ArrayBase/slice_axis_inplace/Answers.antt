@@ -5,11 +5,11 @@ use Rattle.std.proofs.lemmas.Int.{to_z-of_z}
 use Rattle.ndarray.specs.Grid.{cell, tabulate}
 use Rattle.ndarray.specs.Slices.{IsSliceOf, slice_index_at, slice_length}
 use Rattle.ndarray.specs.base.Places.{Rearranges}
-use Rattle.ndarray.proofs.Cuts.{IsCut, rearranges-cut}
-use Rattle.ndarray.proofs.Images.{Reaches-rearranged, grid-seen}
-use Rattle.ndarray.proofs.Reached.{length-cells_at}
-use Rattle.ndarray.proofs.Sizes.{length-fits}
-use Rattle.ndarray.proofs.Slices.{IsCut-slice}
+use Rattle.ndarray.proofs.views.Cuts.{IsCut, rearranges-cut}
+use Rattle.ndarray.proofs.views.Images.{Reaches-rearranged, grid-seen}
+use Rattle.ndarray.proofs.strides.Reach.{length-cells_at}
+use Rattle.ndarray.proofs.boxes.Sizes.{length-fits}
+use Rattle.ndarray.proofs.views.Slices.{IsCut-slice}
 use Rattle.ndarray.proofs.base.array.ArrayBase.slice_axis_inplace.Goals as goal
 
 pub extent-from-requires-clause-fits : goal.extent-from-requires-clause-fits

@@ -1,6 +1,6 @@
 -- A length of a shape within the limit fits a signed word.
 use Rattle.std.proofs.Common.{◌<◌, arith, length, ap}
-use Rattle.ndarray.proofs.Sizes.{length-fits}
+use Rattle.ndarray.proofs.boxes.Sizes.{length-fits}
 use Rattle.ndarray.proofs.base.array.ArrayBase.slice_ok.Goals as goal
 
 pub is_within-requires : goal.is_within-requires

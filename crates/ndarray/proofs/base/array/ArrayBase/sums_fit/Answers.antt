@@ -2,11 +2,11 @@ use Rattle.std.proofs.Common.{◌≡◌, ◌∙◌, ◌↔◌, Bool, true, false
 use Rattle.std.specs.Prelude.{ℤ, pos, ◌≤ℤ◌, ◌<ℤ◌, IsTrue}
 use Rattle.std.specs.Ordering.{partial_lt}
 use Rattle.ndarray.specs.Sums.{IsSummable}
-use Rattle.ndarray.specs.Whole.{int_sums, positive_sum, negative_sum}
-use Rattle.ndarray.proofs.AddedApart.{AddedApart-start, AddedApart-up, AddedApart-down, AddedApart-end, AddedApart-up_excess, AddedApart-down_excess}
-use Rattle.ndarray.proofs.Verdicts.{says_no, says_yes}
-use Rattle.ndarray.proofs.WholeSums.{tells_summable}
-use Rattle.ndarray.proofs.WholeTests.{below_zero, not_below_zero}
+use Rattle.ndarray.specs.Integers.{int_sums, positive_sum, negative_sum}
+use Rattle.ndarray.proofs.sums.SignedSums.{AddedApart-start, AddedApart-up, AddedApart-down, AddedApart-end, AddedApart-up_excess, AddedApart-down_excess}
+use Rattle.ndarray.proofs.lists.Decisions.{says_no, says_yes}
+use Rattle.ndarray.proofs.sums.IntegerSelections.{tells_summable}
+use Rattle.ndarray.proofs.sums.IntegerTests.{below_zero, not_below_zero}
 use Rattle.ndarray.proofs.base.array.ArrayBase.sums_fit.Given.{Over}
 use Rattle.ndarray.proofs.base.array.ArrayBase.sums_fit.Goals as goal
 

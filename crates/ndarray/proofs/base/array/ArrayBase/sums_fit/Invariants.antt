@@ -1,5 +1,5 @@
 use Rattle.std.proofs.Common.{map}
-use Rattle.ndarray.proofs.AddedApart.{AddedApart}
+use Rattle.ndarray.proofs.sums.SignedSums.{AddedApart}
 use Rattle.ndarray.proofs.base.array.ArrayBase.sums_fit.Given as goal
 
 abbrev pub invariant-loop-x : goal.invariant-loop-x

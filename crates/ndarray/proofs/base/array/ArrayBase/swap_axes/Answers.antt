@@ -1,8 +1,8 @@
 use Rattle.std.proofs.Common.{◌<◌, arith, length, swap, ap, refl, ◌∙◌}
 use Rattle.ndarray.specs.base.Places.{Rearranges}
-use Rattle.ndarray.proofs.Reached.{length-cells_at}
-use Rattle.ndarray.proofs.Images.{Reaches-rearranged, grid-seen}
-use Rattle.ndarray.proofs.Swaps.{rearranges-swapped}
+use Rattle.ndarray.proofs.strides.Reach.{length-cells_at}
+use Rattle.ndarray.proofs.views.Images.{Reaches-rearranged, grid-seen}
+use Rattle.ndarray.proofs.views.Swaps.{rearranges-swapped}
 use Rattle.ndarray.proofs.base.array.ArrayBase.swap_axes.Goals as goal
 
 swapped : (g : _) (c : goal.After-swap_axes g) → Rearranges (g.S.Data.apart c.self.inside.storage) (g.D.Lengths.numbers c.self.inside.layout.dim) c.self.inside.layout.start (g.D.Lengths.numbers c.self.inside.layout.strides) (g.D.Lengths.numbers c.swap_axes.new.self.dim) c.swap_axes.new.self.start (g.D.Lengths.numbers c.swap_axes.new.self.strides) (λ is. swap is c.args.ax c.args.bx)

@@ -6,9 +6,9 @@ use Rattle.ndarray.specs.Index.{size}
 use Rattle.ndarray.specs.Limits.{IsWithinLimit}
 use Rattle.ndarray.specs.Orders.{cells_in}
 use Rattle.ndarray.specs.declared.base.shape.Order.TheVariants.{RowMajor}
-use Rattle.ndarray.proofs.Cells.{along-row_order}
-use Rattle.ndarray.proofs.InOrder.{AllZip-cells, length-cells_in}
-use Rattle.ndarray.proofs.Cloned.{IsClonedTo, IsClonedTo-all, IsClonedTo-more, IsClonedTo-room}
+use Rattle.ndarray.proofs.cells.Cells.{along-row_order}
+use Rattle.ndarray.proofs.cells.CellsInOrder.{AllZip-cells, length-cells_in}
+use Rattle.ndarray.proofs.lists.Clones.{IsClonedTo, IsClonedTo-all, IsClonedTo-more, IsClonedTo-room}
 use Rattle.ndarray.proofs.base.array.ArrayBase.to_owned.Goals as goal
 
 pub from_elements-requires : goal.from_elements-requires
@@ -37,7 +37,7 @@ push-requires g c =
     let room = IsClonedTo-room g.A.Clone.is_clone _ _ _ _ _ c.loop-cell.invariant.clones c.in-Some-cell.ensures.steps in
     let la = ap length all in
     let w = c.raw_dim-2.ensures.whole in
-    let ns : c.loop-cell.filling.lengths ≡ c.args.self.now.lengths = c.loop-cell.invariant.lengths ∙ (ap (λ f. f.lengths) c.in_ok-filling.ensures.room ∙ c.raw_dim-2.ensures.lengths) in
+    let ns : c.loop-cell.builder.lengths ≡ c.args.self.now.lengths = c.loop-cell.invariant.lengths ∙ (ap (λ f. f.lengths) c.in_ok-builder.ensures.room ∙ c.raw_dim-2.ensures.lengths) in
     let e = ap size ns in
     omega arith
 
@@ -72,7 +72,7 @@ finish-requires g c =
     let l = length_all_zip g.A.Clone.is_clone _ _ clones in
     let la = ap length all in
     let w = c.raw_dim-2.ensures.whole in
-    let ns : c.loop-cell.filling.lengths ≡ c.args.self.now.lengths = c.loop-cell.invariant.lengths ∙ (ap (λ f. f.lengths) c.in_ok-filling.ensures.room ∙ c.raw_dim-2.ensures.lengths) in
+    let ns : c.loop-cell.builder.lengths ≡ c.args.self.now.lengths = c.loop-cell.invariant.lengths ∙ (ap (λ f. f.lengths) c.in_ok-builder.ensures.room ∙ c.raw_dim-2.ensures.lengths) in
     let e = ap size ns in
     omega arith
 
@@ -80,13 +80,13 @@ pub returns-clause-cells : goal.returns-clause-cells
 returns-clause-cells g c =
     let all : c.into_iter-cell-iterator.result ≡ c.args.self.now.cells = cc in
     let clones = IsClonedTo-all g.A.Clone.is_clone _ _ _ c.loop-cell.invariant.clones c.in-None.ensures.steps.0 in
-    let order : c.loop-cell.filling.order ≡ RowMajor = c.loop-cell.invariant.order ∙ ap (λ f. f.order) c.in_ok-filling.ensures.room in
-    let made : c.finish.result.cells ≡ c.loop-cell.filling.cells = sym (along-row_order c.finish.result c.finish.ensures.whole) ∙ (ap (λ o. cells_in o c.finish.result) (sym order) ∙ c.finish.ensures.list) in
+    let order : c.loop-cell.builder.order ≡ RowMajor = c.loop-cell.invariant.order ∙ ap (λ f. f.order) c.in_ok-builder.ensures.room in
+    let made : c.finish.result.cells ≡ c.loop-cell.builder.cells = sym (along-row_order c.finish.result c.finish.ensures.whole) ∙ (ap (λ o. cells_in o c.finish.result) (sym order) ∙ c.finish.ensures.list) in
     subst (λ xs. AllZip g.A.Clone.is_clone xs c.finish.result.cells) all (subst (AllZip g.A.Clone.is_clone _) (sym made) clones)
 
 pub returns-clause-same : goal.returns-clause-same
 returns-clause-same g c =
     λ same.
-    let ns : c.finish.result.lengths ≡ c.args.self.now.lengths = c.finish.ensures.lengths ∙ (c.loop-cell.invariant.lengths ∙ (ap (λ f. f.lengths) c.in_ok-filling.ensures.room ∙ c.raw_dim-2.ensures.lengths)) in
+    let ns : c.finish.result.lengths ≡ c.args.self.now.lengths = c.finish.ensures.lengths ∙ (c.loop-cell.invariant.lengths ∙ (ap (λ f. f.lengths) c.in_ok-builder.ensures.room ∙ c.raw_dim-2.ensures.lengths)) in
     let cells = same_from_all_zip g.A.Clone.is_clone _ _ (returns-clause-cells g c) same in
     ap (λ ms. grid ms c.finish.result.cells) ns ∙ ap (λ xs. grid c.args.self.now.lengths xs) cells

@@ -1,7 +1,7 @@
 use Rattle.std.proofs.Common.{subst, sym, ◌∙◌}
 use Rattle.ndarray.specs.Grid.{IsGrid}
-use Rattle.ndarray.proofs.Cells.{known-by_cells}
-use Rattle.ndarray.proofs.Reached.{length-cells_at, grid_at-same, Reaches-same}
+use Rattle.ndarray.proofs.cells.Cells.{known-by_cells}
+use Rattle.ndarray.proofs.strides.Reach.{length-cells_at, grid_at-same, Reaches-same}
 use Rattle.ndarray.proofs.base.array.ArrayBase.view.Goals as goal
 
 pub invariant_of-result : goal.invariant_of-result

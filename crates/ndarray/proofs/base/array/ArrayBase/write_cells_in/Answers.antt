@@ -5,8 +5,8 @@ use Rattle.ndarray.specs.Grid.{Grid, IsGrid}
 use Rattle.ndarray.specs.Orders.{cells_in}
 use Rattle.ndarray.specs.Views.{transposed}
 use Rattle.ndarray.specs.declared.base.shape.Order.TheVariants.{RowMajor, ColumnMajor}
-use Rattle.ndarray.proofs.InOrder.{length-transposed, transposed-transposed, transposed-whole}
-use Rattle.ndarray.proofs.SideBySide.{row-cells, transposed-cells}
+use Rattle.ndarray.proofs.cells.CellsInOrder.{length-transposed, transposed-transposed, transposed-whole}
+use Rattle.ndarray.proofs.strides.ContiguousCells.{row-cells, transposed-cells}
 use Rattle.ndarray.proofs.base.array.ArrayBase.write_cells_in.Goals as goal
 
 -- what a writer may leave, seen in an order

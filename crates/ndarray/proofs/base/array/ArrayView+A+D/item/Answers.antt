@@ -1,8 +1,8 @@
 use Rattle.std.proofs.Common.{sym, ap, subst, length, arith}
 use Rattle.ndarray.specs.Index.{InBox}
 use Rattle.ndarray.specs.base.Storage.{seen_at}
-use Rattle.ndarray.proofs.Boxes.{InBox-length}
-use Rattle.ndarray.proofs.Reached.{cell_found}
+use Rattle.ndarray.proofs.boxes.Boxes.{InBox-length}
+use Rattle.ndarray.proofs.strides.Reach.{cell_found}
 use Rattle.ndarray.proofs.base.array.ArrayView+A+D.item.Goals as goal
 
 pub place-requires : goal.place-requires

@@ -1,10 +1,10 @@
 use Rattle.std.proofs.Common.{◌<◌, ◌≤◌, ◌+◌, arith, length, get_or, set, ap, refl, ◌∙◌}
 use Rattle.ndarray.specs.base.Places.{Rearranges}
 use Rattle.ndarray.specs.base.Storage.{seen_at}
-use Rattle.ndarray.proofs.Cuts.{IsCut-part, rearranges-cut}
-use Rattle.ndarray.proofs.Reached.{length-cells_at}
-use Rattle.ndarray.proofs.Sizes.{length-fits}
-use Rattle.ndarray.proofs.Images.{Reaches-rearranged, grid-seen}
+use Rattle.ndarray.proofs.views.Cuts.{IsCut-part, rearranges-cut}
+use Rattle.ndarray.proofs.strides.Reach.{length-cells_at}
+use Rattle.ndarray.proofs.boxes.Sizes.{length-fits}
+use Rattle.ndarray.proofs.views.Images.{Reaches-rearranged, grid-seen}
 use Rattle.ndarray.proofs.base.axes.ArrayView+A+D.part.Goals as goal
 
 kept : (g : _) (c : goal.After-cut g) → Rearranges ⊥ (g.D.Lengths.numbers c.part.inside.layout.dim) c.part.inside.layout.start (g.D.Lengths.numbers c.part.inside.layout.strides) (g.D.Lengths.numbers c.cut.new.self.dim) c.cut.new.self.start (g.D.Lengths.numbers c.cut.new.self.strides) (λ js. set js c.args.axis (c.args.from + get_or js c.args.axis 0))

@@ -2,13 +2,13 @@ use Rattle.std.proofs.Common.{List, ◌^◌, ◌≡◌, ◌<◌, ◌≤◌, ◌+
 use Rattle.std.specs.Prelude.{⊤}
 use Rattle.ndarray.specs.Index.{InBox}
 use Rattle.ndarray.specs.base.Places.{Rearranges}
-use Rattle.ndarray.specs.base.Spots.{Spot, spot}
+use Rattle.ndarray.specs.base.CellLayouts.{CellLayout, cell_layout}
 use Rattle.ndarray.specs.base.Slots.{held_at}
-use Rattle.ndarray.proofs.Cuts.{IsCut-part, rearranges-cut, cuts-apart}
-use Rattle.ndarray.proofs.Images.{grid-seen}
-use Rattle.ndarray.proofs.Reached.{length-cells_at}
-use Rattle.ndarray.proofs.Portions.{SharesBoth, SharesBoth-images, one-reaches, one-seen, other-reaches, other-seen}
-use Rattle.ndarray.proofs.Sizes.{length-fits}
+use Rattle.ndarray.proofs.views.Cuts.{IsCut-part, rearranges-cut, cuts-apart}
+use Rattle.ndarray.proofs.views.Images.{grid-seen}
+use Rattle.ndarray.proofs.strides.Reach.{length-cells_at}
+use Rattle.ndarray.proofs.regions.Masks.{SharesBoth, SharesBoth-images, one-reaches, one-seen, other-reaches, other-seen}
+use Rattle.ndarray.proofs.boxes.Sizes.{length-fits}
 use Rattle.ndarray.proofs.base.axes.ArrayViewMut+A+D.split_at.Goals as goal
 use Rattle.ndarray.proofs.base.axes.ArrayViewMut+A+D.split_at.Goals.{After-split-here}
 
@@ -27,11 +27,11 @@ module _ (g : _) (c : After-split-here g) where
   index-le = omega (arith, ap (λ v. get_or v.lengths c.args.axis.0 0) c.self.view_is, c.requires.within)
 
   -- where each part lies
-  abbrev here : Spot
-  here = spot (g.D.Lengths.numbers c.cut.new.self.dim) c.cut.new.self.start (g.D.Lengths.numbers c.cut.new.self.strides)
+  abbrev here : CellLayout
+  here = cell_layout (g.D.Lengths.numbers c.cut.new.self.dim) c.cut.new.self.start (g.D.Lengths.numbers c.cut.new.self.strides)
 
-  abbrev rest : Spot
-  rest = spot (g.D.Lengths.numbers c.cut-2.new.self.dim) c.cut-2.new.self.start (g.D.Lengths.numbers c.cut-2.new.self.strides)
+  abbrev rest : CellLayout
+  rest = cell_layout (g.D.Lengths.numbers c.cut-2.new.self.dim) c.cut-2.new.self.start (g.D.Lengths.numbers c.cut-2.new.self.strides)
 
   here-kept : Rearranges ⊤ (g.D.Lengths.numbers c.self.inside.layout.dim) c.self.inside.layout.start (g.D.Lengths.numbers c.self.inside.layout.strides) (g.D.Lengths.numbers c.cut.new.self.dim) c.cut.new.self.start (g.D.Lengths.numbers c.cut.new.self.strides) (λ js. set js c.args.axis.0 (0 + get_or js c.args.axis.0 0))
   here-kept =

@@ -2,7 +2,7 @@
 use Rattle.std.proofs.Common.{ℕ, insert, arith, subst}
 use Rattle.std.proofs.lemmas.List.{length-replicate}
 use Rattle.std.proofs.lemmas.List.Edits.{length-insert, get_or-insert_at, get_or-insert_below, get_or-insert_above}
-use Rattle.ndarray.proofs.Filled.{IsFilledTo, IsFilledTo-none, IsFilledTo-more, IsFilledTo-all}
+use Rattle.ndarray.proofs.lists.Prefixes.{IsFilledTo, IsFilledTo-none, IsFilledTo-more, IsFilledTo-all}
 use Rattle.ndarray.proofs.base.dimension.Dimension.insert_axis.Goals as goal
 
 pub loop-k-init : goal.loop-k-init

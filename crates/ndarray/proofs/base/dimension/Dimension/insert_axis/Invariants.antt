@@ -1,6 +1,6 @@
 -- So far the list has the first numbers of the list that it becomes.
 use Rattle.std.proofs.Common.{◌+◌, insert}
-use Rattle.ndarray.proofs.Filled.{IsFilledTo}
+use Rattle.ndarray.proofs.lists.Prefixes.{IsFilledTo}
 use Rattle.ndarray.proofs.base.dimension.Dimension.insert_axis.Given as goal
 
 abbrev pub invariant-loop-k : goal.invariant-loop-k

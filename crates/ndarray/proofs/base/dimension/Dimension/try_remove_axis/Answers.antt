@@ -2,7 +2,7 @@
 use Rattle.std.proofs.Common.{◌≡◌, ◌≢◌, ◌⊎◌, ◌<◌, ℕ, List, [], length, remove, ap, inl, inr, arith, subst}
 use Rattle.std.proofs.lemmas.List.{length-replicate}
 use Rattle.std.proofs.lemmas.List.Edits.{length-remove, get_or-remove_below, get_or-remove_above}
-use Rattle.ndarray.proofs.Filled.{IsFilledTo, IsFilledTo-none, IsFilledTo-more, IsFilledTo-all}
+use Rattle.ndarray.proofs.lists.Prefixes.{IsFilledTo, IsFilledTo-none, IsFilledTo-more, IsFilledTo-all}
 use Rattle.ndarray.proofs.base.dimension.Dimension.try_remove_axis.Goals as goal
 
 -- where there are axes, the one that is named is among them

@@ -1,6 +1,6 @@
 -- So far the list has the first numbers of the list that it becomes.
 use Rattle.std.proofs.Common.{remove}
-use Rattle.ndarray.proofs.Filled.{IsFilledTo}
+use Rattle.ndarray.proofs.lists.Prefixes.{IsFilledTo}
 use Rattle.ndarray.proofs.base.dimension.Dimension.try_remove_axis.Given as goal
 
 abbrev pub invariant-loop-k : goal.invariant-loop-k

@@ -1,6 +1,6 @@
 use Rattle.std.proofs.Common.{arith, ap, ◌*◌, ◌+◌, ◌^◌, ◌<◌, take}
 use Rattle.ndarray.specs.Index.{size}
-use Rattle.ndarray.proofs.Sizes.{size-take_more, size-take_fits}
+use Rattle.ndarray.proofs.boxes.Sizes.{size-take_more, size-take_fits}
 use Rattle.ndarray.proofs.base.dimension.Lengths.size.Goals as goal
 
 pub overflow_mul-size : goal.overflow_mul-size

@@ -1,6 +1,6 @@
 use Rattle.std.proofs.Common.{arith, ◌∙◌}
-use Rattle.ndarray.proofs.Sizes.{limit_stop, limit_more, limit_same}
-use Rattle.ndarray.proofs.Verdicts.{says_no}
+use Rattle.ndarray.proofs.boxes.Sizes.{limit_stop, limit_more, limit_same}
+use Rattle.ndarray.proofs.lists.Decisions.{says_no}
 use Rattle.ndarray.proofs.base.dimension.Lengths.size_ok.Goals as goal
 use Rattle.ndarray.proofs.base.dimension.Lengths.size_ok.Goals.{then-len-ne0+else-len-product, else-len-ne0}
 

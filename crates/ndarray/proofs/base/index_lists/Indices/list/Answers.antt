@@ -1,8 +1,8 @@
 use Rattle.std.proofs.Common.{Some, ap, sym, subst, arith, length, ◌∙◌}
 use Rattle.ndarray.specs.Index.{InBox}
 use Rattle.ndarray.specs.Grid.{cell}
-use Rattle.ndarray.proofs.Boxes.{InBox-get, InBox-length}
-use Rattle.ndarray.proofs.Cells.{arranged-cell}
+use Rattle.ndarray.proofs.boxes.Boxes.{InBox-get, InBox-length}
+use Rattle.ndarray.proofs.cells.Cells.{arranged-cell}
 use Rattle.ndarray.proofs.base.index_lists.Indices.list.Goals as goal
 
 pub counted_from-requires-clause-as_many : goal.counted_from-requires-clause-as_many

@@ -1,6 +1,6 @@
 use Rattle.std.proofs.Common.{subst}
 use Rattle.ndarray.specs.Grid.{IsGrid}
-use Rattle.ndarray.proofs.Cells.{arranged-whole}
+use Rattle.ndarray.proofs.cells.Cells.{arranged-whole}
 use Rattle.ndarray.proofs.base.index_lists.Indices.raw_dim.Goals as goal
 
 pub returns-clause-whole : goal.returns-clause-whole

@@ -1,6 +1,6 @@
 use Rattle.std.proofs.Common.{arith, sym, ◌∙◌, below_more}
-use Rattle.ndarray.proofs.Boxes.{InBox-length, InBox-get, InBox-from_each}
-use Rattle.ndarray.proofs.Reached.{place-start, place-step, place-take_all}
+use Rattle.ndarray.proofs.boxes.Boxes.{InBox-length, InBox-get, InBox-from_each}
+use Rattle.ndarray.proofs.strides.Reach.{place-start, place-step, place-take_all}
 use Rattle.ndarray.proofs.base.layout.Layout.find.Goals as goal
 
 pub returns-then-ndim : goal.returns-then-ndim

@@ -3,9 +3,9 @@ use Rattle.std.proofs.lemmas.List.{length-set, get_or-replicate, length-replicat
 use Rattle.std.proofs.lemmas.List.Sums.{sum_by-set}
 use Rattle.ndarray.specs.Index.{InBox}
 use Rattle.ndarray.specs.base.Places.{place}
-use Rattle.ndarray.specs.base.Nested.{magnitude, total, turned, sunk, AreNested}
-use Rattle.ndarray.proofs.Boxes.{InBox-some}
-use Rattle.ndarray.proofs.Sought.{Sought, nested-known, sought-first, sought-below, sought-next, sought-last}
+use Rattle.ndarray.specs.base.Nested.{magnitude, total, forward_index, below_first, AreNested}
+use Rattle.ndarray.proofs.boxes.Boxes.{InBox-some}
+use Rattle.ndarray.proofs.strides.IndexOfPlace.{Sought, nested-known, sought-first, sought-below, sought-next, sought-last}
 use Rattle.ndarray.proofs.base.layout.Layout.index_of.Goals as goal
 use Rattle.ndarray.proofs.base.layout.Layout.index_of.Goals.{After-axis-len, After-find, in_default-find-via-in-Some-find+else-found-at, in_default-find-via-in_default-find}
 
@@ -28,18 +28,18 @@ loop-k-init g c =
       each = λ is b at.
           let s = sought-first ns bs (g.D.Lengths.numbers c.zeros-index.result) is c.args.self.now.start c.args.at c.requires.as_many nested (omega arith) b at
           (λ k lt. ap (λ xs. get_or xs k 0) c.zeros-index.ensures ∙ get_or-replicate c.ndim.result k 0 0 (omega (arith, lt, n, ln))) in
-          let d : ((c.args.at + (2 ^ 64 - c.args.self.now.start)) % 2 ^ 64 + total sunk ns bs) % 2 ^ 64 ≡ ((c.args.at + (2 ^ 64 - c.args.self.now.start)) % 2 ^ 64 + c.depth.result) % 2 ^ 64 = ap (λ x. ((c.args.at + (2 ^ 64 - c.args.self.now.start)) % 2 ^ 64 + x) % 2 ^ 64) (sym c.depth.ensures) in
-          subst (λ ms. Sought ns bs ms (((c.args.at + (2 ^ 64 - c.args.self.now.start)) % 2 ^ 64 + c.depth.result) % 2 ^ 64) (g.D.Lengths.numbers c.zeros-index.result) is) (sym e)
+          let d : ((c.args.at + (2 ^ 64 - c.args.self.now.start)) % 2 ^ 64 + total below_first ns bs) % 2 ^ 64 ≡ ((c.args.at + (2 ^ 64 - c.args.self.now.start)) % 2 ^ 64 + c.below_start.result) % 2 ^ 64 = ap (λ x. ((c.args.at + (2 ^ 64 - c.args.self.now.start)) % 2 ^ 64 + x) % 2 ^ 64) (sym c.below_start.ensures) in
+          subst (λ ms. Sought ns bs ms (((c.args.at + (2 ^ 64 - c.args.self.now.start)) % 2 ^ 64 + c.below_start.result) % 2 ^ 64) (g.D.Lengths.numbers c.zeros-index.result) is) (sym e)
           (subst (λ r. Sought ns bs ns r (g.D.Lengths.numbers c.zeros-index.result) is) d s);
     }
 
 -- the size of the stride of the axis that is told
-stride_size : (g : _) (c : After-axis-len g) → c.without_sign-m.result ≡ magnitude (get_or (g.D.Lengths.numbers c.args.self.now.strides) c.in-Some.k 0)
-stride_size g c = c.without_sign-m.ensures ∙ ap magnitude c.axis-stride.ensures
+stride_size : (g : _) (c : After-axis-len g) → c.magnitude-m.result ≡ magnitude (get_or (g.D.Lengths.numbers c.args.self.now.strides) c.in-Some.k 0)
+stride_size g c = c.magnitude-m.ensures ∙ ap magnitude c.axis-stride.ensures
 
 module _ (g : _) (c : After-axis-len g) (is : List ℕ) (b : InBox (g.D.Lengths.numbers c.args.self.now.dim) is) (at : place c.args.self.now.start (g.D.Lengths.numbers c.args.self.now.strides) is ≡ c.args.at) where
   -- where the place has an index list, its index of the axis is below the length
-  below : c.loop-k.rest / c.without_sign-m.result < c.axis-len.result
+  below : c.loop-k.rest / c.magnitude-m.result < c.axis-len.result
   below =
       let i = c.loop-k.invariant in
       let e = c.in-Some.ensures in
@@ -47,15 +47,15 @@ module _ (g : _) (c : After-axis-len g) (is : List ℕ) (b : InBox (g.D.Lengths.
       rw (stride_size g c, c.axis-len.ensures) s
 
   -- and with it known the others are sought
-  next : (v : ℕ) → v ≡ turned c.axis-len.result c.axis-stride.result (c.loop-k.rest / c.without_sign-m.result) → Sought (g.D.Lengths.numbers c.args.self.now.dim) (g.D.Lengths.numbers c.args.self.now.strides) (set (g.D.Lengths.numbers c.loop-k.dim) c.in-Some.k 1) (c.loop-k.rest % c.without_sign-m.result) (set (g.D.Lengths.numbers c.loop-k.index) c.in-Some.k v) is
+  next : (v : ℕ) → v ≡ forward_index c.axis-len.result c.axis-stride.result (c.loop-k.rest / c.magnitude-m.result) → Sought (g.D.Lengths.numbers c.args.self.now.dim) (g.D.Lengths.numbers c.args.self.now.strides) (set (g.D.Lengths.numbers c.loop-k.dim) c.in-Some.k 1) (c.loop-k.rest % c.magnitude-m.result) (set (g.D.Lengths.numbers c.loop-k.index) c.in-Some.k v) is
   next v ev =
       let i = c.loop-k.invariant in
       let e = c.in-Some.ensures in
       let m = stride_size g c in
       rw m (sought-next (g.D.Lengths.numbers c.args.self.now.dim) (g.D.Lengths.numbers c.args.self.now.strides) (g.D.Lengths.numbers c.loop-k.dim) (g.D.Lengths.numbers c.loop-k.index) is c.loop-k.rest c.in-Some.k i.dims i.indices c.requires.as_many (omega arith) e.1 i.nested e.2 b (i.each is b at) v
-      (ev ∙ (ap (λ n. turned n c.axis-stride.result (c.loop-k.rest / c.without_sign-m.result)) c.axis-len.ensures
-      ∙ (ap (λ n. turned (get_or (g.D.Lengths.numbers c.loop-k.dim) c.in-Some.k 0) n (c.loop-k.rest / c.without_sign-m.result)) c.axis-stride.ensures
-      ∙ ap (λ n. turned (get_or (g.D.Lengths.numbers c.loop-k.dim) c.in-Some.k 0) (get_or (g.D.Lengths.numbers c.args.self.now.strides) c.in-Some.k 0) (c.loop-k.rest / n)) m))))
+      (ev ∙ (ap (λ n. forward_index n c.axis-stride.result (c.loop-k.rest / c.magnitude-m.result)) c.axis-len.ensures
+      ∙ (ap (λ n. forward_index (get_or (g.D.Lengths.numbers c.loop-k.dim) c.in-Some.k 0) n (c.loop-k.rest / c.magnitude-m.result)) c.axis-stride.ensures
+      ∙ ap (λ n. forward_index (get_or (g.D.Lengths.numbers c.loop-k.dim) c.in-Some.k 0) (get_or (g.D.Lengths.numbers c.args.self.now.strides) c.in-Some.k 0) (c.loop-k.rest / n)) m))))
 
 pub returns-then-i-len : goal.returns-then-i-len
 returns-then-i-len g c = λ is b at. let l = below g (goal.at.returns-then-i-len g c).After-axis-len is b at in omega (arith, l)
@@ -65,16 +65,16 @@ loop-k-preserved g c =
     let i = c.loop-k.invariant in
     let e = c.in-Some.ensures in
     let d = ap length c.set_axis-in-Some.ensures ∙ length-set (g.D.Lengths.numbers c.loop-k.dim) c.in-Some.k 1 in
-    let x = ap length c.set_axis.ensures ∙ length-set (g.D.Lengths.numbers c.loop-k.index) c.in-Some.k c.upright.result in
+    let x = ap length c.set_axis.ensures ∙ length-set (g.D.Lengths.numbers c.loop-k.index) c.in-Some.k c.forward_index.result in
     let as_many = c.requires.as_many in
     record {
       dims = d ∙ i.dims;
       indices = x ∙ i.indices;
       nested = subst (λ ms. AreNested ms (g.D.Lengths.numbers c.args.self.now.strides)) (sym c.set_axis-in-Some.ensures) (nested-known (g.D.Lengths.numbers c.loop-k.dim) (g.D.Lengths.numbers c.args.self.now.strides) c.in-Some.k (let y = i.dims in omega (arith, as_many, y)) e.0 e.1 i.nested);
       each = λ is b at.
-          subst (λ ms. Sought (g.D.Lengths.numbers c.args.self.now.dim) (g.D.Lengths.numbers c.args.self.now.strides) ms (c.loop-k.rest % c.without_sign-m.result) (g.D.Lengths.numbers c.set_axis.new.self) is) (sym c.set_axis-in-Some.ensures)
-          (subst (λ xs. Sought (g.D.Lengths.numbers c.args.self.now.dim) (g.D.Lengths.numbers c.args.self.now.strides) (set (g.D.Lengths.numbers c.loop-k.dim) c.in-Some.k 1) (c.loop-k.rest % c.without_sign-m.result) xs is) (sym c.set_axis.ensures)
-          (next g (goal.at.loop-k-preserved g c).After-axis-len is b at c.upright.result c.upright.ensures));
+          subst (λ ms. Sought (g.D.Lengths.numbers c.args.self.now.dim) (g.D.Lengths.numbers c.args.self.now.strides) ms (c.loop-k.rest % c.magnitude-m.result) (g.D.Lengths.numbers c.set_axis.new.self) is) (sym c.set_axis-in-Some.ensures)
+          (subst (λ xs. Sought (g.D.Lengths.numbers c.args.self.now.dim) (g.D.Lengths.numbers c.args.self.now.strides) (set (g.D.Lengths.numbers c.loop-k.dim) c.in-Some.k 1) (c.loop-k.rest % c.magnitude-m.result) xs is) (sym c.set_axis.ensures)
+          (next g (goal.at.loop-k-preserved g c).After-axis-len is b at c.forward_index.result c.forward_index.ensures));
     }
 
 pub loop-k-smaller : goal.loop-k-smaller

@@ -3,7 +3,7 @@ use Rattle.std.specs.List.{sum_by}
 use Rattle.ndarray.specs.Index.{InBox}
 use Rattle.ndarray.specs.base.Places.{place}
 use Rattle.ndarray.specs.base.Nested.{AreNested}
-use Rattle.ndarray.proofs.Sought.{Sought}
+use Rattle.ndarray.proofs.strides.IndexOfPlace.{Sought}
 use Rattle.ndarray.proofs.base.layout.Layout.index_of.Given as goal
 
 abbrev pub invariant-loop-k : goal.invariant-loop-k

@@ -4,8 +4,8 @@ use Rattle.std.specs.Option.{is_some, SomeIff}
 use Rattle.std.proofs.lemmas.Bool.{cases_lt}
 use Rattle.ndarray.specs.Index.{size}
 use Rattle.ndarray.specs.declared.base.shape.Order.TheVariants.{RowMajor}
-use Rattle.ndarray.proofs.Sizes.{size-one_of}
-use Rattle.ndarray.proofs.Strides.{Follows, block_in-fits, block-step, last-fits, place-follows, stride-follows}
+use Rattle.ndarray.proofs.boxes.Sizes.{size-one_of}
+use Rattle.ndarray.proofs.strides.Strides.{Follows, block_in-fits, block-step, last-fits, place-follows, stride-follows}
 use Rattle.ndarray.proofs.base.layout.Layout.is_row_major.Goals as goal
 use Rattle.ndarray.proofs.base.layout.Layout.is_row_major.Goals.{else-len-ne1-via-then-len-ne1+else-axis-block, else-len-ne1-via-else-len-ne1}
 

@@ -1,5 +1,5 @@
 use Rattle.std.proofs.Common.{arith, sym, ◌∙◌}
-use Rattle.ndarray.proofs.Reached.{place-start, place-step, place-take_all}
+use Rattle.ndarray.proofs.strides.Reach.{place-start, place-step, place-take_all}
 use Rattle.ndarray.proofs.base.layout.Layout.place.Goals as goal
 
 pub loop-k-init : goal.loop-k-init

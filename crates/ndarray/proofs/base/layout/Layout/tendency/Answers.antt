@@ -1,5 +1,5 @@
 use Rattle.std.proofs.Common.{arith}
-use Rattle.ndarray.proofs.Sizes.{nonzero-reverse}
+use Rattle.ndarray.proofs.boxes.Sizes.{nonzero-reverse}
 use Rattle.ndarray.proofs.base.layout.Layout.tendency.Goals as goal
 
 pub is_contiguous-requires-2-clause-limit : goal.is_contiguous-requires-2-clause-limit

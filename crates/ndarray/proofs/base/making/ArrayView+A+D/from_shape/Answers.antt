@@ -1,9 +1,9 @@
 use Rattle.std.proofs.Common.{arith, subst}
 use Rattle.ndarray.specs.Orders.{HasInOrder}
-use Rattle.ndarray.proofs.Cells.{cells_in-HasInOrder}
-use Rattle.ndarray.proofs.Reached.{length-cells_at}
-use Rattle.ndarray.proofs.Strides.{Reaches-slice, cells_in-slice}
-use Rattle.ndarray.proofs.Verdicts.{from_yes}
+use Rattle.ndarray.proofs.cells.Cells.{cells_in-HasInOrder}
+use Rattle.ndarray.proofs.strides.Reach.{length-cells_at}
+use Rattle.ndarray.proofs.strides.Strides.{Reaches-slice, cells_in-slice}
+use Rattle.ndarray.proofs.lists.Decisions.{from_yes}
 use Rattle.ndarray.proofs.base.making.ArrayView+A+D.from_shape.Goals as goal
 
 pub invariant_of-result : goal.invariant_of-result

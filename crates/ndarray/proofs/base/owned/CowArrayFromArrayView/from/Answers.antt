@@ -1,4 +1,4 @@
-use Rattle.ndarray.proofs.Reached.{length-cells_at}
+use Rattle.ndarray.proofs.strides.Reach.{length-cells_at}
 use Rattle.ndarray.proofs.base.owned.CowArrayFromArrayView.from.Goals as goal
 
 pub returns-clause-whole : goal.returns-clause-whole

@@ -1,7 +1,7 @@
 use Rattle.std.proofs.Common.{sym, ◌∙◌, ap, subst}
 use Rattle.ndarray.specs.Index.{InBox}
 use Rattle.ndarray.specs.Grid.{IsGrid, cell}
-use Rattle.ndarray.proofs.Reached.{cell-at, length-cells_at}
+use Rattle.ndarray.proofs.strides.Reach.{cell-at, length-cells_at}
 use Rattle.ndarray.proofs.base.place_map.Array+A+D.into_storage.Goals as goal
 
 pub returns-clause-cells : goal.returns-clause-cells

@@ -1,8 +1,8 @@
 use Rattle.std.proofs.Common.{◌≡◌, ◌+◌, ◌-◌, arith, ◌∙◌, ap, sym, length, refl}
 use Rattle.std.proofs.lemmas.List.{nil_from_length}
 use Rattle.std.specs.Prelude.{slice_get}
-use Rattle.ndarray.proofs.Reached.{length-cells_at}
-use Rattle.ndarray.proofs.SideBySide.{side-there, side-cells, slice-within}
+use Rattle.ndarray.proofs.strides.Reach.{length-cells_at}
+use Rattle.ndarray.proofs.strides.ContiguousCells.{side-there, side-cells, slice-within}
 use Rattle.ndarray.proofs.base.place_map.Array+A+D.try_into_cells.Goals as goal
 
 pub returns-then-len-eq0-clause-cells : goal.returns-then-len-eq0-clause-cells

@@ -2,8 +2,8 @@ use Rattle.std.proofs.Common.{◌≡◌, ◌≢◌, ℕ, List, sym, ◌∙◌, a
 use Rattle.ndarray.specs.Index.{InBox}
 use Rattle.ndarray.specs.base.Places.{place}
 use Rattle.ndarray.specs.base.PlaceMap.{LiesApart}
-use Rattle.ndarray.specs.base.Spots.{place_in}
-use Rattle.ndarray.proofs.Stepped.{lies-alone, if_some}
+use Rattle.ndarray.specs.base.CellLayouts.{place_in}
+use Rattle.ndarray.proofs.moving.CellPlaces.{lies-alone, if_some}
 use Rattle.ndarray.proofs.base.place_map.PlaceMap.index_of.Goals as goal
 
 pub returns-clause-alone : goal.returns-clause-alone

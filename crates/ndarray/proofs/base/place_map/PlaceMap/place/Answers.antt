@@ -1,8 +1,8 @@
 use Rattle.std.proofs.Common.{length, sym, ◌∙◌, ap, subst}
 use Rattle.ndarray.specs.base.PlaceMap.{LiesApart}
-use Rattle.ndarray.specs.base.Spots.{place_in}
-use Rattle.ndarray.proofs.Boxes.{InBox-length}
-use Rattle.ndarray.proofs.Stepped.{lies-alone}
+use Rattle.ndarray.specs.base.CellLayouts.{place_in}
+use Rattle.ndarray.proofs.boxes.Boxes.{InBox-length}
+use Rattle.ndarray.proofs.moving.CellPlaces.{lies-alone}
 use Rattle.ndarray.proofs.base.place_map.PlaceMap.place.Goals as goal
 
 pub place-requires : goal.place-requires

@@ -1,5 +1,5 @@
 use Rattle.std.proofs.Common.{◌∷◌, [], arith}
-use Rattle.ndarray.proofs.Slots.{filled_within, run-one}
+use Rattle.ndarray.proofs.regions.Slots.{filled_within, run-one}
 use Rattle.ndarray.proofs.base.region.RegionRepr+Life+A.into_mut.Goals as goal
 
 pub into_slice-run-requires : goal.into_slice-run-requires

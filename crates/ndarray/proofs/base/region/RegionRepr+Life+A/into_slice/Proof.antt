@@ -52,8 +52,8 @@ use Rattle.core.proofs.ptr.Rows.{times_below}
 use Rattle.core.proofs.slots.Leases.{uncapped}
 use contract.BorrowLft.{◌⊑◌}
 use Rattle.ndarray.specs.base.Slots.{somes, put_in, IsRun}
-use Rattle.ndarray.specs.base.Strewn.{Strewn, strewn, region_owns}
-use Rattle.ndarray.proofs.Memory.{lives_as, Rg, reg, words_had, RunAgain, run_out}
+use Rattle.ndarray.specs.base.Scattered.{ScatteredElements, scattered, region_owns}
+use Rattle.ndarray.proofs.regions.Memory.{lives_as, Rg, reg, words_had, RunAgain, run_out}
 use Rattle.ndarray.specs.contracts.base.region.Life as Life-type
 use Rattle.ndarray.specs.contracts.base.region.RegionRepr+Life+A.into_slice as F
 use Rattle.ndarray.specs.contracts.base.region.RegionRepr+Life+A.into_slice.Key.{name as #self}
@@ -130,19 +130,19 @@ module _ (E : El) {M : Type 1} {𝓤 : Ura M} (𝓛 : Logic 𝓤) (at_mem : Memo
         sets ! (bin ! (get ! refl) (get ! refl) tt) refl (tt, tt) $
         sets_last ! (agg ! (and_then ! (get ! refl) (and_then ! (get ! refl) (no_more !)))) refl (tt, (tt, (record { fits = fits_len }, tt))) $
         exec ! C Λ En (rest_after 2 (function E).body) (at_ret En (Post vals)) $ sets ! (of_opd ! (get ! refl)) refl (tt, (tt, (record { fits = fits_len }, tt))) $
-        let at = i * s + o in let code = (Strewn (R E) cs).coded.code (somes cs) in let T = Arr (mem (R E)) (length xs) in
-        fsplit ! $ open_ref ! tt (Strewn (R E) cs) {x = somes cs} {b = b} {o = o} $
+        let at = i * s + o in let code = (ScatteredElements (R E) cs).coded.code (somes cs) in let T = Arr (mem (R E)) (length xs) in
+        fsplit ! $ open_ref ! tt (ScatteredElements (R E) cs) {x = somes cs} {b = b} {o = o} $
         use1 𝓛 (‵ (T.own_at xs b at) ⊛ raw (all 𝓤 (RunAgain E 𝓛 b cs i (length xs) o at))) (run_out E 𝓛 b cs i n o at xs inside refl long filled) $ split ! $
         move ! (2 ∷ 3 ∷ 4 ∷ 0 ∷ 1 ∷ []) $ group ! 5 $
-        use1 𝓛 (later (some (λ (δ : GName). ‵ (fobs δ ((coded_list (R E).coded).code xs)) ⊛ ‵ (fbor κ (Borrowed T b at δ)) ⊛ ‵ (flft κ q) ⊛ ‵ (after (Strewn (R E) cs) T γ δ new))))
-        (takes_part 𝓛 (Strewn (R E) cs) T new κ q b o b at γ (all 𝓤 (RunAgain E 𝓛 b cs i (length xs) o at)) (back at (length xs)) code code xs) $ await ! tt $ pick ! (λ δ. split3 ! $
+        use1 𝓛 (later (some (λ (δ : GName). ‵ (fobs δ ((coded_list (R E).coded).code xs)) ⊛ ‵ (fbor κ (Borrowed T b at δ)) ⊛ ‵ (flft κ q) ⊛ ‵ (after (ScatteredElements (R E) cs) T γ δ new))))
+        (takes_part 𝓛 (ScatteredElements (R E) cs) T new κ q b o b at γ (all 𝓤 (RunAgain E 𝓛 b cs i (length xs) o at)) (back at (length xs)) code code xs) $ await ! tt $ pick ! (λ δ. split3 ! $
         use2 𝓛 (‵ ((MutSlice (named 0) κ (R E)).own_val (record { ref_ptr = (b, at); ghost_name = δ; now = xs }) (slice_val (b, at) (length xs) ∷ []))) (slice_of 𝓛 (R E) (named 0) κ b at δ xs (omega arith, times_below (length xs) (length cs) s (2 ^ 63) (omega arith) small)) $
         rewrite ! 0 (λ (k : ℕ). ‵ ((MutSlice (named 0) κ (R E)).own_val (record { ref_ptr = (b, at); ghost_name = δ; now = xs }) (slice_val (b, at) k ∷ []))) long refl $ move ! (1 ∷ []) $ split ! $
         returns ! (look_at ! 0 refl) $ free_all ! refl $ keep ! (2 ∷ 0 ∷ 1 ∷ 3 ∷ []) $ by ! (exits vals (slice_val (b, at) n) (record { ref_ptr = (b, at); ghost_name = δ; now = xs }) filled))))
       where
-        back : (at m : ℕ) (ws : List (el_x E)) → ent 𝓤 (sep 𝓤 (sem 𝓛 ((Arr (mem (R E)) m).own_at ws b at)) (all 𝓤 (RunAgain E 𝓛 b cs i m o at))) (sem 𝓛 (strewn (R E) b o cs (new ws)))
+        back : (at m : ℕ) (ws : List (el_x E)) → ent 𝓤 (sep 𝓤 (sem 𝓛 ((Arr (mem (R E)) m).own_at ws b at)) (all 𝓤 (RunAgain E 𝓛 b cs i m o at))) (sem 𝓛 (scattered (R E) b o cs (new ws)))
         back at m ws = qed 𝓛 (‵ ((Arr (mem (R E)) m).own_at ws b at) ∷ raw (all 𝓤 (RunAgain E 𝓛 b cs i m o at)) ∷ []) ∵ move ! (1 ∷ []) $
-            use1 𝓛 (raw (RunAgain E 𝓛 b cs i m o at ws)) (all_e 𝓤 (RunAgain E 𝓛 b cs i m o at) ws) $ move ! (1 ∷ 0 ∷ []) $ by ! (apply∗ 𝓤 (sem 𝓛 ((Arr (mem (R E)) m).own_at ws b at)) (sem 𝓛 (strewn (R E) b o cs (new ws))))
+            use1 𝓛 (raw (RunAgain E 𝓛 b cs i m o at ws)) (all_e 𝓤 (RunAgain E 𝓛 b cs i m o at) ws) $ move ! (1 ∷ 0 ∷ []) $ by ! (apply∗ 𝓤 (sem 𝓛 ((Arr (mem (R E)) m).own_at ws b at)) (sem 𝓛 (scattered (R E) b o cs (new ws))))
 
   entry : (us : List Val × List Val × List Val) → IsRun cs i n → ent 𝓤 (on_entry 𝓛 (F.ended E.row).signature (κ, (κ₁, tt)) (q, (q₁, tt)) (d, (i, (n, tt))) (us.0, (us.1, (us.2, tt)))) (WpFn 𝓤 H C Λ (function E) (us.0 ++ (us.1 ++ (us.2 ++ []))) (Post us))
   entry us asked =

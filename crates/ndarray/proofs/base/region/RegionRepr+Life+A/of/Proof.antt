@@ -44,9 +44,9 @@ use lib.ListN.{length, length-map}
 use Rattle.std.specs.Prelude.{Option, Some}
 use Rattle.core.proofs.mem.Param.{El, R, args, el_x}
 use contract.BorrowLft.{◌⊑◌}
-use Rattle.ndarray.specs.base.Strewn.{Strewn, strewn, region_owns}
-use Rattle.ndarray.proofs.Slots.{somes_all}
-use Rattle.ndarray.proofs.Memory.{lives_as, Rg, Words, reg, words_made, of_cells, to_cells}
+use Rattle.ndarray.specs.base.Scattered.{ScatteredElements, scattered, region_owns}
+use Rattle.ndarray.proofs.regions.Slots.{somes_all}
+use Rattle.ndarray.proofs.regions.Memory.{lives_as, Rg, Words, reg, words_made, of_cells, to_cells}
 use Rattle.ndarray.specs.contracts.base.region.Life as Life-type
 use Rattle.ndarray.specs.contracts.base.region.RegionRepr+Life+A.of as F
 use Rattle.ndarray.specs.contracts.base.region.RegionRepr+Life+A.of.Key.{name as #self}
@@ -93,7 +93,7 @@ module _ (E : El) {M : Type 1} {𝓤 : Ura M} (𝓛 : Logic 𝓤) (at_mem : Memo
   n = length xs
 
   abbrev part : GName → (Rg a E).Denot
-  part δ = record { ptr = block_ptr b o; mark = record {}; name = δ; tie = δ; slots = all }
+  part δ = record { ptr = block_ptr b o; marker = record {}; name = δ; reborrow_name = δ; slots = all }
 
   abbrev out : Val
   out = reg (block_ptr b o)
@@ -113,9 +113,9 @@ module _ (E : El) {M : Type 1} {𝓤 : Ura M} (𝓛 : Logic 𝓤) (at_mem : Memo
       let code = (coded_list (R E).coded).code xs in let s = (mem (R E)).size in
       qed 𝓛 Had ∵ enter ! C Λ (function E) (slice_val (b, o) n ∷ []) _ $ alloc_all ! (λ l. pass_all ! refl ((tt, (tt, (record { fits = rm.0 }, tt))), tt) $
       open_ref ! tt (Arr (mem (R E)) n) {x = xs} {b = b} {o = o} $ fsplit ! $ drop ! $
-      use1 𝓛 (‵ (strewn (R E) b o all xs)) (of_cells E 𝓛 b xs o) $ nothing ! $ move ! (2 ∷ 3 ∷ 4 ∷ 1 ∷ 0 ∷ []) $ group ! 5 $
-      use1 𝓛 (later (some (λ (δ : GName). ‵ (fobs δ ((coded_list (R E).coded).code xs)) ⊛ ‵ (fbor κ (Borrowed (Strewn (R E) all) b o δ)) ⊛ ‵ (flft κ q) ⊛ ‵ (after (Arr (mem (R E)) n) (Strewn (R E) all) γ δ (λ ws. ws)))))
-      (takes_part 𝓛 (Arr (mem (R E)) n) (Strewn (R E) all) (λ ws. ws) κ q b o b o γ (emp 𝓤) back code code xs) $ await ! tt $ pick ! (λ δ. split3 ! $
+      use1 𝓛 (‵ (scattered (R E) b o all xs)) (of_cells E 𝓛 b xs o) $ nothing ! $ move ! (2 ∷ 3 ∷ 4 ∷ 1 ∷ 0 ∷ []) $ group ! 5 $
+      use1 𝓛 (later (some (λ (δ : GName). ‵ (fobs δ ((coded_list (R E).coded).code xs)) ⊛ ‵ (fbor κ (Borrowed (ScatteredElements (R E) all) b o δ)) ⊛ ‵ (flft κ q) ⊛ ‵ (after (Arr (mem (R E)) n) (ScatteredElements (R E) all) γ δ (λ ws. ws)))))
+      (takes_part 𝓛 (Arr (mem (R E)) n) (ScatteredElements (R E) all) (λ ws. ws) κ q b o b o γ (emp 𝓤) back code code xs) $ await ! tt $ pick ! (λ δ. split3 ! $
       rewrite ! 0 (λ (zs : List (el_x E)). ‵ (fobs δ ((coded_list (R E).coded).code zs))) (sym (somes_all xs)) refl $ fjoin ! $
       flt_i ! (length all * s) (2 ^ 63) (subst (λ k. k * s < 2 ^ 63) (sym (length-map xs Some)) rm.1) $ fjoin ! $
       rewrite ! 0 (λ (k : Lft). ‵ (region_owns k (R E) (block_ptr b o) δ all)) life refl $
@@ -124,8 +124,8 @@ module _ (E : El) {M : Type 1} {𝓤 : Ura M} (𝓛 : Logic 𝓤) (at_mem : Memo
       sets ! (agg ! (no_more !)) refl (tt, tt) $ sets ! (agg ! (and_then ! (get ! refl) (and_then ! (get ! refl) (no_more !)))) refl (tt, (tt, (tt, tt))) $
       returns ! (look_at ! 0 refl) $ free_all ! refl $ keep ! (2 ∷ 0 ∷ 1 ∷ 3 ∷ []) $ by ! (exits δ)))
     where
-      back : (ws : List (el_x E)) → ent 𝓤 (sep 𝓤 (sem 𝓛 (strewn (R E) b o all ws)) (emp 𝓤)) (sem 𝓛 ((Arr (mem (R E)) n).own_at ws b o))
-      back ws = via 𝓤 _ (fst∗ 𝓤 (sem 𝓛 (strewn (R E) b o all ws)) (emp 𝓤)) (to_cells E 𝓛 b xs ws o)
+      back : (ws : List (el_x E)) → ent 𝓤 (sep 𝓤 (sem 𝓛 (scattered (R E) b o all ws)) (emp 𝓤)) (sem 𝓛 ((Arr (mem (R E)) n).own_at ws b o))
+      back ws = via 𝓤 _ (fst∗ 𝓤 (sem 𝓛 (scattered (R E) b o all ws)) (emp 𝓤)) (to_cells E 𝓛 b xs ws o)
 
   entry : ent 𝓤 (on_entry 𝓛 (F.ended E.row).signature (κ, (κ₁, tt)) (q, (q₁, tt)) (self, tt) (us0, tt)) (WpFn 𝓤 H C Λ (function E) (us0 ++ []) Post)
   entry =

@@ -11,7 +11,7 @@ use denote.Struct.Lending.{of_Lends}
 use Rattle.core.specs.contracts.marker.PhantomData as P
 use Rattle.ndarray.specs.contracts.base.region.RegionRepr as C
 use Rattle.ndarray.proofs.base.region.RegionRepr.TheLaw.Statement.{statement}
-use Rattle.ndarray.proofs.Sharing.{region_lent_laws, Lends-region}
+use Rattle.ndarray.proofs.regions.Sharing.{region_lent_laws, Lends-region}
 
 pub shares : (a : RattleType) (T : RattleType) (La : Laws a) (L : Laws T) → statement a T La L
 shares a T La L = of_Lends (C.struct a T) (C.the_codes a.Denot T.Denot a.coded T.coded (P.the_row a).coded) (C.the_heap a T) (C.the_lent a T)

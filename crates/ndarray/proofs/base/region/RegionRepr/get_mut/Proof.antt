@@ -24,9 +24,9 @@ use Rattle.std.specs.Prelude.{Some, None}
 use Rattle.std_alloc.proofs.VecSteps.Shapes.{after as rest_after}
 use Rattle.core.proofs.ptr.Rows.{times_below, one_below}
 use Rattle.ndarray.specs.base.Slots.{IsFilled}
-use Rattle.ndarray.specs.base.Strewn.{strewn}
-use Rattle.ndarray.proofs.Slots.{filled_within, fill_set, fill}
-use Rattle.ndarray.proofs.Memory.{Again, value_out}
+use Rattle.ndarray.specs.base.Scattered.{scattered}
+use Rattle.ndarray.proofs.regions.Slots.{filled_within, fill_set, fill}
+use Rattle.ndarray.proofs.regions.Memory.{Again, value_out}
 use base.Logic.{SProp, ent, sep, never, id⊢}
 use base.Fml.{Lft, GName, Share, ftrue, fsep, flft, fobs, fbor}
 use prog.Memory.{Memory}
@@ -68,9 +68,9 @@ use Rattle.core.proofs.mem.Param.{El, R, el_x}
 use contract.BorrowLft.{◌⊑◌, ⊑_trans}
 use Rattle.ndarray.specs.base.Slots.{somes}
 use Rattle.ndarray.specs.base.Follows.{with_slots}
-use Rattle.ndarray.specs.base.Strewn.{Strewn, region_owns}
-use Rattle.ndarray.proofs.Memory.{Rg, Words, reg, words_had, words_made}
-use Rattle.ndarray.proofs.LentAgain.{lends}
+use Rattle.ndarray.specs.base.Scattered.{ScatteredElements, region_owns}
+use Rattle.ndarray.proofs.regions.Memory.{Rg, Words, reg, words_had, words_made}
+use Rattle.ndarray.proofs.regions.Reborrows.{lends}
 use Rattle.ndarray.specs.contracts.base.region.RegionRepr as G-type
 use Rattle.ndarray.specs.contracts.base.region.RegionRepr.get_mut as C-fn
 use Rattle.ndarray.specs.contracts.base.region.RegionRepr.get_mut.Key.{name as #self}
@@ -178,22 +178,22 @@ module _ (E W : El) {M : Type 1} {𝓤 : Ura M} (𝓛 : Logic 𝓤) (at_mem : Me
       fpack ! (List Val) (λ us. fsep (cell_at full_share (Words a E).mir us rb ro) ((Words a E).own_val (d.ptr, (tt, tt)) us)) (reg d.ptr ∷ []) $ move ! (1 ∷ []) $
       flt_i ! (length cs * (mem (R E)).size) (2 ^ 63) small $ fjoin ! $ rewrite ! 0 (λ (p : Ptr). ‵ (region_owns a.lives (R E) p d.name cs)) (sym e) refl $ move ! (1 ∷ 0 ∷ []) $
       use2 𝓛 (‵ (part_at (Rg a E) full_share d rb ro)) (part_in 𝓛 (G-type.the_type a (R E)) full_share d rb ro) $ close_ref ! tt (mem (Rg a E)) d $
-      use3 𝓛 (later (some (λ (ν : GName). ‵ (fobs ν ((Strewn (R E) cs).coded.code (somes cs))) ⊛ ‵ (fbor κ (Borrowed (Strewn (R E) cs) b o ν)) ⊛ ‵ (flft κ q) ⊛ ‵ (after (mem (Rg a E)) (Strewn (R E) cs) γ ν F'))))
+      use3 𝓛 (later (some (λ (ν : GName). ‵ (fobs ν ((ScatteredElements (R E) cs).coded.code (somes cs))) ⊛ ‵ (fbor κ (Borrowed (ScatteredElements (R E) cs) b o ν)) ⊛ ‵ (flft κ q) ⊛ ‵ (after (mem (Rg a E)) (ScatteredElements (R E) cs) γ ν F'))))
       (lends a E 𝓛 κ inm q rb ro γ d b o e) $ await ! tt $ pick ! (λ ν. split3 ! $ move ! (2 ∷ []) $ cut_item ! $ move ! (2 ∷ 3 ∷ 0 ∷ []) $
-      let at = i * s + o in let code = (Strewn (R E) cs).coded.code (somes cs) in
-      open_ref ! tt (Strewn (R E) cs) {x = somes cs} {b = b} {o = o} $
+      let at = i * s + o in let code = (ScatteredElements (R E) cs).coded.code (somes cs) in
+      open_ref ! tt (ScatteredElements (R E) cs) {x = somes cs} {b = b} {o = o} $
       use1 𝓛 (‵ ((mem (R E)).own_at x b at) ⊛ raw (all 𝓤 (Again E 𝓛 b cs i o at))) (value_out E 𝓛 b cs i o at x refl asked.1) $ cut_item ! $
       move ! (2 ∷ 3 ∷ 4 ∷ 0 ∷ 1 ∷ []) $ group ! 5 $
-      use1 𝓛 (later (some (λ (δ : GName). ‵ (fobs δ ((R E).coded.code x)) ⊛ ‵ (fbor κ (Borrowed (mem (R E)) b at δ)) ⊛ ‵ (flft κ q) ⊛ ‵ (after (Strewn (R E) cs) (mem (R E)) ν δ G'))))
-      (takes_part 𝓛 (Strewn (R E) cs) (mem (R E)) G' κ q b o b at ν (all 𝓤 (Again E 𝓛 b cs i o at)) (back b o at) code code x) $ await ! tt $ pick ! (λ δ. split3 ! $
+      use1 𝓛 (later (some (λ (δ : GName). ‵ (fobs δ ((R E).coded.code x)) ⊛ ‵ (fbor κ (Borrowed (mem (R E)) b at δ)) ⊛ ‵ (flft κ q) ⊛ ‵ (after (ScatteredElements (R E) cs) (mem (R E)) ν δ G'))))
+      (takes_part 𝓛 (ScatteredElements (R E) cs) (mem (R E)) G' κ q b o b at ν (all 𝓤 (Again E 𝓛 b cs i o at)) (back b o at) code code x) $ await ! tt $ pick ! (λ δ. split3 ! $
       feq_i ! (List Val) (vptr b at ∷ []) (vptr b at ∷ []) refl $ fjoin3 ! $ move ! (1 ∷ []) $ cut_item ! $ move ! (3 ∷ 1 ∷ []) $
       use2 𝓛 (‵ (follows (Rg a E) (R E) γ δ (λ w. F' (G' w)))) (follows_then 𝓛 (Rg a E) (Array (R E) 0) (R E) F' G' γ ν δ) $
       rewrite ! 0 (λ (K : el_x E → (Rg a E).Denot). ‵ (follows (Rg a E) (R E) γ δ K)) (λ j w. with_slots d (fill_set cs i x w asked.1 j)) refl $
       returns ! (look_at ! 0 refl) $ free_all ! refl $ keep ! (2 ∷ 1 ∷ 0 ∷ 3 ∷ []) $ by ! (exits (vptr b at) (record { ref_ptr = (b, at); ghost_name = δ; now = x }) asked.1))))))))
     where
-      back : (b o at : ℕ) (w : el_x E) → ent 𝓤 (sep 𝓤 (sem 𝓛 ((mem (R E)).own_at w b at)) (all 𝓤 (Again E 𝓛 b cs i o at))) (sem 𝓛 (strewn (R E) b o cs (G' w)))
+      back : (b o at : ℕ) (w : el_x E) → ent 𝓤 (sep 𝓤 (sem 𝓛 ((mem (R E)).own_at w b at)) (all 𝓤 (Again E 𝓛 b cs i o at))) (sem 𝓛 (scattered (R E) b o cs (G' w)))
       back b o at w = qed 𝓛 (‵ ((mem (R E)).own_at w b at) ∷ raw (all 𝓤 (Again E 𝓛 b cs i o at)) ∷ []) ∵ move ! (1 ∷ []) $
-          use1 𝓛 (raw (Again E 𝓛 b cs i o at w)) (all_e 𝓤 (Again E 𝓛 b cs i o at) w) $ move ! (1 ∷ 0 ∷ []) $ by ! (apply∗ 𝓤 (sem 𝓛 ((mem (R E)).own_at w b at)) (sem 𝓛 (strewn (R E) b o cs (G' w))))
+          use1 𝓛 (raw (Again E 𝓛 b cs i o at w)) (all_e 𝓤 (Again E 𝓛 b cs i o at) w) $ move ! (1 ∷ 0 ∷ []) $ by ! (apply∗ 𝓤 (sem 𝓛 ((mem (R E)).own_at w b at)) (sem 𝓛 (scattered (R E) b o cs (G' w))))
 
   entry : (us : List Val × List Val) → IsFilled cs i → ent 𝓤 (on_entry 𝓛 (end E W).signature z.0.0 z.0.1 z.0.3 (us.0, (us.1, tt))) (WpFn 𝓤 H C Λ (function E W) (us.0 ++ (us.1 ++ [])) (Post us))
   entry us asked =

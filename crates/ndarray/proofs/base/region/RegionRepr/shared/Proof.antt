@@ -41,12 +41,12 @@ use denote.Triple.Table.{entered}
 use denote.Triple.Walked.{says, Stays, stay_dropped, walk_of, ends_at, walk_Meets}
 use Rattle.std.specs.Prelude.{Option}
 use Rattle.core.proofs.mem.Param.{El, el_x}
-use Rattle.ndarray.proofs.Memory.{Rg, Words}
+use Rattle.ndarray.proofs.regions.Memory.{Rg, Words}
 use Rattle.ndarray.specs.contracts.base.region.RegionRepr.shared as C-fn
 use Rattle.ndarray.specs.contracts.base.region.RegionRepr.shared.Key.{name as #self}
 use Rattle.ndarray.proofs.base.region.RegionRepr.shared.Statement as stated
 use Rattle.ndarray.proofs.base.region.RegionRepr.shared.Code as code
-use Rattle.ndarray.proofs.Readings.{Sn, lent_read}
+use Rattle.ndarray.proofs.regions.SharedRegions.{Sn, lent_read}
 
 module _ (E W : El) where
   abbrev args : Args
@@ -74,7 +74,7 @@ module _ (E W : El) {M : Type 1} {𝓤 : Ura M} (𝓛 : Logic 𝓤) (at_mem : Me
   a = param 1 W.row
 
   abbrev d' : (Sn E).Denot
-  d' = record { ptr = z.0.3.0.now.ptr; mark = record {}; slots = z.0.3.0.now.slots }
+  d' = record { ptr = z.0.3.0.now.ptr; marker = record {}; slots = z.0.3.0.now.slots }
 
   abbrev rb : ℕ
   rb = z.0.3.0.ref_ptr.0

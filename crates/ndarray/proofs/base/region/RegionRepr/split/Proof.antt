@@ -51,10 +51,10 @@ use denote.Exit.{yes}
 use denote.Triple.Walked.{Goes-dropped}
 use mir.Val.{vptr}
 use types.Kit.{feq_l}
-use Rattle.ndarray.specs.base.Slots.{somes, kept, others, weave}
-use Rattle.ndarray.specs.base.Strewn.{Strewn, strewn, region_owns}
-use Rattle.ndarray.proofs.Slots.{length-kept, length-others}
-use Rattle.ndarray.proofs.Memory.{Rg, Words, reg, words_had, words_made, pair_val, two_of, says_both, cut, mend}
+use Rattle.ndarray.specs.base.Slots.{somes, slots_in, slots_outside, weave}
+use Rattle.ndarray.specs.base.Scattered.{ScatteredElements, scattered, region_owns}
+use Rattle.ndarray.proofs.regions.Slots.{length-slots_in, length-slots_outside}
+use Rattle.ndarray.proofs.regions.Memory.{Rg, Words, reg, words_had, words_made, pair_val, two_of, says_both, cut, mend}
 use Rattle.ndarray.specs.contracts.base.region.RegionRepr.split as F
 use Rattle.ndarray.specs.contracts.base.region.RegionRepr.split.Key.{name as #self}
 use Rattle.ndarray.proofs.base.region.RegionRepr.split.Statement as stated
@@ -73,7 +73,7 @@ module _ (E W N : El) where
   abbrev end : Ended
   end = F.ended E.row W.row N.row
 
-  abbrev stayed : Stays end.signature.params end.kept
+  abbrev stayed : Stays end.signature.params end.slots_in
   stayed = (stay_dropped (plain (λ _. Rg (param 1 W.row) E)) no, (stay_dropped (RefOf (0 ∷ []) tt (plain (λ _. Q)) (λ _. tt)) yes, tt))
 
 module _ (E W N : El) {M : Type 1} {𝓤 : Ura M} (𝓛 : Logic 𝓤) (at_mem : Memory → SProp 𝓤) (run : Routine → Fun 𝓤) (C : Calls 𝓤 𝓛.H) (Λ : Loops 𝓤 𝓛.H)
@@ -132,7 +132,7 @@ module _ (E W N : El) {M : Type 1} {𝓤 : Ura M} (𝓛 : Logic 𝓤) (at_mem : 
   Two = Tuple (Rg a E ∷ Rg a E ∷ [])
 
   abbrev part : List (Option (el_x E)) → GName → (Rg a E).Denot
-  part ds δ = record { ptr = d.ptr; mark = record {}; name = δ; tie = d.tie; slots = ds }
+  part ds δ = record { ptr = d.ptr; marker = record {}; name = δ; reborrow_name = d.reborrow_name; slots = ds }
 
   module _ (b o : ℕ) (e : d.ptr ≡ block_ptr b o) where
     abbrev me : Val
@@ -145,17 +145,17 @@ module _ (E W N : El) {M : Type 1} {𝓤 : Ura M} (𝓛 : Logic 𝓤) (at_mem : 
     pair = pair_val me me
 
     exits : (γs : GName × GName)
-        → ent 𝓤 (⋆ 𝓛 (‵ (Two.own_val (part (kept m cs) γs.0, part (others m cs) γs.1) (pair ∷ [])) ∷ ‵ (follows_both (Array (R E) 0) (Array (R E) 0) (Array (R E) 0) γ γs.0 γs.1 (weave m cs)) ∷ tokens ∷ [])) (Post vals pair)
+        → ent 𝓤 (⋆ 𝓛 (‵ (Two.own_val (part (slots_in m cs) γs.0, part (slots_outside m cs) γs.1) (pair ∷ [])) ∷ ‵ (follows_both (Array (R E) 0) (Array (R E) 0) (Array (R E) 0) γ γs.0 γs.1 (weave m cs)) ∷ tokens ∷ [])) (Post vals pair)
     exits γs =
-        let both : Two.Denot = (part (kept m cs) γs.0, part (others m cs) γs.1) in
+        let both : Two.Denot = (part (slots_in m cs) γs.0, part (slots_outside m cs) γs.1) in
         qed 𝓛 (‵ (Two.own_val both (pair ∷ [])) ∷ ‵ (follows_both (Array (R E) 0) (Array (R E) 0) (Array (R E) 0) γ γs.0 γs.1 (weave m cs)) ∷ tokens ∷ []) ∵
         suffices ! _ (ends_at 𝓛 (end E W N) (stayed E W N) spec (At vals) pair both (tt, (tt, tt)) (tt, (tt, tt))) $
         nothing ! $ nothing ! $ fjoin ! $ nothing ! $ fjoin ! $ join ! $ move ! (2 ∷ []) $ join ! $ frame ! $ says_both ! refl refl $ done !
 
     -- one part, from its loan
     made : (ds : List (Option (el_x E))) (δ : GName) → length ds * (mem (R E)).size < 2 ^ 63
-        → ent 𝓤 (sep 𝓤 (A.obs δ ((Strewn (R E) ds).coded.code (somes ds))) (A.bor κ (Borrowed (Strewn (R E) ds) b o δ))) (sem 𝓛 ((Rg a E).own_val (part ds δ) (me ∷ [])))
-    made ds δ small = qed 𝓛 (‵ (fobs δ ((Strewn (R E) ds).coded.code (somes ds))) ∷ ‵ (fbor κ (Borrowed (Strewn (R E) ds) b o δ)) ∷ []) ∵ fjoin ! $
+        → ent 𝓤 (sep 𝓤 (A.obs δ ((ScatteredElements (R E) ds).coded.code (somes ds))) (A.bor κ (Borrowed (ScatteredElements (R E) ds) b o δ))) (sem 𝓛 ((Rg a E).own_val (part ds δ) (me ∷ [])))
+    made ds δ small = qed 𝓛 (‵ (fobs δ ((ScatteredElements (R E) ds).coded.code (somes ds))) ∷ ‵ (fbor κ (Borrowed (ScatteredElements (R E) ds) b o δ)) ∷ []) ∵ fjoin ! $
         flt_i ! (length ds * (mem (R E)).size) (2 ^ 63) small $ fjoin ! $ rewrite ! 0 (λ (p : Ptr). ‵ (region_owns κ (R E) p δ ds)) (sym e) refl $
         use0 𝓛 (‵ ((Words a E).own_val (d.ptr, (tt, tt)) (reg d.ptr ∷ []))) (words_made a E 𝓛 d.ptr) $ rewrite ! 0 (λ (p : Ptr). ‵ ((Words a E).own_val (d.ptr, (tt, tt)) (reg p ∷ []))) e refl $ fjoin ! $ done !
 
@@ -165,18 +165,18 @@ module _ (E W N : El) {M : Type 1} {𝓤 : Ura M} (𝓛 : Logic 𝓤) (at_mem : 
     walk : ent 𝓤 (⋆ 𝓛 Had) (WpFn 𝓤 H C Λ (function E W N) (me ∷ vptr rb ro ∷ []) (Post vals))
     unfolding both_by
     walk =
-        let left = kept m cs in let right = others m cs in
+        let left = slots_in m cs in let right = slots_outside m cs in
         qed 𝓛 Had ∵ enter ! C Λ (function E W N) (me ∷ vptr rb ro ∷ []) _ $ alloc_all ! (λ l. pass_all ! refl ((tt, (tt, (tt, tt))), ((tt, tt), tt)) $
         fsplit ! $ flt_l ! (λ small. fsplit ! $ move ! (2 ∷ []) $ use1 𝓛 (‵ (flft κ q) ⊛ raw (wand 𝓤 (A.lft κ q) Tokens)) token $ cut_item ! $ move ! (2 ∷ 3 ∷ 0 ∷ []) $
-        let s = (mem (R E)).size in let code = (Strewn (R E) cs).coded.code (somes cs) in
-        open_ref ! tt (Strewn (R E) cs) {x = somes cs} {b = b} {o = o} $
-        use1 𝓛 (‵ (strewn (R E) b o left (somes left)) ⊛ ‵ (strewn (R E) b o right (somes right))) (cut E 𝓛 b m cs o) $ cut_item ! $
+        let s = (mem (R E)).size in let code = (ScatteredElements (R E) cs).coded.code (somes cs) in
+        open_ref ! tt (ScatteredElements (R E) cs) {x = somes cs} {b = b} {o = o} $
+        use1 𝓛 (‵ (scattered (R E) b o left (somes left)) ⊛ ‵ (scattered (R E) b o right (somes right))) (cut E 𝓛 b m cs o) $ cut_item ! $
         nothing ! $ move ! (3 ∷ 4 ∷ 5 ∷ 1 ∷ 2 ∷ 0 ∷ []) $ group ! 6 $
-        use1 𝓛 (later (some (λ (γs : GName × GName). (‵ (fobs γs.0 ((Strewn (R E) left).coded.code (somes left))) ⊛ ‵ (fbor κ (Borrowed (Strewn (R E) left) b o γs.0))) ⊛ (‵ (fobs γs.1 ((Strewn (R E) right).coded.code (somes right))) ⊛ ‵ (fbor κ (Borrowed (Strewn (R E) right) b o γs.1)))
-        ⊛ ‵ (flft κ q) ⊛ ‵ (after₂ (Strewn (R E) cs) (Strewn (R E) left) (Strewn (R E) right) γ γs.0 γs.1 (weave m cs)))))
-        (takes_two 𝓛 (Strewn (R E) cs) (Strewn (R E) left) (Strewn (R E) right) (weave m cs) κ q b o b o b o γ (emp 𝓤) back code code (somes left) (somes right)) $ await ! tt $ pick ! (λ γs. split3 ! $
-        use1 𝓛 (‵ ((Rg a E).own_val (part left γs.0) (me ∷ []))) (made left γs.0 (subst (λ k. k * s < 2 ^ 63) (sym (length-kept m cs)) small)) $ move ! (1 ∷ []) $
-        use1 𝓛 (‵ ((Rg a E).own_val (part right γs.1) (me ∷ []))) (made right γs.1 (subst (λ k. k * s < 2 ^ 63) (sym (length-others m cs)) small)) $ move ! (1 ∷ 0 ∷ []) $
+        use1 𝓛 (later (some (λ (γs : GName × GName). (‵ (fobs γs.0 ((ScatteredElements (R E) left).coded.code (somes left))) ⊛ ‵ (fbor κ (Borrowed (ScatteredElements (R E) left) b o γs.0))) ⊛ (‵ (fobs γs.1 ((ScatteredElements (R E) right).coded.code (somes right))) ⊛ ‵ (fbor κ (Borrowed (ScatteredElements (R E) right) b o γs.1)))
+        ⊛ ‵ (flft κ q) ⊛ ‵ (after₂ (ScatteredElements (R E) cs) (ScatteredElements (R E) left) (ScatteredElements (R E) right) γ γs.0 γs.1 (weave m cs)))))
+        (takes_two 𝓛 (ScatteredElements (R E) cs) (ScatteredElements (R E) left) (ScatteredElements (R E) right) (weave m cs) κ q b o b o b o γ (emp 𝓤) back code code (somes left) (somes right)) $ await ! tt $ pick ! (λ γs. split3 ! $
+        use1 𝓛 (‵ ((Rg a E).own_val (part left γs.0) (me ∷ []))) (made left γs.0 (subst (λ k. k * s < 2 ^ 63) (sym (length-slots_in m cs)) small)) $ move ! (1 ∷ []) $
+        use1 𝓛 (‵ ((Rg a E).own_val (part right γs.1) (me ∷ []))) (made right γs.1 (subst (λ k. k * s < 2 ^ 63) (sym (length-slots_outside m cs)) small)) $ move ! (1 ∷ 0 ∷ []) $
         use2 𝓛 (‵ (Two.own_val (part left γs.0, part right γs.1) (pair ∷ []))) (two_of 𝓛 (Rg a E) (Rg a E) (part left γs.0) (part right γs.1) me me) $ move ! (1 ∷ []) $ cut_item ! $ move ! (0 ∷ 3 ∷ []) $ use2 𝓛 tokens (apply∗ 𝓤 (A.lft κ q) Tokens) $
         sets ! (of_opd ! (get_in ! (fld ! refl (stop !)) (sub ! 0 refl (whole !)))) refl (tt, tt) $
         sets ! (agg ! (no_more !)) refl (tt, tt) $ sets ! (agg ! (and_then ! (get ! refl) (and_then ! (get ! refl) (no_more !)))) refl (tt, (tt, (tt, tt))) $
@@ -184,9 +184,9 @@ module _ (E W N : El) {M : Type 1} {𝓤 : Ura M} (𝓛 : Logic 𝓤) (at_mem : 
         sets ! (agg ! (and_then ! (get ! refl) (and_then ! (get ! refl) (no_more !)))) refl (tt, ((tt, (tt, tt)), ((tt, (tt, tt)), tt))) $
         returns ! (look_at ! 0 refl) $ free_all ! refl $ keep ! (2 ∷ 1 ∷ 0 ∷ []) $ by ! (exits γs))))
       where
-        back : (xs ys : List (el_x E)) → ent 𝓤 (sep 𝓤 (sem 𝓛 (strewn (R E) b o (kept m cs) xs)) (sep 𝓤 (sem 𝓛 (strewn (R E) b o (others m cs) ys)) (emp 𝓤))) (sem 𝓛 (strewn (R E) b o cs (weave m cs xs ys)))
-        back xs ys = qed 𝓛 (‵ (strewn (R E) b o (kept m cs) xs) ∷ ‵ (strewn (R E) b o (others m cs) ys) ∷ raw (emp 𝓤) ∷ []) ∵
-            use2 𝓛 (‵ (strewn (R E) b o cs (weave m cs xs ys))) (mend E 𝓛 b m cs xs ys o) $ keep ! (0 ∷ []) $ done !
+        back : (xs ys : List (el_x E)) → ent 𝓤 (sep 𝓤 (sem 𝓛 (scattered (R E) b o (slots_in m cs) xs)) (sep 𝓤 (sem 𝓛 (scattered (R E) b o (slots_outside m cs) ys)) (emp 𝓤))) (sem 𝓛 (scattered (R E) b o cs (weave m cs xs ys)))
+        back xs ys = qed 𝓛 (‵ (scattered (R E) b o (slots_in m cs) xs) ∷ ‵ (scattered (R E) b o (slots_outside m cs) ys) ∷ raw (emp 𝓤) ∷ []) ∵
+            use2 𝓛 (‵ (scattered (R E) b o cs (weave m cs xs ys))) (mend E 𝓛 b m cs xs ys o) $ keep ! (0 ∷ []) $ done !
 
   entry : (us : List Val × List Val) → ent 𝓤 (on_entry 𝓛 (end E W N).signature z.0.0 z.0.1 z.0.3 (us.0, (us.1, tt))) (WpFn 𝓤 H C Λ (function E W N) (us.0 ++ (us.1 ++ [])) (Post us))
   entry us =

@@ -3,7 +3,7 @@ use Rattle.std.specs.Prelude.{ℤ, pos, unsigned_abs, ◌-ℤ◌, ◌≤ℤ◌, 
 use Rattle.std.specs.Int.{div_ceil, cast_signed, cast_unsigned}
 use Rattle.std.proofs.lemmas.Int.{ints, to_z-of_z, of_z-to_z}
 use Rattle.ndarray.specs.Slices.{slice_end, slice_start}
-use Rattle.ndarray.proofs.Slices.{slice-ends, slice_length-is, ceil-is, size-pos, counted_from, counted_from-up, counted_from-down, slice_index-mod}
+use Rattle.ndarray.proofs.views.Slices.{slice-ends, slice_length-is, ceil-is, size-pos, counted_from, counted_from-up, counted_from-down, slice_index-mod}
 use Rattle.ndarray.proofs.base.slice.Slice.extent.Goals as goal
 use Rattle.ndarray.proofs.base.slice.Slice.extent.Goals.{then-self-gt0, else-self-gt0}
 

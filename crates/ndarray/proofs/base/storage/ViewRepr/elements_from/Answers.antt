@@ -2,7 +2,7 @@ use Rattle.std.proofs.Common.{arith, ◌≡◌, ◌∙◌, ap, sym, ℕ, ◌+◌
 use Rattle.std.specs.Prelude.{IsTrue, slice_get}
 use Rattle.std.specs.Option.{is_some}
 use Rattle.ndarray.specs.base.Storage.{seen_at}
-use Rattle.ndarray.proofs.SideBySide.{slice-within, IsRun-held, held-part}
+use Rattle.ndarray.proofs.strides.ContiguousCells.{slice-within, IsRun-held, held-part}
 use Rattle.ndarray.proofs.base.storage.ViewRepr.elements_from.Goals as goal
 use Rattle.ndarray.proofs.base.storage.ViewRepr.elements_from.Goals.{In-Slice}
 

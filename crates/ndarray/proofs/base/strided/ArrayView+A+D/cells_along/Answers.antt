@@ -2,11 +2,11 @@ use Rattle.std.proofs.Common.{◌≡◌, sym, ◌∙◌, ap, subst, arith, lengt
 use Rattle.std.specs.Prelude.{filter_map, All}
 use Rattle.ndarray.specs.Index.{InBox}
 use Rattle.ndarray.specs.Grid.{cell}
-use Rattle.ndarray.specs.order.Steps.{row_from}
+use Rattle.ndarray.specs.order.Ranks.{row_from}
 use Rattle.ndarray.specs.base.Storage.{seen_at}
 use Rattle.ndarray.specs.base.Strided.{places_from, HaveElements}
-use Rattle.ndarray.proofs.Boxes.{InBox-length}
-use Rattle.ndarray.proofs.Rows.{row-at, row-first, place-any}
+use Rattle.ndarray.proofs.boxes.Boxes.{InBox-length}
+use Rattle.ndarray.proofs.strides.Rows.{row-at, row-first, place-any}
 use Rattle.ndarray.proofs.base.strided.ArrayView+A+D.cells_along.Goals as goal
 use Rattle.ndarray.proofs.base.strided.ArrayView+A+D.cells_along.Goals.{After-stride}
 

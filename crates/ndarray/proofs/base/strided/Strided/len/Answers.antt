@@ -1,5 +1,5 @@
 use Rattle.std.proofs.Common.{sym, ◌∙◌, ap, length}
-use Rattle.ndarray.proofs.Rows.{length-stepped}
+use Rattle.ndarray.proofs.strides.Rows.{length-stepped}
 use Rattle.ndarray.proofs.base.strided.Strided.len.Goals as goal
 
 pub returns : goal.returns

@@ -1,7 +1,7 @@
 use Rattle.std.proofs.Common.{sym, ◌∙◌, ap, length, arith, [], ◌≡◌}
 use Rattle.std.proofs.lemmas.List.{nil_from_length}
 use Rattle.ndarray.specs.base.Storage.{seen_at}
-use Rattle.ndarray.proofs.Rows.{length-stepped, stepped-next, stepped-first}
+use Rattle.ndarray.proofs.strides.Rows.{length-stepped, stepped-next, stepped-first}
 use Rattle.ndarray.proofs.base.strided.Strided.next.Goals as goal
 
 pub returns-then-self-eq0 : goal.returns-then-self-eq0

@@ -1,6 +1,6 @@
 use Rattle.std.proofs.Common.{sym, ◌∙◌, arith}
 use Rattle.ndarray.specs.base.Storage.{seen_at}
-use Rattle.ndarray.proofs.Rows.{stepped-last, stepped-back}
+use Rattle.ndarray.proofs.strides.Rows.{stepped-last, stepped-back}
 use Rattle.ndarray.proofs.base.strided.Strided.next_back.Goals as goal
 
 pub get-requires : goal.get-requires

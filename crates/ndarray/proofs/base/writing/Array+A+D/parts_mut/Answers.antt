@@ -1,6 +1,6 @@
 use Rattle.std.proofs.Common.{refl}
 use Rattle.std.specs.Prelude.{slice_get}
-use Rattle.ndarray.proofs.Refilled.{refilled-at, Reaches-refilled, grid-refilled}
+use Rattle.ndarray.proofs.strides.OtherElements.{refilled-at, Reaches-refilled, grid-refilled}
 use Rattle.ndarray.proofs.base.writing.Array+A+D.parts_mut.Goals as goal
 
 pub invariant_of-self-lent : goal.invariant_of-self-lent

@@ -4,11 +4,11 @@ use Rattle.std.proofs.lemmas.List.{length-take-le, length-drop}
 use Rattle.std.proofs.lemmas.Option.{slice_get-get_or}
 use Rattle.ndarray.specs.Index.{InBox, size}
 use Rattle.ndarray.specs.base.Places.{place, Reaches}
-use Rattle.ndarray.specs.order.Steps.{rank}
-use Rattle.ndarray.proofs.Lists.{some-of}
-use Rattle.ndarray.proofs.Reached.{length-cells_at}
-use Rattle.ndarray.proofs.Refilled.{refilled-at, Reaches-refilled}
-use Rattle.ndarray.proofs.SideBySide.{side-there, side-cells, slice-part, slice-within}
+use Rattle.ndarray.specs.order.Ranks.{rank}
+use Rattle.ndarray.proofs.lists.Elements.{some-of}
+use Rattle.ndarray.proofs.strides.Reach.{length-cells_at}
+use Rattle.ndarray.proofs.strides.OtherElements.{refilled-at, Reaches-refilled}
+use Rattle.ndarray.proofs.strides.ContiguousCells.{side-there, side-cells, slice-part, slice-within}
 use Rattle.ndarray.proofs.base.writing.Array+A+D.write_slice.Goals as goal
 
 -- the places of cells that lie side by side are those of the slice

@@ -2,9 +2,9 @@ use Rattle.std.proofs.Common.{arith, ◌∙◌, ap, sym, subst, refl, length, ta
 use Rattle.std.proofs.lemmas.List.{nil_from_length}
 use Rattle.ndarray.specs.Grid.{IsGrid}
 use Rattle.ndarray.specs.base.Slots.{IsRun}
-use Rattle.ndarray.proofs.Reached.{length-cells_at}
-use Rattle.ndarray.proofs.Runs.{IsRun-cells, run-cells}
-use Rattle.ndarray.proofs.Slots.{same-run}
+use Rattle.ndarray.proofs.strides.Reach.{length-cells_at}
+use Rattle.ndarray.proofs.strides.Contiguous.{IsRun-cells, run-cells}
+use Rattle.ndarray.proofs.regions.Slots.{same-run}
 use Rattle.ndarray.proofs.base.writing.ArrayViewMut+A+D.try_into_slice.Goals as goal
 
 pub returns-then-len-eq0-clause-cells : goal.returns-then-len-eq0-clause-cells

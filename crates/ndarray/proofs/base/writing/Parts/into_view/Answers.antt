@@ -1,6 +1,6 @@
 use Rattle.std.proofs.Common.{sym}
-use Rattle.ndarray.proofs.Reached.{length-cells_at, grid_at-same, Reaches-same}
-use Rattle.ndarray.proofs.Slots.{held-slice}
+use Rattle.ndarray.proofs.strides.Reach.{length-cells_at, grid_at-same, Reaches-same}
+use Rattle.ndarray.proofs.regions.Slots.{held-slice}
 use Rattle.ndarray.proofs.base.writing.Parts.into_view.Goals as goal
 
 pub invariant_of-result : goal.invariant_of-result

@@ -1,9 +1,9 @@
 use Rattle.std.proofs.Common.{sym, ap, ◌∙◌, ◌≡◌, subst, filter_map, arith, length}
 use Rattle.ndarray.specs.Grid.{HasCells, cell}
 use Rattle.ndarray.specs.Orders.{HasInOrder, box_in}
-use Rattle.ndarray.proofs.Cells.{HasCells-box_in, cells_in-HasInOrder, length-along}
-use Rattle.ndarray.proofs.Orders.{box_in-within, length-box_in}
-use Rattle.ndarray.proofs.Sizes.{size-le}
+use Rattle.ndarray.proofs.cells.Cells.{HasCells-box_in, cells_in-HasInOrder, length-along}
+use Rattle.ndarray.proofs.boxes.Orders.{box_in-within, length-box_in}
+use Rattle.ndarray.proofs.boxes.Sizes.{size-le}
 use Rattle.ndarray.proofs.iter.elements.ElementsBase.in_order.Goals as goal
 use Rattle.ndarray.proofs.iter.elements.ElementsBase.in_order.Goals.{After-new-walk, After-no_cells}
 

@@ -1,5 +1,5 @@
 use Rattle.std.proofs.Common.{◌∙◌}
-use Rattle.ndarray.proofs.Cells.{along-row_order}
+use Rattle.ndarray.proofs.cells.Cells.{along-row_order}
 use Rattle.ndarray.proofs.iter.elements.ElementsBase.new.Goals as goal
 
 pub returns-clause-cells : goal.returns-clause-cells

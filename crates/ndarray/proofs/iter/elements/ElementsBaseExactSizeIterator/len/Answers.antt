@@ -1,7 +1,7 @@
 use Rattle.std.proofs.Common.{ap, length, arith, length-append}
 use Rattle.std.specs.Prelude.{filter_map}
 use Rattle.ndarray.specs.Grid.{cell}
-use Rattle.ndarray.proofs.Cells.{length-along}
+use Rattle.ndarray.proofs.cells.Cells.{length-along}
 use Rattle.ndarray.proofs.iter.elements.ElementsBaseExactSizeIterator.len.Goals as goal
 
 pub overflow_add-result : goal.overflow_add-result

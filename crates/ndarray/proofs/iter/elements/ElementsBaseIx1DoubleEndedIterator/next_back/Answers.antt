@@ -1,7 +1,7 @@
 use Rattle.std.proofs.Common.{rules, sym, ap, ◌∙◌, length, length-append, append_assoc, ◌++◌, ◌∷◌, []}
 use Rattle.std.specs.Prelude.{filter_map}
 use Rattle.ndarray.specs.Grid.{cell}
-use Rattle.ndarray.proofs.Cells.{along-last}
+use Rattle.ndarray.proofs.cells.Cells.{along-last}
 use Rattle.ndarray.proofs.iter.elements.ElementsBaseIx1DoubleEndedIterator.next_back.Goals as goal
 
 pub returns-in-Some-clause-steps : goal.returns-in-Some-clause-steps

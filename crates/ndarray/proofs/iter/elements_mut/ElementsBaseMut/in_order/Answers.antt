@@ -4,11 +4,11 @@ use Rattle.ndarray.specs.Limits.{IsWithinLimit}
 use Rattle.ndarray.specs.Orders.{HasInOrder, box_in, cells_in}
 use Rattle.ndarray.specs.base.Slots.{held_at}
 use Rattle.ndarray.specs.places.Lent.{AreLentAt}
-use Rattle.ndarray.proofs.Cells.{cells_in-HasInOrder, length-along}
-use Rattle.ndarray.proofs.Lent.{AreLentAt-all, found-all}
-use Rattle.ndarray.proofs.Orders.{box_in-within, length-box_in}
-use Rattle.ndarray.proofs.Reached.{length-cells_at}
-use Rattle.ndarray.proofs.Sizes.{size-le}
+use Rattle.ndarray.proofs.cells.Cells.{cells_in-HasInOrder, length-along}
+use Rattle.ndarray.proofs.moving.LentCells.{AreLentAt-all, found-all}
+use Rattle.ndarray.proofs.boxes.Orders.{box_in-within, length-box_in}
+use Rattle.ndarray.proofs.strides.Reach.{length-cells_at}
+use Rattle.ndarray.proofs.boxes.Sizes.{size-le}
 use Rattle.ndarray.proofs.iter.elements_mut.ElementsBaseMut.in_order.Goals as goal
 
 pub invariant_of-result : goal.invariant_of-result

@@ -2,7 +2,7 @@ use Rattle.std.proofs.Common.{ap, arith, length}
 use Rattle.std.specs.Prelude.{filter_map}
 use Rattle.std.proofs.lemmas.Slice.Zip.{length-zip}
 use Rattle.ndarray.specs.Grid.{cell}
-use Rattle.ndarray.proofs.Cells.{length-along}
+use Rattle.ndarray.proofs.cells.Cells.{length-along}
 use Rattle.ndarray.proofs.iter.indexed.IndexedIterExactSizeIterator.len.Goals as goal
 
 pub returns-clause-value : goal.returns-clause-value

@@ -1,8 +1,8 @@
 use Rattle.std.proofs.Common.{◌≡◌, ◌<◌, length, sym, ◌∙◌, ap, arith, subst, filter_map, slice_get}
 use Rattle.std.specs.Prelude.{All}
-use Rattle.ndarray.specs.places.Steps.{places_ahead, HasPassed}
-use Rattle.ndarray.proofs.Sizes.{size-le}
-use Rattle.ndarray.proofs.Stepped.{none-passed, cells-along, places-within}
+use Rattle.ndarray.specs.places.CellPlaces.{places_ahead, HasPassed}
+use Rattle.ndarray.proofs.boxes.Sizes.{size-le}
+use Rattle.ndarray.proofs.moving.CellPlaces.{none-passed, cells-along, places-within}
 use Rattle.ndarray.proofs.iter.into_iter.ArrayIntoIterator.into_iter.Goals as goal
 
 pub new-requires-in-Err-clause-within : goal.new-requires-in-Err-clause-within

@@ -1,6 +1,6 @@
 use Rattle.std.proofs.Common.{◌∙◌, ap, sym}
 use Rattle.ndarray.specs.base.Slots.{held_at}
-use Rattle.ndarray.proofs.Lent.{lent-next_back, AreLent-next_back, zip-next_back}
+use Rattle.ndarray.proofs.moving.LentCells.{lent-next_back, AreLent-next_back, zip-next_back}
 use Rattle.ndarray.proofs.places.lent.Places+A+Ix1.next_back.Goals as goal
 
 pub take-cell-requires : goal.take-cell-requires

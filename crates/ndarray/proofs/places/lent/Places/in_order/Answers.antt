@@ -4,8 +4,8 @@ use Rattle.ndarray.specs.places.Lent.{along, AreLent}
 use Rattle.ndarray.specs.Grid.{IsGrid}
 use Rattle.ndarray.specs.Limits.{IsWithinLimit}
 use Rattle.ndarray.specs.Orders.{box_in, cells_in}
-use Rattle.ndarray.proofs.Lent.{AreLent-all, along-all}
-use Rattle.ndarray.proofs.Reached.{length-cells_at}
+use Rattle.ndarray.proofs.moving.LentCells.{AreLent-all, along-all}
+use Rattle.ndarray.proofs.strides.Reach.{length-cells_at}
 use Rattle.ndarray.proofs.places.lent.Places.in_order.Goals as goal
 
 walked : (g : _) (c : goal.After-new-walk g) → c.new-walk.result ≡ box_in c.args.order (g.D.Lengths.numbers c.view.inside.layout.dim)

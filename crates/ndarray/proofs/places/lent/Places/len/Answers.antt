@@ -2,7 +2,7 @@ use Rattle.std.proofs.Common.{ap, arith, length}
 use Rattle.std.proofs.lemmas.Slice.Zip.{length-zip}
 use Rattle.ndarray.specs.base.Slots.{held_at}
 use Rattle.ndarray.specs.places.Lent.{along}
-use Rattle.ndarray.proofs.Lent.{length-along_lent}
+use Rattle.ndarray.proofs.moving.LentCells.{length-along_lent}
 use Rattle.ndarray.proofs.places.lent.Places.len.Goals as goal
 
 pub returns : goal.returns

@@ -1,6 +1,6 @@
 use Rattle.std.proofs.Common.{zip, ap, ◌∙◌}
 use Rattle.ndarray.specs.Index.{row_order}
-use Rattle.ndarray.proofs.Cells.{along-row_order}
+use Rattle.ndarray.proofs.cells.Cells.{along-row_order}
 use Rattle.ndarray.proofs.places.lent.Places.new.Goals as goal
 
 pub returns-clause-list : goal.returns-clause-list

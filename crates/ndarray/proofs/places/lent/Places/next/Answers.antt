@@ -1,6 +1,6 @@
 use Rattle.std.proofs.Common.{◌∙◌, ap, sym}
 use Rattle.ndarray.specs.base.Slots.{held_at}
-use Rattle.ndarray.proofs.Lent.{lent-next, AreLent-next, zip-next}
+use Rattle.ndarray.proofs.moving.LentCells.{lent-next, AreLent-next, zip-next}
 use Rattle.ndarray.proofs.places.lent.Places.next.Goals as goal
 
 pub take-cell-requires : goal.take-cell-requires

@@ -1,5 +1,5 @@
 use Rattle.std.proofs.Common.{sym, ◌∙◌, ap, length}
-use Rattle.ndarray.proofs.Rows.{length-places_from}
+use Rattle.ndarray.proofs.strides.Rows.{length-places_from}
 use Rattle.ndarray.proofs.places.strided.PlaceRow.len.Goals as goal
 
 pub returns : goal.returns

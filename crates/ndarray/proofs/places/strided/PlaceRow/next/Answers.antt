@@ -1,6 +1,6 @@
 use Rattle.std.proofs.Common.{sym, ◌∙◌, ap, length, arith, [], ◌≡◌}
 use Rattle.std.proofs.lemmas.List.{nil_from_length}
-use Rattle.ndarray.proofs.Rows.{length-places_from, places_from-some}
+use Rattle.ndarray.proofs.strides.Rows.{length-places_from, places_from-some}
 use Rattle.ndarray.proofs.places.strided.PlaceRow.next.Goals as goal
 
 pub returns-then-self-eq0 : goal.returns-then-self-eq0

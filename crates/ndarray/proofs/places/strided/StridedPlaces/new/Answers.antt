@@ -3,9 +3,9 @@ use Rattle.std.specs.Prelude.{All}
 use Rattle.ndarray.specs.Index.{InBox}
 use Rattle.ndarray.specs.Orders.{box_in}
 use Rattle.ndarray.specs.places.Lent.{places_along}
-use Rattle.ndarray.proofs.Boxes.{InBox-length}
-use Rattle.ndarray.proofs.Orders.{box_in-within, length-box_in}
-use Rattle.ndarray.proofs.Sizes.{size-le}
+use Rattle.ndarray.proofs.boxes.Boxes.{InBox-length}
+use Rattle.ndarray.proofs.boxes.Orders.{box_in-within, length-box_in}
+use Rattle.ndarray.proofs.boxes.Sizes.{size-le}
 use Rattle.ndarray.proofs.places.strided.StridedPlaces.new.Goals as goal
 
 walked : (g : _) (c : goal.After-new-walk g) → c.new-walk.result ≡ box_in c.args.order (g.D.Lengths.numbers c.args.layout.dim)

@@ -1,6 +1,6 @@
 use Rattle.std.proofs.Common.{◌≡◌, ◌+◌, min, drop, ap, ◌∙◌}
 use Rattle.std.specs.Prelude.{slice_get}
-use Rattle.ndarray.proofs.Lists.{nth-from_next}
+use Rattle.ndarray.proofs.lists.Elements.{nth-from_next}
 use Rattle.ndarray.proofs.subviews.axis_chunks.AxisChunksIter.nth.Goals as goal
 
 both : (g : _) (c : goal.After-next g) → (c.next.result ≡ slice_get c.args.self.now c.args.n) × (c.next.new.self ≡ drop (c.args.n + 1) c.args.self.now)

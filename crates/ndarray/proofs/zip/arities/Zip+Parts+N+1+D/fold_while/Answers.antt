@@ -1,4 +1,4 @@
-use Rattle.ndarray.proofs.Regrouped.{runs_via, may_via}
+use Rattle.ndarray.proofs.runs.RunsThrough.{runs_via, may_via}
 use Rattle.ndarray.proofs.zip.arities.Zip+Parts+N+1+D.fold_while.Goals as goal
 
 pub fold_items_while-requires : goal.fold_items_while-requires

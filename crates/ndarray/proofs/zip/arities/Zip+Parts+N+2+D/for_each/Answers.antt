@@ -1,4 +1,4 @@
-use Rattle.ndarray.proofs.Regrouped.{folds_via, may_via}
+use Rattle.ndarray.proofs.runs.RunsThrough.{folds_via, may_via}
 use Rattle.ndarray.proofs.zip.arities.Zip+Parts+N+2+D.for_each.Goals as goal
 
 pub visit_items-requires : goal.visit_items-requires

@@ -1,4 +1,4 @@
-use Rattle.ndarray.proofs.Regrouped.{if_collects, may_via}
+use Rattle.ndarray.proofs.runs.RunsThrough.{if_collects, may_via}
 use Rattle.ndarray.proofs.zip.arities.Zip+Parts+N+2+D.map_collect.Goals as goal
 
 pub collect_items-requires : goal.collect_items-requires

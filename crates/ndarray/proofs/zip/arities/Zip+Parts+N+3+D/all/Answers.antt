@@ -1,4 +1,4 @@
-use Rattle.ndarray.proofs.Regrouped.{runs_via, may_via}
+use Rattle.ndarray.proofs.runs.RunsThrough.{runs_via, may_via}
 use Rattle.ndarray.proofs.zip.arities.Zip+Parts+N+3+D.all.Goals as goal
 
 pub all_items-requires : goal.all_items-requires

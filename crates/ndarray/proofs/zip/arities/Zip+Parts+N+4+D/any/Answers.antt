@@ -1,4 +1,4 @@
-use Rattle.ndarray.proofs.Regrouped.{runs_via, may_via}
+use Rattle.ndarray.proofs.runs.RunsThrough.{runs_via, may_via}
 use Rattle.ndarray.proofs.zip.arities.Zip+Parts+N+4+D.any.Goals as goal
 
 pub any_items-requires : goal.any_items-requires

@@ -1,4 +1,4 @@
-use Rattle.ndarray.proofs.Regrouped.{collects_via, may_via}
+use Rattle.ndarray.proofs.runs.RunsThrough.{collects_via, may_via}
 use Rattle.ndarray.proofs.zip.arities.Zip+Parts+N+4+D.map_assign_into.Goals as goal
 
 pub assign_items-requires-clause-callable : goal.assign_items-requires-clause-callable

@@ -1,4 +1,4 @@
-use Rattle.ndarray.proofs.Regrouped.{folds_via, may_via}
+use Rattle.ndarray.proofs.runs.RunsThrough.{folds_via, may_via}
 use Rattle.ndarray.proofs.zip.arities.Zip+Parts+N+5+D.fold.Goals as goal
 
 pub fold_items-requires : goal.fold_items-requires

@@ -1,9 +1,9 @@
 use Rattle.std.proofs.Common.{◌≡◌, ◌<◌, ◌+◌, ◌++◌, ◌∷◌, [], length, take, set, rules, arith, add-one}
 use Rattle.std.proofs.lemmas.List.{length-take-le, length-set, take_all}
 use Rattle.std.proofs.Math.Seq.{take-suc-set}
-use Rattle.ndarray.proofs.Gathered.{gathered-length, gathered-room}
-use Rattle.ndarray.proofs.Orders.{length-box_in}
-use Rattle.ndarray.proofs.Turns.{at_start, at_end, may_take, next_turn}
+use Rattle.ndarray.proofs.runs.Answers.{gathered-length, gathered-room}
+use Rattle.ndarray.proofs.boxes.Orders.{length-box_in}
+use Rattle.ndarray.proofs.runs.Turns.{at_start, at_end, may_take, next_turn}
 use Rattle.ndarray.proofs.zip.assigning.AnswersFlatCellWriter.write.Goals as goal
 use Rattle.ndarray.proofs.zip.assigning.AnswersFlatCellWriter.write.Goals.{After-call-r}
 

@@ -1,4 +1,4 @@
-use Rattle.ndarray.proofs.Producers.{IsPart-axis_part}
+use Rattle.ndarray.proofs.runs.Producers.{IsPart-axis_part}
 use Rattle.ndarray.proofs.zip.indices.IndicesNdProducer.split_at.Goals as goal
 
 pub returns-clause-first : goal.returns-clause-first

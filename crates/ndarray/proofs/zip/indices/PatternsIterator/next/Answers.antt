@@ -1,4 +1,4 @@
-use Rattle.ndarray.proofs.Cells.{HasCells-first}
+use Rattle.ndarray.proofs.cells.Cells.{HasCells-first}
 use Rattle.ndarray.proofs.zip.indices.PatternsIterator.next.Goals as goal
 
 pub invariant_of-self-2 : goal.invariant_of-self-2

@@ -1,11 +1,11 @@
 use Rattle.std.proofs.Common.{arith}
-use Rattle.ndarray.proofs.AlongAxis.{AreAlong-part, first-along, length-along_axis, rest-along}
-use Rattle.ndarray.proofs.LineProducers.{IsPart-first, IsPart-rest, at-most_line}
+use Rattle.ndarray.proofs.cells.AlongAxis.{AreAlong-part, first-along, length-along_axis, rest-along}
+use Rattle.ndarray.proofs.runs.OneAxisProducers.{IsPart-first, IsPart-rest, at-most_line}
 use Rattle.ndarray.proofs.zip.subviews.AxisWindowsNdProducer.split_at.Goals as goal
 
 pub split_at-first-requires-clause-within : goal.split_at-first-requires-clause-within
 split_at-first-requires-clause-within g c =
-    let l = length-along_axis c.self.inside.tiles c.self.inside.axis c.self.invariant in
+    let l = length-along_axis c.self.inside.pieces c.self.inside.axis c.self.invariant in
     let m = at-most_line _ _ _ _ c.self.view_is c.requires.axis_below c.requires.index_at_most in
     omega arith
 

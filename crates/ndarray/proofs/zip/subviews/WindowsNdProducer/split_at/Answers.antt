@@ -1,6 +1,6 @@
 use Rattle.std.proofs.Common.{ap, ◌∙◌, get_or}
 use Rattle.ndarray.specs.Views.{axis_part}
-use Rattle.ndarray.proofs.Producers.{IsPart-axis_part}
+use Rattle.ndarray.proofs.runs.Producers.{IsPart-axis_part}
 use Rattle.ndarray.proofs.zip.subviews.WindowsNdProducer.split_at.Goals as goal
 
 pub returns-clause-first : goal.returns-clause-first

@@ -1,5 +1,5 @@
-use Rattle.ndarray.proofs.Producers.{Gives-cells}
+use Rattle.ndarray.proofs.runs.Producers.{YieldsInTurn-cells}
 use Rattle.ndarray.proofs.zip.views.ArrayViewNdProducer.run.Goals as goal
 
 pub returns-clause-gives : goal.returns-clause-gives
-returns-clause-gives g c = Gives-cells _ _ _ _ c.in_order.ensures.whole c.in_order.ensures.cells
+returns-clause-gives g c = YieldsInTurn-cells _ _ _ _ c.in_order.ensures.whole c.in_order.ensures.cells

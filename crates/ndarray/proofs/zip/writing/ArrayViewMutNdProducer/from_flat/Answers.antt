@@ -2,7 +2,7 @@ use Rattle.std.proofs.Common.{◌∙◌, ap, length, subst, sym}
 use Rattle.ndarray.specs.Index.{size}
 use Rattle.ndarray.specs.Limits.{IsWithinLimit}
 use Rattle.ndarray.specs.Orders.{cells_in}
-use Rattle.ndarray.proofs.InOrder.{length-cells_in, refined-in_order}
+use Rattle.ndarray.proofs.cells.CellsInOrder.{length-cells_in, refined-in_order}
 use Rattle.ndarray.proofs.zip.writing.ArrayViewMutNdProducer.from_flat.Goals as goal
 
 pub from_slice-requires : goal.from_slice-requires

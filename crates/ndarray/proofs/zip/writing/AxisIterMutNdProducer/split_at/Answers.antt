@@ -1,5 +1,5 @@
 use Rattle.std.proofs.Common.{refl}
-use Rattle.ndarray.proofs.LineProducers.{IsPart-first, IsPart-rest}
+use Rattle.ndarray.proofs.runs.OneAxisProducers.{IsPart-first, IsPart-rest}
 use Rattle.ndarray.proofs.zip.writing.AxisIterMutNdProducer.split_at.Goals as goal
 
 pub returns-clause-first : goal.returns-clause-first

@@ -1,0 +1,9 @@
+-- What is true of lists of any elements.
+pub mod CellLookup
+pub mod Clones
+pub mod Collections
+pub mod Decisions
+pub mod Elements
+pub mod Pairs
+pub mod Permutations
+pub mod Prefixes

@@ -1,9 +1,0 @@
-use Rattle.std.proofs.Common.{length, sym, ap, ◌∙◌}
-use Rattle.core.specs.Mem.Slots.{slots_items, slots_filled, slots_counts}
-use Rattle.ndarray.proofs.Emptying.{length-still}
-use Rattle.ndarray.proofs.places.emptying.Emptying.len.Goals as goal
-
--- one slot for each value of the row
-pub returns : goal.returns
-returns g c = let r = c.self.inside.row in
-    c.len.ensures ∙ (slots_counts r).0 ∙ sym (length-still (slots_items r) (slots_filled r)) ∙ ap length (c.self.view_is)

@@ -1,0 +1,183 @@
+-- Places a step apart, and the cells of a row that lie there.
+use Rattle.std.proofs.Common.{◌≡◌, ℕ, ◌+◌, ◌-◌, ◌*◌, ◌%◌, ◌<◌, ◌≤◌, ◌^◌, suc, zero, List, [], ◌∷◌, ◌++◌, length, drop, set, get_or, Option, Some, refl, sym, ◌∙◌, ap, arith, subst, inl, inr}
+use Rattle.std.specs.Prelude.{filter_map, All, IsTrue}
+use Rattle.std.specs.Option.{is_some}
+use Rattle.std.proofs.lemmas.List.{take-append-drop, map-append, length-set, set-get_or, set_past, get_or_past, length-append, get_or_append_left}
+use Rattle.std.proofs.lemmas.List.Elements.{All-cons, All-head, All-tail, All-take, All-drop, filter_map-append}
+use Rattle.std.proofs.Math.Nat.{mod-add-mod, add-mod-mod}
+use Rattle.std.proofs.lemmas.Bool.{cases_lt}
+use Rattle.ndarray.specs.Index.{InBox}
+use Rattle.ndarray.specs.Grid.{Grid, HasCells, cell}
+use Rattle.ndarray.specs.order.Ranks.{row_from, TakesRow}
+use Rattle.ndarray.specs.base.Places.{dot, place, Reaches, grid_at}
+use Rattle.ndarray.specs.base.Strided.{places_from, HaveElements}
+use Rattle.ndarray.specs.places.Lent.{places_along}
+use Rattle.ndarray.proofs.cells.Cells.{length-along}
+use Rattle.ndarray.proofs.lists.Elements.{length-filter_map_all, some-of, get_or-append-last}
+use Rattle.ndarray.proofs.strides.Reach.{cell-at, dot-set}
+
+pub places_from-some : (p s left : ℕ) → 0 < left → places_from p s left ≡ p ∷ places_from ((p + s) % 2 ^ 64) s (left - 1)
+places_from-some p s zero h = absurd (omega arith)
+places_from-some p s (suc n) h = ap (λ m. p ∷ places_from ((p + s) % 2 ^ 64) s m) (let e : n ≡ suc n - 1 = omega arith in e)
+
+pub length-places_from : (p s n : ℕ) → length (places_from p s n) ≡ n
+length-places_from p s zero = refl
+length-places_from p s (suc n) = let ih = length-places_from ((p + s) % 2 ^ 64) s n in omega arith
+
+module _ {A : Type 0} (at : ℕ → Option A) where
+  pub length-stepped : (p s n : ℕ) → HaveElements at (places_from p s n) → length (filter_map at (places_from p s n)) ≡ n
+  length-stepped p s n h = length-filter_map_all at (places_from p s n) (λ k d lt. some-of (at (get_or (places_from p s n) k d)) (h k d lt)) ∙ length-places_from p s n
+
+  pub stepped-next : (p s left : ℕ) (x : A) → 0 < left → at p ≡ Some x → filter_map at (places_from p s left) ≡ x ∷ filter_map at (places_from ((p + s) % 2 ^ 64) s (left - 1))
+  stepped-next p s left x h e = rw (places_from-some p s left h, e) refl
+
+  pub stepped-first : (p s left : ℕ) → 0 < left → HaveElements at (places_from p s left) → IsTrue (is_some (at p)) × HaveElements at (places_from ((p + s) % 2 ^ 64) s (left - 1))
+  stepped-first p s left h t =
+      let rest : List ℕ = places_from ((p + s) % 2 ^ 64) s (left - 1) in
+      let P : ℕ → Type 0 = λ q. IsTrue (is_some (at q)) in
+      let w : All P (p ∷ rest) = subst (All P) (places_from-some p s left h) t in
+      (All-head P p rest w, All-tail P p rest w)
+
+-- one index more on an axis is one stride more
+pub place-more : (start : ℕ) (bs is : List ℕ) (k : ℕ) → length bs ≡ length is → k < length is → (place start bs is + get_or bs k 0) % 2 ^ 64 ≡ place start bs (set is k (get_or is k 0 + 1))
+unfolding place
+place-more start bs is k l lt =
+    let b : ℕ = get_or bs k 0 in
+    let d = dot-set bs is k b (get_or is k 0 + 1) l lt in
+    let same : dot (set bs k b) (set is k (get_or is k 0 + 1)) ≡ dot bs (set is k (get_or is k 0 + 1)) = ap (λ cs. dot cs (set is k (get_or is k 0 + 1))) (set-get_or bs k 0) in
+    mod-add-mod (start + dot bs is) (2 ^ 64) b ∙ ap (λ x. x % 2 ^ 64) (let e : start + dot bs is + b ≡ start + dot bs (set is k (get_or is k 0 + 1)) = omega arith in e)
+
+module _ {A one : Type 0} (at : ℕ → Option A) (ns : List ℕ) (start : ℕ) (bs : List ℕ) (h : Reaches one at ns start bs) where
+  cell-there : (is : List ℕ) → InBox ns is → (x : A) × ((at (place start bs is) ≡ Some x) × (cell (grid_at at ns start bs) is ≡ Some x))
+  cell-there is b = let s = some-of (at (place start bs is)) (h.inside is b) in (s.0, (s.1, cell-at at ns start bs h is b ∙ s.1))
+
+  -- the cells of a row lie a step apart
+  pub row-at : (axis s : ℕ) → ((is : List ℕ) → InBox ns is → (place start bs is + s) % 2 ^ 64 ≡ place start bs (set is axis (get_or is axis 0 + 1)))
+      → (n : ℕ) (is : List ℕ) (p : ℕ) → All (InBox ns) (row_from is axis n) → (0 < n → p ≡ place start bs is)
+      → HaveElements at (places_from p s n) × (filter_map at (places_from p s n) ≡ filter_map (cell (grid_at at ns start bs)) (row_from is axis n))
+  row-at axis s more zero is p b e = ((λ k d l. absurd (omega arith)), refl)
+  row-at axis s more (suc n) is p b e =
+      let js : List ℕ = set is axis (get_or is axis 0 + 1) in
+      let inside : InBox ns is = All-head (InBox ns) is (row_from js axis n) b in
+      let here = e (omega arith) in
+      let found = cell-there is inside in
+      let there : at p ≡ Some found.0 = ap at here ∙ found.1.0 in
+      let next : (p + s) % 2 ^ 64 ≡ place start bs js = ap (λ q. (q + s) % 2 ^ 64) here ∙ more is inside in
+      let ih = row-at axis s more n js ((p + s) % 2 ^ 64) (All-tail (InBox ns) is (row_from js axis n) b) (λ some. next) in
+      let P : ℕ → Type 0 = λ q. IsTrue (is_some (at q)) in
+      (All-cons P p (places_from ((p + s) % 2 ^ 64) s n) (subst (λ o. IsTrue (is_some o)) (sym there) refl) ih.0, rw (there, found.1.1, ih.1) refl)
+
+-- an axis that is not there moves nothing
+pub place-none : (start : ℕ) (bs is : List ℕ) (k : ℕ) → length is ≤ k → (place start bs is + 0) % 2 ^ 64 ≡ place start bs (set is k (get_or is k 0 + 1))
+unfolding place
+place-none start bs is k past =
+    mod-add-mod (start + dot bs is) (2 ^ 64) 0 ∙ (ap (λ x. x % 2 ^ 64) (let e : start + dot bs is + 0 ≡ start + dot bs is = omega arith in e) ∙ ap (λ js. (start + dot bs js) % 2 ^ 64) (sym (set_past is k (get_or is k 0 + 1) past)))
+
+pub row-first : (P : List ℕ → Type 0) (is : List ℕ) (axis n : ℕ) → 0 < n → All P (row_from is axis n) → P is
+row-first P is axis zero h b = absurd (omega arith)
+row-first P is axis (suc n) h b = All-head P is (row_from (set is axis (get_or is axis 0 + 1)) axis n) b
+
+pub place-any : (start : ℕ) (bs is : List ℕ) (k : ℕ) → length bs ≡ length is → (place start bs is + get_or bs k 0) % 2 ^ 64 ≡ place start bs (set is k (get_or is k 0 + 1))
+place-any start bs is k l = elim (cases_lt k (length is)) [
+  | inl lt ↦ place-more start bs is k l lt
+  | inr past ↦ (let none : get_or bs k 0 ≡ 0 = get_or_past bs k 0 (omega (arith, past)) in rw none (place-none start bs is k past))
+]
+
+-- the last of the places
+last-place : (p s k : ℕ) → (((p + s) % 2 ^ 64) + (k * s) % 2 ^ 64) % 2 ^ 64 ≡ (p + (suc k * s) % 2 ^ 64) % 2 ^ 64
+last-place p s k =
+    mod-add-mod (p + s) (2 ^ 64) ((k * s) % 2 ^ 64) ∙ (add-mod-mod (p + s) (k * s) (2 ^ 64)
+    ∙ (ap (λ x. x % 2 ^ 64) (let e : p + s + k * s ≡ p + suc k * s = omega arith in e) ∙ sym (add-mod-mod p (suc k * s) (2 ^ 64))))
+
+places_from-push : (n p s : ℕ) → p < 2 ^ 64 → places_from p s (suc n) ≡ places_from p s n ++ ((p + (n * s) % 2 ^ 64) % 2 ^ 64) ∷ []
+places_from-push zero p s h = ap (λ q. q ∷ []) (let e : p ≡ (p + (0 * s) % 2 ^ 64) % 2 ^ 64 = omega arith in e)
+places_from-push (suc k) p s h =
+    let ih = places_from-push k ((p + s) % 2 ^ 64) s (omega arith) in
+    ap (λ l. p ∷ l) (ih ∙ ap (λ q. places_from ((p + s) % 2 ^ 64) s k ++ q ∷ []) (last-place p s k))
+
+pub places_from-last : (p s left : ℕ) → p < 2 ^ 64 → 0 < left → places_from p s left ≡ places_from p s (left - 1) ++ ((p + ((left - 1) * s) % 2 ^ 64) % 2 ^ 64) ∷ []
+places_from-last p s zero h some = absurd (omega arith)
+places_from-last p s (suc n) h some = places_from-push n p s h ∙ ap (λ m. places_from p s m ++ ((p + (m * s) % 2 ^ 64) % 2 ^ 64) ∷ []) (let e : n ≡ suc n - 1 = omega arith in e)
+
+module _ {A : Type 0} (at : ℕ → Option A) (p s left : ℕ) (fits : p < 2 ^ 64) (some : 0 < left) (h : HaveElements at (places_from p s left)) where
+  pub stepped-last : IsTrue (is_some (at ((p + ((left - 1) * s) % 2 ^ 64) % 2 ^ 64))) × HaveElements at (places_from p s (left - 1))
+  stepped-last =
+      let rest : List ℕ = places_from p s (left - 1) in
+      let q : ℕ = (p + ((left - 1) * s) % 2 ^ 64) % 2 ^ 64 in
+      let P : ℕ → Type 0 = λ r. IsTrue (is_some (at r)) in
+      let w : All P (rest ++ q ∷ []) = subst (All P) (places_from-last p s left fits some) h in
+      let l = length-append rest (q ∷ []) in
+      (subst P (get_or-append-last rest q 0) (w (length rest) 0 (omega arith)), λ k d lt. subst P (get_or_append_left rest (q ∷ []) d k lt) (w k d (omega arith)))
+
+  pub stepped-back : (x : A) → at ((p + ((left - 1) * s) % 2 ^ 64) % 2 ^ 64) ≡ Some x → filter_map at (places_from p s left) ≡ filter_map at (places_from p s (left - 1)) ++ x ∷ []
+  stepped-back x e = ap (filter_map at) (places_from-last p s left fits some) ∙ (filter_map-append at (places_from p s (left - 1)) (((p + ((left - 1) * s) % 2 ^ 64) % 2 ^ 64) ∷ []) ∙ rw e refl)
+
+length-row_from : (is : List ℕ) (axis n : ℕ) → length (row_from is axis n) ≡ n
+length-row_from is axis zero = refl
+length-row_from is axis (suc n) = let ih = length-row_from (set is axis (get_or is axis 0 + 1)) axis n in omega arith
+
+-- what is left behind a row comes after it
+taken-parts : (ys zs : List (List ℕ)) (is : List ℕ) (axis count : ℕ) → TakesRow ys zs is axis count → ys ≡ row_from is axis count ++ zs
+taken-parts ys zs is axis count t = sym (take-append-drop count ys) ∙ (ap (λ l. l ++ drop count ys) t.row ∙ ap (λ l. row_from is axis count ++ l) (sym t.rest))
+
+-- the places of a row, and those behind it
+module _ (start : ℕ) (bs : List ℕ) where
+  row-places : (axis n : ℕ) (is : List ℕ) → length bs ≡ length is → places_along start bs (row_from is axis n) ≡ places_from (place start bs is) (get_or bs axis 0) n
+  row-places axis zero is l = refl
+  row-places axis (suc n) is l =
+      let js : List ℕ = set is axis (get_or is axis 0 + 1) in
+      let ih = row-places axis n js (l ∙ sym (length-set is axis (get_or is axis 0 + 1))) in
+      ap (λ ps. place start bs is ∷ ps) (ih ∙ ap (λ p. places_from p (get_or bs axis 0) n) (sym (place-any start bs is axis l)))
+
+  pub places-last : (ys rest : List (List ℕ)) (is : List ℕ) → ys ≡ rest ++ is ∷ [] → places_along start bs ys ≡ places_along start bs rest ++ place start bs is ∷ []
+  places-last ys rest is e = ap (places_along start bs) e ∙ map-append (place start bs) rest (is ∷ [])
+
+  pub beginning-as_many : (ys rest : List (List ℕ)) (is : List ℕ) → ys ≡ rest ++ is ∷ [] → All (λ js. length bs ≡ length js) ys → All (λ js. length bs ≡ length js) rest
+  beginning-as_many ys rest is e m =
+      let l = length-append rest (is ∷ []) in
+      let w : All (λ js. length bs ≡ length js) (rest ++ is ∷ []) = subst (All (λ js. length bs ≡ length js)) e m in
+      λ k d lt. subst (λ js. length bs ≡ length js) (get_or_append_left rest (is ∷ []) d k lt) (w k d (omega arith))
+
+  module _ (ys zs : List (List ℕ)) (is : List ℕ) (axis count : ℕ) (m : All (λ js. length bs ≡ length js) ys) (t : TakesRow ys zs is axis count) where
+    pub row-as_many : length bs ≡ length is
+    row-as_many = row-first (λ js. length bs ≡ length js) is axis count t.some (subst (All (λ js. length bs ≡ length js)) t.row (All-take (λ js. length bs ≡ length js) count ys m))
+
+    pub rest-as_many : All (λ js. length bs ≡ length js) zs
+    rest-as_many = subst (All (λ js. length bs ≡ length js)) (sym t.rest) (All-drop (λ js. length bs ≡ length js) count ys m)
+
+    pub places-split : places_along start bs ys ≡ places_from (place start bs is) (get_or bs axis 0) count ++ places_along start bs zs
+    places-split =
+        ap (places_along start bs) (taken-parts ys zs is axis count t)
+        ∙ (map-append (place start bs) (row_from is axis count) zs
+        ∙ ap (λ l. l ++ places_along start bs zs) (row-places axis count is row-as_many))
+
+    pub places-count : count + length zs ≡ length ys
+    places-count =
+        let e = ap length (taken-parts ys zs is axis count t) in
+        let a = length-append (row_from is axis count) zs in
+        let r = length-row_from is axis count in
+        omega arith
+
+-- a row is taken of the index lists that are still to come
+module _ {A : Type 0} (g : Grid A) (ys zs : List (List ℕ)) (is : List ℕ) (axis count : ℕ) (h : HasCells g ys) (t : TakesRow ys zs is axis count) where
+  pub row-within : All (InBox g.lengths) (row_from is axis count)
+  row-within = subst (All (InBox g.lengths)) t.row (All-take (InBox g.lengths) count ys h.within)
+
+  pub HasCells-row : HasCells g zs
+  HasCells-row = record { whole = h.whole; within = subst (All (InBox g.lengths)) (sym t.rest) (All-drop (InBox g.lengths) count ys h.within) }
+
+  parts : ys ≡ row_from is axis count ++ zs
+  parts = taken-parts ys zs is axis count t
+
+  pub row-split : filter_map (cell g) ys ≡ filter_map (cell g) (row_from is axis count) ++ filter_map (cell g) zs
+  row-split = ap (filter_map (cell g)) parts ∙ filter_map-append (cell g) (row_from is axis count) zs
+
+  pub row-length : length (filter_map (cell g) (row_from is axis count)) ≡ count
+  row-length = length-along g h.whole (row_from is axis count) row-within ∙ length-row_from is axis count
+
+  pub row-count : count + length zs ≡ length ys
+  row-count = let e = ap length parts in let a = length-append (row_from is axis count) zs in let r = length-row_from is axis count in omega arith
+
+  -- the next of them is the first of the row
+  pub row-next : (row rest : List A) (x : A) → row ≡ filter_map (cell g) (row_from is axis count) → row ≡ x ∷ rest → filter_map (cell g) ys ≡ x ∷ (rest ++ filter_map (cell g) zs)
+  row-next row rest x e f = row-split ∙ ap (λ l. l ++ filter_map (cell g) zs) (sym e ∙ f)

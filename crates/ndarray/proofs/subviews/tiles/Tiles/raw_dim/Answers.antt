@@ -1,7 +1,0 @@
-use Rattle.std.proofs.Common.{subst}
-use Rattle.ndarray.specs.Grid.{IsGrid}
-use Rattle.ndarray.proofs.Cells.{arranged-whole}
-use Rattle.ndarray.proofs.subviews.tiles.Tiles.raw_dim.Goals as goal
-
-pub returns-clause-whole : goal.returns-clause-whole
-returns-clause-whole g c = subst IsGrid c.self.view_is (arranged-whole _ _)

@@ -1,0 +1,36 @@
+-- The values of a summable list, added one after the other.
+use Rattle.std.proofs.Common.{◌≡◌, List, [], ◌∷◌, sym, ap, ◌∙◌, subst}
+use Rattle.ndarray.specs.Sums.{CommutativeMonoid, total, IsSummable}
+use Rattle.ndarray.proofs.sums.Selections.{op_unit, IsSummable-head, IsSummable-unit, IsSummable-joined}
+
+-- sum is what the values of whole before rest add up to, and it may be added to each selection of rest
+pub record RunningSum {C : Type 0} (M : CommutativeMonoid C) (P : C → Type 0) (whole rest : List C) (sum : C) : Type 0 where
+  pub summable : IsSummable M P (sum ∷ rest)
+  pub same : M.op sum (total M rest) ≡ total M whole
+
+module _ {C : Type 0} (M : CommutativeMonoid C) (P : C → Type 0) where
+  pub RunningSum-start : (whole rest : List C) (sum : C) → rest ≡ whole → sum ≡ M.unit → IsSummable M P whole → RunningSum M P whole rest sum
+  RunningSum-start whole rest sum all zero h = record {
+    summable = subst (λ s. IsSummable M P (s ∷ rest)) (sym zero) (IsSummable-unit M P rest (subst (IsSummable M P) (sym all) h));
+    same = ap (λ s. M.op s (total M rest)) zero ∙ M.unit_op (total M rest) ∙ ap (total M) all;
+  }
+
+  pub RunningSum-end : (whole rest : List C) (sum : C) → rest ≡ [] → RunningSum M P whole rest sum → sum ≡ total M whole
+  RunningSum-end whole rest sum none h = sym (ap (λ ys. M.op sum (total M ys)) none ∙ op_unit M sum) ∙ h.same
+
+  -- the next value is x
+  module _ (whole now rest : List C) (x sum : C) (next : now ≡ x ∷ rest) (h : RunningSum M P whole now sum) where
+    joined : IsSummable M P (M.op sum x ∷ rest)
+    joined = IsSummable-joined M P sum x rest (subst (λ ys. IsSummable M P (sum ∷ ys)) next h.summable)
+
+    pub RunningSum-in_range : P (M.op sum x)
+    RunningSum-in_range = IsSummable-head M P (M.op sum x) rest joined
+
+    pub RunningSum-step : (more : C) → more ≡ M.op sum x → RunningSum M P whole rest more
+    RunningSum-step more e = record {
+      summable = subst (λ s. IsSummable M P (s ∷ rest)) (sym e) joined;
+      same = ap (λ s. M.op s (total M rest)) e
+          ∙ M.associates sum x (total M rest)
+          ∙ sym (ap (λ ys. M.op sum (total M ys)) next)
+          ∙ h.same;
+    }

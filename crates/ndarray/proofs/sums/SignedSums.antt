@@ -1,0 +1,97 @@
+-- Positive and negative whole numbers that are added apart, one after the other.
+use Rattle.std.proofs.Common.{◌≡◌, List, [], ◌∷◌, refl, sym, ap, ◌∙◌, subst, arith}
+use Rattle.std.specs.Prelude.{ℤ, pos, negsuc, ◌+ℤ◌, ◌≤ℤ◌, ◌<ℤ◌}
+use Rattle.std.proofs.lemmas.Int.{ints}
+use Rattle.ndarray.specs.Integers.{positive_sum, negative_sum}
+
+positive_sum-positive : (zs : List ℤ) → pos 0 ≤ℤ positive_sum zs
+positive_sum-positive [] = omega (arith, ints)
+positive_sum-positive (pos n ∷ zs) = let h = positive_sum-positive zs in omega (arith, ints)
+positive_sum-positive (negsuc n ∷ zs) = positive_sum-positive zs
+
+negative_sum-negative : (zs : List ℤ) → negative_sum zs ≤ℤ pos 0
+negative_sum-negative [] = omega (arith, ints)
+negative_sum-negative (pos n ∷ zs) = negative_sum-negative zs
+negative_sum-negative (negsuc n ∷ zs) = let h = negative_sum-negative zs in omega (arith, ints)
+
+up_front : (z : ℤ) (zs : List ℤ) → pos 0 ≤ℤ z → (positive_sum (z ∷ zs) ≡ z +ℤ positive_sum zs) × (negative_sum (z ∷ zs) ≡ negative_sum zs)
+up_front (pos n) zs h = (refl, refl)
+up_front (negsuc n) zs h = absurd (omega (arith, ints))
+
+down_front : (z : ℤ) (zs : List ℤ) → z <ℤ pos 0 → (positive_sum (z ∷ zs) ≡ positive_sum zs) × (negative_sum (z ∷ zs) ≡ z +ℤ negative_sum zs)
+down_front (pos n) zs h = absurd (omega (arith, ints))
+down_front (negsuc n) zs h = (refl, refl)
+
+-- up and down are the sums of the positive and of the negative numbers of whole before rest, and both fit
+pub record AddedApart (fits : ℤ → Type 0) (whole rest : List ℤ) (up down : ℤ) : Type 0 where
+  pub up_sum : up +ℤ positive_sum rest ≡ positive_sum whole
+  pub up_positive : pos 0 ≤ℤ up
+  pub up_fits : fits up
+  pub down_sum : down +ℤ negative_sum rest ≡ negative_sum whole
+  pub down_negative : down ≤ℤ pos 0
+  pub down_fits : fits down
+
+pub AddedApart-start : (fits : ℤ → Type 0) (whole rest : List ℤ) (up down : ℤ) → rest ≡ whole → fits (pos 0) → up ≡ pos 0 → down ≡ pos 0 → AddedApart fits whole rest up down
+AddedApart-start fits whole rest up down r h e f =
+    let p = ap positive_sum r in
+    let n = ap negative_sum r in
+    record {
+      up_sum = omega (arith, ints, e, p);
+      up_positive = omega (arith, ints, e);
+      up_fits = subst fits (sym e) h;
+      down_sum = omega (arith, ints, f, n);
+      down_negative = omega (arith, ints, f);
+      down_fits = subst fits (sym f) h;
+    }
+
+pub AddedApart-end : (fits : ℤ → Type 0) (whole rest : List ℤ) (up down : ℤ) → rest ≡ [] → AddedApart fits whole rest up down → fits (positive_sum whole) × fits (negative_sum whole)
+AddedApart-end fits whole rest up down e h =
+    let p = ap positive_sum e in
+    let n = ap negative_sum e in
+    let u : up ≡ positive_sum whole = omega (arith, ints, h.up_sum, p) in
+    let d : down ≡ negative_sum whole = omega (arith, ints, h.down_sum, n) in
+    (subst fits u h.up_fits, subst fits d h.down_fits)
+
+-- the next number is z
+module _ (fits : ℤ → Type 0) (whole now rest : List ℤ) (z up down : ℤ) (next : now ≡ z ∷ rest) (h : AddedApart fits whole now up down) where
+  pub AddedApart-up : pos 0 ≤ℤ z → (sum : ℤ) → sum ≡ up +ℤ z → fits (up +ℤ z) → AddedApart fits whole rest sum down
+  AddedApart-up positive sum e f =
+      let front = up_front z rest positive in
+      let p = ap positive_sum next ∙ front.0 in
+      let n = ap negative_sum next ∙ front.1 in
+      record {
+        up_sum = omega (arith, ints, h.up_sum, p, e);
+        up_positive = omega (arith, ints, h.up_positive, e);
+        up_fits = subst fits (sym e) f;
+        down_sum = omega (arith, ints, h.down_sum, n);
+        down_negative = h.down_negative;
+        down_fits = h.down_fits;
+      }
+
+  pub AddedApart-down : z <ℤ pos 0 → (sum : ℤ) → sum ≡ down +ℤ z → fits (down +ℤ z) → AddedApart fits whole rest up sum
+  AddedApart-down negative sum e f =
+      let front = down_front z rest negative in
+      let p = ap positive_sum next ∙ front.0 in
+      let n = ap negative_sum next ∙ front.1 in
+      record {
+        up_sum = omega (arith, ints, h.up_sum, p);
+        up_positive = h.up_positive;
+        up_fits = h.up_fits;
+        down_sum = omega (arith, ints, h.down_sum, n, e);
+        down_negative = omega (arith, ints, h.down_negative, e);
+        down_fits = subst fits (sym e) f;
+      }
+
+  -- where each number between two that fit does fit, an excess at z is one of the whole
+  module _ (zero_fits : fits (pos 0)) (between : (x y z : ℤ) → fits x → fits z → x ≤ℤ y → y ≤ℤ z → fits y) where
+    pub AddedApart-up_excess : pos 0 ≤ℤ z → (fits (up +ℤ z) → ⊥) → fits (positive_sum whole) → ⊥
+    AddedApart-up_excess positive excess f =
+        let r = positive_sum-positive rest in
+        let p = ap positive_sum next ∙ (up_front z rest positive).0 in
+        excess (between (pos 0) (up +ℤ z) (positive_sum whole) zero_fits f (omega (arith, ints, h.up_positive)) (omega (arith, ints, h.up_sum, p)))
+
+    pub AddedApart-down_excess : z <ℤ pos 0 → (fits (down +ℤ z) → ⊥) → fits (negative_sum whole) → ⊥
+    AddedApart-down_excess negative excess f =
+        let r = negative_sum-negative rest in
+        let n = ap negative_sum next ∙ (down_front z rest negative).1 in
+        excess (between (negative_sum whole) (down +ℤ z) (pos 0) f zero_fits (omega (arith, ints, h.down_sum, n)) (omega (arith, ints, h.down_negative)))

@@ -1,0 +1,20 @@
+-- Inside `base`: an array that is filled one cell after another.
+use Rattle.std.specs.Prelude.{ℕ, ◌≤◌, ◌++◌, ◌∷◌, [], List}
+use Rattle.ndarray.specs.Index.{size}
+use Rattle.ndarray.specs.Limits.{IsWithinLimit}
+use Rattle.ndarray.specs.declared.base.shape.Order.{Order}
+
+-- the lengths of an array, the order in which its cells come, and those that have come so far
+pub record BuilderState (A : Type 0) : Type 0 where
+  pub lengths : List ℕ
+  pub order : Order
+  pub cells : List A
+
+-- the same with one cell more
+abbrev pub pushed_to : {A : Type 0} → BuilderState A → A → BuilderState A
+pushed_to p x = record { lengths = p.lengths; order = p.order; cells = p.cells ++ x ∷ [] }
+
+-- lengths within the limit, and a capacity for all of their cells
+pub record HasRoom (ns : List ℕ) (capacity : ℕ) : Type 0 where
+  pub limit : IsWithinLimit ns
+  pub room : size ns ≤ capacity

@@ -1,0 +1,71 @@
+//! Arrays that are filled one cell after another.
+
+ghost use Rattle.std.specs.Prelude.{◌≡◌, ◌<◌, ◌++◌, ◌∷◌, [], length, IfOk, IsOk};
+ghost use Rattle.ndarray.specs.base.Builder.{pushed_to};
+ghost use Rattle.ndarray.specs.Grid.{IsGrid};
+ghost use Rattle.ndarray.specs.Index.{size};
+ghost use Rattle.ndarray.specs.Limits.{IsWithinLimit};
+ghost use Rattle.ndarray.specs.Orders.{HasInOrder, cells_in};
+
+use crate::base::array::ArrayBase;
+use crate::base::dimension::Lengths;
+use crate::base::shape::Order;
+use crate::base::storage::DataOwned;
+use std::alloc::{AllocError, Global};
+use std::marker::Model;
+
+/// An array that is being filled: its lengths, the order of its cells, and the cells so far.
+///
+/// All of its memory is reserved before the first cell, so that no push can be refused.
+#[derive(Drop)]
+pub(crate) struct ArrayBuilder<A, D: Lengths> {
+    items: Vec<A>,
+    dim: D,
+    order: Order,
+}
+
+impl<A, D: Lengths> Model for ArrayBuilder<A, D> {
+    ghost use Rattle.std.specs.Vec.{vec_capacity};
+    ghost use Rattle.ndarray.specs.base.Builder.{BuilderState, HasRoom};
+
+    ghost Value = { BuilderState A };
+
+    ghost view = { λ f. record { lengths = D.numbers f.dim; order = f.order; cells = f.items.items } };
+
+    ghost invariant = { λ f. HasRoom (D.numbers f.dim) (vec_capacity f.items) };
+}
+
+impl<A: Drop, D: Lengths> ArrayBuilder<A, D> {
+    /// Room for all cells of the lengths, which the caller owes to be within the limit. No memory is asked for where
+    /// there are none.
+    pub(crate) fn with_capacity(alloc: Global, dim: D, order: Order) -> Result<Self, AllocError>
+        requires { IsWithinLimit (D.numbers dim) }
+        ensures room { IfOk result (λ f. f ≡ record { lengths = D.numbers dim; order = order; cells = [] }) }
+        ensures empty { size (D.numbers dim) ≡ 0 → IsOk result }
+    {
+        let items = Vec::with_capacity(alloc, dim.size())?;
+        Ok(ArrayBuilder { items, dim, order })
+    }
+
+    /// The cell at the next index list of the order.
+    pub(crate) fn push(&mut self, cell: A)
+        requires { length self.old.cells < size self.old.lengths }
+        ensures { self.new ≡ pushed_to self.old cell }
+    {
+        self.items.push_reserved(cell);
+    }
+
+    /// The array whose cells in the order are those that were pushed, once there is one for each index
+    /// list.
+    pub(crate) fn finish<S: DataOwned<Elem = A>>(self) -> ArrayBase<S, D>
+        requires { length self.cells ≡ size self.lengths }
+        ensures lengths { result.lengths ≡ self.lengths }
+        ensures axes { D.has_axes (length result.lengths) }
+        ensures cells { HasInOrder self.order result self.cells }
+        ensures list { cells_in self.order result ≡ self.cells }
+        ensures whole { IsGrid result }
+    {
+        let ArrayBuilder { items, dim, order } = self;
+        ArrayBase::from_elements(dim, order, items)
+    }
+}

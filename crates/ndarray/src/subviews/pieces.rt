@@ -1,0 +1,226 @@
+//! Inside `subviews`: equal pieces of an array, one at each position of a box, and the iterator over
+//! them. All subviews but axis chunks are such pieces.
+
+ghost use Rattle.std.specs.Prelude.{◌≡◌, ◌+◌, ◌^◌, ◌≤◌, ◌<◌, length, slice_index, take, drop, Some, ⊤, IfSome};
+ghost use Rattle.std.specs.Iterator.{UpTo, YieldsFirst, YieldsLast, item_count};
+ghost use Rattle.std.specs.Iterator.SizeHint.{IsExactHint, IsWithinCount};
+ghost use Rattle.ndarray.specs.Index.{InBox};
+ghost use Rattle.ndarray.specs.Grid.{IsGrid, cell};
+ghost use Rattle.ndarray.specs.Limits.{IsWithinLimit};
+ghost use Rattle.ndarray.specs.Orders.{cells_in};
+ghost use Rattle.ndarray.specs.Views.{axis_part};
+
+use crate::base::array::{ArrayBase, ArrayView};
+use crate::base::axis::Axis;
+use crate::base::dimension::{Ix1, Lengths};
+use crate::base::layout::Layout;
+use crate::base::storage::ViewRepr;
+use crate::order::{Order, Walk};
+use std::alloc::AllocError;
+use std::iter::ExactSizeIterator;
+use std::marker::Model;
+
+/// Equal pieces of an array, one at each position of a box: an array of arrays.
+#[derive(Drop)]
+pub(crate) struct Pieces<'a, A, P: Lengths, D: Lengths> {
+    pub(crate) storage: ViewRepr<'a, A>,
+    // where the piece at a position begins
+    pub(crate) positions: Layout<P>,
+    // the lengths and the strides of each piece
+    pub(crate) dim: D,
+    pub(crate) strides: D,
+}
+
+impl<'a, A, P: Lengths, D: Lengths> Model for Pieces<'a, A, P, D> {
+    ghost use Rattle.ndarray.specs.Grid.{Grid};
+
+    ghost Value = { Grid (Grid A) };
+
+    ghost use Rattle.ndarray.specs.base.Storage.{seen_at};
+    ghost use Rattle.ndarray.specs.base.Pieces.{ReachPieces, pieces_at};
+
+    ghost view = { λ t. pieces_at (seen_at t.storage) (P.numbers t.positions.dim) t.positions.start (P.numbers t.positions.strides) (D.numbers t.dim) (D.numbers t.strides) };
+
+    ghost invariant = { λ t. ReachPieces (seen_at t.storage) (P.numbers t.positions.dim) t.positions.start (P.numbers t.positions.strides) (D.numbers t.dim) (D.numbers t.strides) };
+}
+
+impl<'a, A, P: Lengths, D: Lengths> Pieces<'a, A, P, D> {
+    /// The numbers of positions.
+    pub(crate) fn raw_dim(&self) -> P
+        ensures lengths { P.numbers result ≡ self.now.lengths }
+        ensures limit { IsWithinLimit self.now.lengths }
+        ensures whole { IsGrid self.now }
+    {
+        self.positions.dim.copied()
+    }
+
+    /// The piece at a position of the box.
+    pub(crate) fn item(&self, position: &P) -> ArrayView<'a, A, D>
+        requires { InBox self.now.lengths (P.numbers position.now) }
+        ensures { cell self.now (P.numbers position.now) ≡ Some result }
+    {
+        ArrayBase {
+            storage: self.storage,
+            layout: Layout {
+                start: self.positions.place(position),
+                dim: self.dim.copied(),
+                strides: self.strides.copied(),
+            },
+        }
+    }
+
+    /// The same once more.
+    pub(crate) fn again(&self) -> Self
+        ensures { result ≡ self.now }
+    {
+        Pieces {
+            storage: self.storage,
+            positions: self.positions.copied(),
+            dim: self.dim.copied(),
+            strides: self.strides.copied(),
+        }
+    }
+
+    /// The pieces at the first `index` positions of an axis, and the rest.
+    pub(crate) fn split_at(self, axis: Axis, index: usize) -> (Self, Self)
+        requires axis { axis.0 < length self.lengths }
+        requires within { index ≤ slice_index self.lengths axis.0 }
+        ensures first { result.0 ≡ axis_part self.entry axis.0 0 index }
+        ensures second { result.1 ≡ axis_part self.entry axis.0 index (slice_index self.entry.lengths axis.0) }
+        ensures first_whole { IsGrid result.0 }
+        ensures second_whole { IsGrid result.1 }
+    {
+        let len = self.positions.dim.axis(axis.0);
+        (
+            self.part(axis.0, 0, index),
+            self.part(axis.0, index, len - index),
+        )
+    }
+
+    /// The pieces at the `len` positions of an axis from `from` on.
+    pub(crate) fn part(&self, axis: usize, from: usize, len: usize) -> Self
+        requires axis { axis < length self.now.lengths }
+        requires within { from + len ≤ slice_index self.now.lengths axis }
+        ensures value { result ≡ axis_part self.now axis from (from + len) }
+        ensures whole { IsGrid result }
+    {
+        let mut part = self.again();
+        part.positions.cut(axis, from, len, 1);
+        part
+    }
+
+    /// The pieces in row order of their positions.
+    pub(crate) fn into_iter(self) -> PiecesIter<'a, A, P, D>
+        ensures items { result ≡ self.entry.cells }
+        ensures fits { length result < 2 ^ 63 }
+    {
+        self.run(Order::RowMajor)
+    }
+
+    /// The pieces in an order of their positions.
+    pub(crate) fn run(self, order: Order) -> PiecesIter<'a, A, P, D>
+        ensures items { result ≡ cells_in order self.entry }
+        ensures fits { length result < 2 ^ 63 }
+        ensures whole { IsGrid self.entry }
+    {
+        let walk = Walk::new(self.raw_dim(), order);
+        PiecesIter { pieces: self, walk }
+    }
+}
+
+/// The pieces that are still to come.
+#[derive(Drop)]
+pub(crate) struct PiecesIter<'a, A, P: Lengths, D: Lengths> {
+    pieces: Pieces<'a, A, P, D>,
+    walk: Walk<P>,
+}
+
+impl<'a, A, P: Lengths, D: Lengths> Model for PiecesIter<'a, A, P, D> {
+    ghost use Rattle.std.specs.Prelude.{List, filter_map};
+    ghost use Rattle.ndarray.specs.Grid.{Grid, HasCells, cell};
+
+    ghost Value = { List (Grid A) };
+
+    ghost view = { λ s. filter_map (cell s.pieces) s.walk };
+
+    ghost invariant = { λ s. HasCells s.pieces s.walk };
+}
+
+impl<'a, A, P: Lengths, D: Lengths> PiecesIter<'a, A, P, D> {
+    /// How many pieces are still to come, which the limit on shapes bounds.
+    pub(crate) fn bounded_len(&self) -> usize
+        ensures value { result ≡ length self.now }
+        ensures fits { result < 2 ^ 63 }
+    {
+        self.walk.bounded_len()
+    }
+}
+
+impl<'a, A, P: Lengths, D: Lengths> Iterator for PiecesIter<'a, A, P, D> {
+    type Item = ArrayView<'a, A, D>;
+
+    ghost next_gives = { YieldsFirst (λ rest. rest) };
+
+    ghost remaining = { item_count (λ rest. rest) };
+
+    #[inline(always)]
+    fn next(&mut self) -> Option<ArrayView<'a, A, D>> {
+        let Some(position) = self.walk.next() else {
+            return None;
+        };
+        Some(self.pieces.item(&position))
+    }
+
+    fn size_hint(&self) -> (usize, Option<usize>)
+        ensures lower { IsWithinCount result.0 (item_count (λ rest. rest) self.now) }
+        ensures upper { IfSome result.1 (UpTo (item_count (λ rest. rest) self.now)) }
+        ensures exact { IsExactHint result (length self.now) }
+    {
+        let len = self.len();
+        (len, Some(len))
+    }
+}
+
+impl<'a, A, P: Lengths, D: Lengths> ExactSizeIterator for PiecesIter<'a, A, P, D> {
+    fn len(&self) -> usize {
+        self.walk.len()
+    }
+}
+
+impl<'a, A, D: Lengths> DoubleEndedIterator for PiecesIter<'a, A, Ix1, D> {
+    ghost next_back_gives = { YieldsLast (λ rest. rest) };
+
+    fn next_back(&mut self) -> Option<ArrayView<'a, A, D>> {
+        let Some(position) = self.walk.next_back() else {
+            return None;
+        };
+        Some(self.pieces.item(&position))
+    }
+}
+
+impl<'a, A, P: Lengths, D: Lengths> Clone for PiecesIter<'a, A, P, D> {
+    ghost is_clone = { λ s r. r ≡ s };
+
+    ghost is_infallible = { λ _. ⊤ };
+
+    fn clone(&self) -> Result<PiecesIter<'a, A, P, D>, AllocError> {
+        Ok(PiecesIter {
+            pieces: self.pieces.again(),
+            walk: self.walk.clone()?,
+        })
+    }
+}
+
+impl<'a, A, D: Lengths> PiecesIter<'a, A, Ix1, D> {
+    /// Takes the first `count` pieces still to come.
+    pub(crate) fn take_first(&mut self, count: usize) -> Self
+        requires { count ≤ length self.old }
+        ensures first { result ≡ take count self.old }
+        ensures rest { self.new ≡ drop count self.old }
+    {
+        PiecesIter {
+            pieces: self.pieces.again(),
+            walk: self.walk.take_first(count),
+        }
+    }
+}
