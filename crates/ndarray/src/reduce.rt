@@ -1,7 +1,7 @@
 //! Sums of the cells of an array.
 
 ghost use Rattle.std.specs.Prelude.{◌≡◌, ◌↔◌, IsTrue, map};
-ghost use Rattle.ndarray.specs.Sums.{IsSummable, total};
+ghost use Rattle.ndarray.specs.Sums.{IsSummableBy, total_by};
 ghost use Rattle.ndarray.specs.Integers.{int_sums, negative_sum, positive_sum};
 
 pub mod values;
@@ -26,8 +26,8 @@ impl<A: SumElem, S: Data<Elem = A>, D: Lengths> ArrayBase<S, D> {
     /// }
     /// ```
     pub fn sum(&self) -> A
-        requires { IsSummable A.addition A.InRange (map A.meaning self.now.cells) }
-        ensures { A.meaning result ≡ total A.addition (map A.meaning self.now.cells) }
+        requires { IsSummableBy A.addition A.InRange A.meaning self.now.cells }
+        ensures { A.meaning result ≡ total_by A.addition A.meaning self.now.cells }
     {
         if let Some(cells) = self.as_slice_memory_order() {
             return sum_of(cells);
@@ -42,8 +42,8 @@ impl<A: SumElem, S: Data<Elem = A>, D: Lengths> ArrayBase<S, D> {
 
 /// The sum of the elements of a slice, in their order.
 fn sum_of<A: SumElem>(cells: &[A]) -> A
-    requires { IsSummable A.addition A.InRange (map A.meaning cells.now) }
-    ensures { A.meaning result ≡ total A.addition (map A.meaning cells.now) }
+    requires { IsSummableBy A.addition A.InRange A.meaning cells.now }
+    ensures { A.meaning result ≡ total_by A.addition A.meaning cells.now }
 {
     let mut sum = A::zero();
     for x in cells {
@@ -64,8 +64,7 @@ impl<A: PrimInt, S: Data<Elem = A>, D: Lengths> ArrayBase<S, D> {
     /// assert!(!ArrayView::from_shape(3, &[127i8, -1, 1])?.sums_fit());
     /// ```
     pub fn sums_fit(&self) -> bool
-        ensures selections { IsTrue result
-            ↔ IsSummable int_sums A.fits (map A.value self.now.cells) }
+        ensures selections { IsTrue result ↔ IsSummableBy int_sums A.fits A.value self.now.cells }
         ensures bounds { IsTrue result ↔ (A.fits (positive_sum (map A.value self.now.cells))
             × A.fits (negative_sum (map A.value self.now.cells))) }
     {

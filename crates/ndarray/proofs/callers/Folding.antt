@@ -1,4 +1,4 @@
--- For callers of folds over producers: by an invariant, or by a function that the closure computes.
+-- `fold` over producers: by an invariant, or by a function that the closure computes.
 use Rattle.std.proofs.Common.{◌≡◌, List, [], ◌∷◌, ◌++◌, refl, sym, subst, ap, ◌∙◌, append_assoc, append-nil}
 use Rattle.std.proofs.lemmas.List.Sums.{fold-append}
 use Rattle.std.specs.List.{FoldsTo, fold}

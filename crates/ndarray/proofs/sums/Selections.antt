@@ -1,6 +1,6 @@
 -- Selections of a list, and what they tell of a summable one.
-use Rattle.std.proofs.Common.{◌≡◌, ℕ, zero, suc, Bool, true, false, cond, List, [], ◌∷◌, refl, sym, ap, ◌∙◌, subst}
-use Rattle.ndarray.specs.Sums.{CommutativeMonoid, total, select, IsSummable}
+use Rattle.std.proofs.Common.{◌≡◌, ℕ, zero, suc, Bool, true, false, cond, List, [], ◌∷◌, refl, sym, ap, ◌∙◌, subst, map, ◌↔◌}
+use Rattle.ndarray.specs.Sums.{CommutativeMonoid, total, total_by, select, IsSummable, IsSummableBy}
 
 -- the mask b, and then keep
 abbrev pub at_front : Bool → (ℕ → Bool) → ℕ → Bool
@@ -38,3 +38,20 @@ module _ {C : Type 0} (M : CommutativeMonoid C) where
     pub IsSummable-joined : (x y : C) (xs : List C) → IsSummable M P (x ∷ y ∷ xs) → IsSummable M P (M.op x y ∷ xs)
     IsSummable-joined x y xs h keep =
         subst P (total-joined (keep 0) x y (select (λ i. keep (suc i)) xs)) (h (at_front (keep 0) keep))
+
+-- the values of elements, as a list of their own
+module _ {A C : Type 0} (M : CommutativeMonoid C) (value : A → C) where
+  pub total_by-map : (xs : List A) → total_by M value xs ≡ total M (map value xs)
+  total_by-map [] = refl
+  total_by-map (x ∷ xs) = ap (M.op (value x)) (total_by-map xs)
+
+  total-one : (b : Bool) (x : A) (xs : List A) (ys : List C) → total_by M value xs ≡ total M ys → total_by M value (cond b (x ∷ xs) xs) ≡ total M (cond b (value x ∷ ys) ys)
+  total-one true x xs ys e = ap (M.op (value x)) e
+  total-one false x xs ys e = e
+
+  total_by-select : (keep : ℕ → Bool) (xs : List A) → total_by M value (select keep xs) ≡ total M (select keep (map value xs))
+  total_by-select keep [] = refl
+  total_by-select keep (x ∷ xs) = total-one (keep 0) x (select (λ i. keep (suc i)) xs) (select (λ i. keep (suc i)) (map value xs)) (total_by-select (λ i. keep (suc i)) xs)
+
+  pub IsSummableBy-map : (P : C → Type 0) (xs : List A) → IsSummableBy M P value xs ↔ IsSummable M P (map value xs)
+  IsSummableBy-map P xs = ((λ h keep. subst P (total_by-select keep xs) (h keep)), (λ h keep. subst P (sym (total_by-select keep xs)) (h keep)))

@@ -77,7 +77,7 @@ pub trait Lengths: Drop + Sized {
     ///
     /// The caller owes that the lengths that are not 0 multiply to at most `isize::MAX`; the test
     /// is `size_ok`.
-    #[tactic(auto, using(crate::proofs::Sizes::sizes))]
+    #[tactic(auto, using(crate::proofs::boxes::Sizes::sizes))]
     fn size(&self) -> usize
         requires { IsWithinLimit (numbers self.now) }
         ensures { result ≡ size (numbers self.now) }

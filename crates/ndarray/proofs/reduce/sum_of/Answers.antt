@@ -1,6 +1,7 @@
 use Rattle.std.proofs.Common.{◌≡◌, ◌+◌, ◌∷◌, [], ap, ◌∙◌, sym, map, drop, refl, arith, add-one, suc}
 use Rattle.std.proofs.Math.Seq.{drop-cons}
 use Rattle.std.proofs.lemmas.List.{drop_all}
+use Rattle.ndarray.proofs.sums.Selections.{total_by-map, IsSummableBy-map}
 use Rattle.ndarray.proofs.sums.RunningSum.{RunningSum-start, RunningSum-in_range, RunningSum-step, RunningSum-end}
 use Rattle.ndarray.proofs.reduce.sum_of.Goals as goal
 
@@ -8,7 +9,7 @@ pub loop-x-init : goal.loop-x-init
 loop-x-init g c =
     let v = g.A.Valued in
     RunningSum-start v.addition v.InRange (map v.meaning c.args.cells.now) (map v.meaning c.args.cells.now) (v.meaning c.zero-sum.result)
-    refl (ap v.meaning c.zero-sum.ensures ∙ g.met.A.SumElem.zero_meaning) c.requires
+    refl (ap v.meaning c.zero-sum.ensures ∙ g.met.A.SumElem.zero_meaning) ((IsSummableBy-map v.addition v.meaning v.InRange c.args.cells.now).0 c.requires)
 
 pub add-sum-requires : goal.add-sum-requires
 add-sum-requires g c =
@@ -40,3 +41,4 @@ returns g c =
     let xs = c.args.cells.now in
     let none : drop c.loop-x.x-index xs ≡ [] = drop_all c.loop-x.x-index xs (omega arith) in
     RunningSum-end v.addition v.InRange (map v.meaning xs) (map v.meaning (drop c.loop-x.x-index xs)) (v.meaning c.loop-x.sum) (ap (map v.meaning) none) c.loop-x.invariant
+    ∙ sym (total_by-map v.addition v.meaning xs)

@@ -1,8 +1,9 @@
 use Rattle.std.proofs.Common.{◌≡◌, ◌∙◌, ◌↔◌, Bool, true, false, List, [], ◌∷◌, ap, map, None, Some}
 use Rattle.std.specs.Prelude.{ℤ, pos, ◌≤ℤ◌, ◌<ℤ◌, IsTrue}
 use Rattle.std.specs.Ordering.{partial_lt}
-use Rattle.ndarray.specs.Sums.{IsSummable}
+use Rattle.ndarray.specs.Sums.{IsSummableBy}
 use Rattle.ndarray.specs.Integers.{int_sums, positive_sum, negative_sum}
+use Rattle.ndarray.proofs.sums.Selections.{IsSummableBy-map}
 use Rattle.ndarray.proofs.sums.SignedSums.{AddedApart-start, AddedApart-up, AddedApart-down, AddedApart-end, AddedApart-up_excess, AddedApart-down_excess}
 use Rattle.ndarray.proofs.lists.Decisions.{says_no, says_yes}
 use Rattle.ndarray.proofs.sums.IntegerSelections.{tells_summable}
@@ -28,8 +29,11 @@ module _ (g : Over) where
   is_positive x z e = not_below_zero g.A.Number.value g.A.PartialOrd.partial_cmp x z (g.met.A.Number.order_law x z g.met.A.Integral.exact_law) (zero_is z e)
 
   -- an answer about the two sums is one about the sums of all selections
-  both_clauses : (zs : List ℤ) (b : Bool) → IsTrue b ↔ (g.A.Number.fits (positive_sum zs) × g.A.Number.fits (negative_sum zs)) → record { selections : IsTrue b ↔ IsSummable int_sums g.A.Number.fits zs; bounds : IsTrue b ↔ (g.A.Number.fits (positive_sum zs) × g.A.Number.fits (negative_sum zs)) }
-  both_clauses zs b h = record { selections = tells_summable g.A.Number.fits between zs b h; bounds = h }
+  both_clauses : (xs : List g.row.A.Denot) (b : Bool) → (let zs = map g.A.Number.value xs in IsTrue b ↔ (g.A.Number.fits (positive_sum zs) × g.A.Number.fits (negative_sum zs))) → (let zs = map g.A.Number.value xs in record { selections : IsTrue b ↔ IsSummableBy int_sums g.A.Number.fits g.A.Number.value xs; bounds : IsTrue b ↔ (g.A.Number.fits (positive_sum zs) × g.A.Number.fits (negative_sum zs)) })
+  both_clauses xs b h =
+      let s = tells_summable g.A.Number.fits between (map g.A.Number.value xs) b h in
+      let m = IsSummableBy-map int_sums g.A.Number.value g.A.Number.fits xs in
+      record { selections = ((λ t. m.1 (s.0 t)), (λ f. s.1 (m.0 f))); bounds = h }
 
 pub loop-x-init : goal.loop-x-init
 loop-x-init g c =
@@ -65,7 +69,7 @@ returns-in-None-checked_add g c =
     let next : c.loop-x.x-iterator ≡ x ∷ c.next.new.self = c.in-Some.ensures.steps in
     let negative = is_negative g x c.zero.result c.zero.ensures c.if-lt.ensures in
     let excess = g.met.A.CheckedAdd.checked_add_law c.loop-x.down x None c.in-None-checked_add.ensures in
-    both_clauses g (map v c.args.self.now.cells) false (says_no _ (λ both.
+    both_clauses g c.args.self.now.cells false (says_no _ (λ both.
     AddedApart-down_excess g.A.Number.fits (map v c.args.self.now.cells) (map v c.loop-x.x-iterator) (map v c.next.new.self) (v x) (v c.loop-x.up) (v c.loop-x.down)
     (ap (map v) next) c.loop-x.invariant (zero_fits g) (between g) negative excess both.1))
 
@@ -76,7 +80,7 @@ returns-in-None-checked_add-2 g c =
     let next : c.loop-x.x-iterator ≡ x ∷ c.next.new.self = c.in-Some.ensures.steps in
     let positive = is_positive g x c.zero.result c.zero.ensures c.if-lt.ensures in
     let excess = g.met.A.CheckedAdd.checked_add_law c.loop-x.up x None c.in-None-checked_add-2.ensures in
-    both_clauses g (map v c.args.self.now.cells) false (says_no _ (λ both.
+    both_clauses g c.args.self.now.cells false (says_no _ (λ both.
     AddedApart-up_excess g.A.Number.fits (map v c.args.self.now.cells) (map v c.loop-x.x-iterator) (map v c.next.new.self) (v x) (v c.loop-x.up) (v c.loop-x.down)
     (ap (map v) next) c.loop-x.invariant (zero_fits g) (between g) positive excess both.0))
 
@@ -84,5 +88,5 @@ pub returns : goal.returns
 returns g c =
     let v = g.A.Number.value in
     let none : c.loop-x.x-iterator ≡ [] = c.in-None.ensures.steps.0 in
-    both_clauses g (map v c.args.self.now.cells) true (says_yes _
+    both_clauses g c.args.self.now.cells true (says_yes _
     (AddedApart-end g.A.Number.fits (map v c.args.self.now.cells) (map v c.loop-x.x-iterator) (v c.loop-x.up) (v c.loop-x.down) (ap (map v) none) c.loop-x.invariant))
