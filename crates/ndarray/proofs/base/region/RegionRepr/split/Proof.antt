@@ -73,7 +73,7 @@ module _ (E W N : El) where
   abbrev end : Ended
   end = F.ended E.row W.row N.row
 
-  abbrev stayed : Stays end.signature.params end.slots_in
+  abbrev stayed : Stays end.signature.params end.kept
   stayed = (stay_dropped (plain (λ _. Rg (param 1 W.row) E)) no, (stay_dropped (RefOf (0 ∷ []) tt (plain (λ _. Q)) (λ _. tt)) yes, tt))
 
 module _ (E W N : El) {M : Type 1} {𝓤 : Ura M} (𝓛 : Logic 𝓤) (at_mem : Memory → SProp 𝓤) (run : Routine → Fun 𝓤) (C : Calls 𝓤 𝓛.H) (Λ : Loops 𝓤 𝓛.H)
