@@ -1,7 +1,8 @@
 //! Functions that a user would write over the library, each with what it computes as its contract. docs/CALLING.md
 //! goes through them.
 
-ghost use Rattle.std.specs.Prelude.{◌≡◌, IfOk};
+ghost use Rattle.std.specs.Prelude.{◌≡◌, max, nat_lt, IfOk};
+ghost use Rattle.std.specs.List.{fold, list_all, list_any};
 ghost use Rattle.ndarray.specs.Grid.{arranged};
 ghost use Rattle.ndarray_bench.specs.Callers.{half_at};
 
@@ -16,4 +17,25 @@ pub fn halved<S: Data<Elem = u64>, D: Dimension>(
     ensures { IfOk result (λ b. b ≡ arranged a.now.lengths (half_at a.now)) }
 {
     Zip::from(a).map_collect(alloc, |x| *x / 2)
+}
+
+/// Whether each cell is below a limit.
+pub fn all_below<S: Data<Elem = u64>, D: Dimension>(a: &ArrayBase<S, D>, limit: u64) -> bool
+    ensures { result ≡ list_all (λ x. nat_lt x limit) a.now.cells }
+{
+    Zip::from(a.view()).all(|x| *x < limit)
+}
+
+/// Whether some cell is below a limit.
+pub fn any_below<S: Data<Elem = u64>, D: Dimension>(a: &ArrayBase<S, D>, limit: u64) -> bool
+    ensures { result ≡ list_any (λ x. nat_lt x limit) a.now.cells }
+{
+    Zip::from(a.view()).any(|x| *x < limit)
+}
+
+/// The greatest cell, and 0 where there is none.
+pub fn greatest<S: Data<Elem = u64>, D: Dimension>(a: &ArrayBase<S, D>) -> u64
+    ensures { result ≡ fold max 0 a.now.cells }
+{
+    Zip::from(a.view()).fold(0, |most, x| most.max(*x))
 }
