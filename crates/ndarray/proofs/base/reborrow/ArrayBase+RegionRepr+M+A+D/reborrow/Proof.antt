@@ -193,9 +193,9 @@ meets E P W {𝓤 = 𝓤} 𝓛 at_mem run 𝓣 =
     move ! (1 ∷ []) $ split3 ! $ drop ! $ heard ! (κs.1.1.0 ⊑ P.row.lives) (λ ind. cut_item ! $ heard ! (κs.1.1.1.0 ⊑ W.row.lives) (λ inm. drop ! $
     by ! (entry E P W 𝓛 at_mem run 𝓣.C 𝓣.Λ z (⊑_trans κs.0 κs.1.1.0 P.row.lives z.0.2.1.1.0 ind) (⊑_trans κs.0 κs.1.1.1.0 W.row.lives z.0.2.0 inm) z.0.4.0))))
 
-pub opened_spec : {M : Type 1} → stated.statement M
+pub reborrow_spec : {M : Type 1} → stated.statement M
 unfolding tables_of
-opened_spec 𝓤 𝓛 𝓜 𝓡 wired X Y V LX LY LV g d dd met md =
+reborrow_spec 𝓤 𝓛 𝓜 𝓡 wired X Y V LX LY LV g d dd met md =
     let E : El = record { row = X; laws = LX } in
     let W : El = record { row = V; laws = LV } in
     let P : Dm = record { row = Y; laws = LY; g = g; d = d; drops = dd } in
