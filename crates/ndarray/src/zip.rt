@@ -5,6 +5,7 @@ ghost use Rattle.ndarray.specs.Broadcast.{BroadcastsTo};
 ghost use Rattle.ndarray.specs.Grid.{arranged, cell};
 ghost use Rattle.ndarray.specs.Index.{InBox, size};
 
+mod all_items;
 mod arities;
 mod assigning;
 mod azip;
@@ -24,16 +25,18 @@ use crate::base::array::ArrayView;
 use crate::base::dimension::{Dimension, Lengths};
 use crate::base::index_lists::Indices;
 pub use crate::zip::fold_while::FoldWhile;
+pub use crate::zip::joining::{Five, Four, JoinOne, One, Six, Three, Two};
 use crate::zip::pair::Pair;
 pub use crate::zip::producer::{IntoBroadcast, IntoNdProducer, KeepsLengths, NdProducer, Shaped};
 use std::alloc::AllocError;
 use std::marker::{Model, PhantomData};
 
-/// `K` producers of the same lengths, as one of nested pairs of their items.
+/// Producers of the same lengths as one of nested pairs of their items, and their number: [`One`] to [`Six`].
 #[derive(Drop)]
-pub struct Parts<N, const K: usize> {
+pub struct Parts<N, K> {
     /// The one producer.
     pub nested: N,
+    number: PhantomData<K>,
 }
 
 /// One to six producers of the same lengths, to be walked together.
@@ -49,31 +52,37 @@ impl<P, D> Model for Zip<P, D> {
     ghost view = { λ s. s.parts };
 }
 
-impl<N: Clone, D, const K: usize> Clone for Zip<Parts<N, K>, D> {
+impl<N, D, K> Zip<Parts<N, K>, D> {
+    /// The producers as one.
+    fn of(nested: N) -> Self
+        ensures { result.nested ≡ nested }
+    {
+        Zip {
+            parts: Parts {
+                nested,
+                number: PhantomData,
+            },
+            dimension: PhantomData,
+        }
+    }
+}
+
+impl<N: Clone, D, K> Clone for Zip<Parts<N, K>, D> {
     ghost is_clone = { λ s r. N.is_clone s.nested r.nested };
 
     ghost is_infallible = { λ s. N.is_infallible s.nested };
 
     fn clone(&self) -> Result<Zip<Parts<N, K>, D>, AllocError> {
-        Ok(Zip {
-            parts: Parts {
-                nested: self.parts.nested.clone()?,
-            },
-            dimension: PhantomData,
-        })
+        Ok(Zip::of(self.parts.nested.clone()?))
     }
 }
 
 impl Zip<(), ()> {
     /// Begins with a producer, or a reference to an array.
-    pub fn from<I: IntoNdProducer>(part: I) -> Zip<Parts<I::Output, 1>, I::Dim>
+    pub fn from<I: IntoNdProducer>(part: I) -> Zip<Parts<I::Output, One>, I::Dim>
         ensures { I.converts_to part result.nested }
     {
-        let nested = part.into_producer();
-        Zip {
-            parts: Parts { nested },
-            dimension: PhantomData,
-        }
+        Zip::of(part.into_producer())
     }
 
     /// Begins with the index patterns beside a producer, or a reference to an array: the item at an
@@ -85,7 +94,7 @@ impl Zip<(), ()> {
     /// ```
     pub fn indexed<I: IntoNdProducer>(
         part: I,
-    ) -> Zip<Parts<Pair<Indices<I::Dim>, I::Output>, 2>, I::Dim>
+    ) -> Zip<Parts<Pair<Indices<I::Dim>, I::Output>, Two>, I::Dim>
     where
         I::Dim: Dimension,
         ensures part { I.converts_to part result.nested.second }
@@ -94,16 +103,11 @@ impl Zip<(), ()> {
     {
         let second = part.into_producer();
         let first = Indices::of(second.raw_dim());
-        Zip {
-            parts: Parts {
-                nested: Pair { first, second },
-            },
-            dimension: PhantomData,
-        }
+        Zip::of(Pair { first, second })
     }
 }
 
-impl<N: NdProducer<Dim = D>, D: Lengths, const K: usize> Zip<Parts<N, K>, D> {
+impl<N: NdProducer<Dim = D>, D: Lengths, K> Zip<Parts<N, K>, D> {
     /// The number of index lists.
     pub fn size(&self) -> usize
         ensures { result ≡ size (N.lengths self.now.nested) }

@@ -42,5 +42,5 @@ collects_via yields_at call_gives call_gives' k each o ns f g c =
 -- the same of what may be an array
 pub if_collects : {F G A R E : Type 0} (yields_at : List ℕ → A → Type 0) (call_gives : F → A → R → F → Type 0) (call_gives' : G → A → R → G → Type 0) (k : F → G)
     (each : (f : F) (x : A) (r : R) (h : F) → call_gives f x r h → call_gives' (k f) x r (k h))
-    → (o : Order) (ns : List ℕ) (f : F) (r : Result (Grid R) E) → IfOk r (Collects yields_at call_gives o ns f) → IfOk r (λ g. (o : Order) × Collects yields_at call_gives' o ns (k f) g)
-if_collects yields_at call_gives call_gives' k each o ns f r = if_ok r _ _ (λ g c. (o, collects_via yields_at call_gives call_gives' k each o ns f g c))
+    → (ns : List ℕ) (f : F) (r : Result (Grid R) E) → IfOk r (λ g. (o : Order) × Collects yields_at call_gives o ns f g) → IfOk r (λ g. (o : Order) × Collects yields_at call_gives' o ns (k f) g)
+if_collects yields_at call_gives call_gives' k each ns f r = if_ok r _ _ (λ g c. (c.0, collects_via yields_at call_gives call_gives' k each c.0 ns f g c.1))

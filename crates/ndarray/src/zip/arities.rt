@@ -1,8 +1,9 @@
 //! The calls of `Zip`, for each number of producers.
 
-ghost use Rattle.std.specs.Prelude.{◌≡◌, true, false, IfOk};
+ghost use Rattle.std.specs.Prelude.{◌≡◌, true, false, length, IfOk, IsOk};
 ghost use Rattle.ndarray.specs.Calls.{can_call1, call_gives1, can_call_fold1, call_gives_fold1, can_call2, call_gives2, can_call_fold2, call_gives_fold2, can_call3, call_gives3, can_call_fold3, call_gives_fold3, can_call4, call_gives4, can_call_fold4, call_gives_fold4, can_call5, call_gives5, can_call_fold5, call_gives_fold5, can_call6, call_gives6, can_call_fold6, call_gives_fold6};
 ghost use Rattle.ndarray.specs.Grid.{IsGrid};
+ghost use Rattle.ndarray.specs.Index.{size};
 ghost use Rattle.ndarray.specs.Orders.{box_in};
 ghost use Rattle.ndarray.specs.Runs.{MayFold, Folds, MayVisit, Visits, MayTest, TestsUntil, MayFoldWhile, FoldsWhile, MayGather, Collects};
 ghost use Rattle.ndarray.specs.declared.base.shape.Order.{Order};
@@ -10,29 +11,20 @@ ghost use Rattle.ndarray.specs.declared.base.shape.Order.{Order};
 use crate::base::array::{Array, ArrayBase};
 use crate::base::dimension::Lengths;
 use crate::base::storage::DataMut;
-use crate::order::Order;
-use crate::zip::assigning::{assign_items, assigning_order};
 use crate::zip::calls::{On1, On2, On3, On4, On5, On6};
-use crate::zip::collecting::collect_items;
 use crate::zip::fold_while::FoldWhile;
-use crate::zip::producer::{NdProducer, preferred_order};
-use crate::zip::walks::{all_items, any_items, fold_items, fold_items_while, visit_items};
+use crate::zip::joining::{Five, Four, One, Six, Three, Two};
+use crate::zip::producer::NdProducer;
 use crate::zip::{Parts, Zip};
 use std::alloc::{AllocError, Global};
 
-impl<N: NdProducer<Dim = D>, D: Lengths> Zip<Parts<N, 1>, D> {
+impl<N: NdProducer<Dim = D>, D: Lengths> Zip<Parts<N, One>, D> {
     /// Calls `f` once at the items of each index list.
     pub fn for_each<F: FnMut(N::Item)>(self, f: F)
         requires callable { (o : Order) → MayVisit (N.yields_at self.nested) (call_gives1 F.FnMut) (can_call1 F.FnMut) (box_in o (N.lengths self.nested)) f }
         ensures ran { (o : Order) × Visits (N.yields_at self.nested) (call_gives1 F.FnMut) (box_in o (N.lengths self.nested)) f }
     {
-        let Zip {
-            parts,
-            dimension: _,
-        } = self;
-        let Parts { nested } = parts;
-        let order = preferred_order(&nested);
-        visit_items(nested, order, On1(f))
+        self.visit_items(On1(f))
     }
 
     /// Calls `f` once at the total and the items of each index list; each answer is the next total, and the
@@ -41,13 +33,7 @@ impl<N: NdProducer<Dim = D>, D: Lengths> Zip<Parts<N, 1>, D> {
         requires callable { (o : Order) → MayFold (N.yields_at self.nested) (call_gives_fold1 F.FnMut) (can_call_fold1 F.FnMut) (box_in o (N.lengths self.nested)) f acc }
         ensures ran { (o : Order) × Folds (N.yields_at self.nested) (call_gives_fold1 F.FnMut) (box_in o (N.lengths self.nested)) f acc result }
     {
-        let Zip {
-            parts,
-            dimension: _,
-        } = self;
-        let Parts { nested } = parts;
-        let order = preferred_order(&nested);
-        fold_items(nested, order, acc, On1(f))
+        self.fold_items(acc, On1(f))
     }
 
     /// As `fold`, up to the first answer that is `Done`.
@@ -55,13 +41,7 @@ impl<N: NdProducer<Dim = D>, D: Lengths> Zip<Parts<N, 1>, D> {
         requires callable { (o : Order) → MayFoldWhile (N.yields_at self.nested) (call_gives_fold1 F.FnMut) (can_call_fold1 F.FnMut) (box_in o (N.lengths self.nested)) f acc }
         ensures ran { (o : Order) × FoldsWhile (N.yields_at self.nested) (call_gives_fold1 F.FnMut) (box_in o (N.lengths self.nested)) f acc result }
     {
-        let Zip {
-            parts,
-            dimension: _,
-        } = self;
-        let Parts { nested } = parts;
-        let order = preferred_order(&nested);
-        fold_items_while(nested, order, acc, On1(f))
+        self.fold_items_while(acc, On1(f))
     }
 
     /// Whether `f` answers `true` at the items of each index list; it stops at the first `false`.
@@ -69,13 +49,7 @@ impl<N: NdProducer<Dim = D>, D: Lengths> Zip<Parts<N, 1>, D> {
         requires callable { (o : Order) → MayTest (N.yields_at self.nested) (call_gives1 F.FnMut) (can_call1 F.FnMut) (box_in o (N.lengths self.nested)) f true }
         ensures ran { (o : Order) × TestsUntil (N.yields_at self.nested) (call_gives1 F.FnMut) (box_in o (N.lengths self.nested)) f true false result }
     {
-        let Zip {
-            parts,
-            dimension: _,
-        } = self;
-        let Parts { nested } = parts;
-        let order = preferred_order(&nested);
-        all_items(nested, order, On1(f))
+        self.all_items(On1(f))
     }
 
     /// Whether `f` answers `true` at the items of some index list; it stops at the first `true`.
@@ -83,18 +57,13 @@ impl<N: NdProducer<Dim = D>, D: Lengths> Zip<Parts<N, 1>, D> {
         requires callable { (o : Order) → MayTest (N.yields_at self.nested) (call_gives1 F.FnMut) (can_call1 F.FnMut) (box_in o (N.lengths self.nested)) f false }
         ensures ran { (o : Order) × TestsUntil (N.yields_at self.nested) (call_gives1 F.FnMut) (box_in o (N.lengths self.nested)) f false true result }
     {
-        let Zip {
-            parts,
-            dimension: _,
-        } = self;
-        let Parts { nested } = parts;
-        let order = preferred_order(&nested);
-        any_items(nested, order, On1(f))
+        self.any_items(On1(f))
     }
 
     /// The array that has at each index list what `f` answers at the items there.
     ///
-    /// All memory is reserved before the first call; an `Err` calls `f` never.
+    /// All memory is reserved before the first call; an `Err` calls `f` never, and where there is no index
+    /// list there is none.
     pub fn map_collect<R: Drop, F: FnMut(N::Item) -> R>(
         self,
         alloc: Global,
@@ -102,20 +71,16 @@ impl<N: NdProducer<Dim = D>, D: Lengths> Zip<Parts<N, 1>, D> {
     ) -> Result<Array<R, D>, AllocError>
         requires callable { (o : Order) → MayGather (N.yields_at self.nested) (call_gives1 F.FnMut) (can_call1 F.FnMut) (box_in o (N.lengths self.nested)) f }
         ensures ran { IfOk result (λ g. (o : Order) × Collects (N.yields_at self.nested) (call_gives1 F.FnMut) o (N.lengths self.nested) f g) }
+        ensures axes { IfOk result (λ g. D.has_axes (length g.lengths)) }
         ensures whole { IfOk result IsGrid }
+        ensures empty { size (N.lengths self.nested) ≡ 0 → IsOk result }
     {
-        let Zip {
-            parts,
-            dimension: _,
-        } = self;
-        let Parts { nested } = parts;
-        let order = preferred_order(&nested);
-        collect_items(alloc, nested, order, On1(f))
+        self.collect_items(alloc, On1(f))
     }
 
     /// Leaves in the cells of an array what `f` answers at the items of each index list.
     ///
-    /// The caller owes that the array has the same shape; the test is `fits`.
+    /// Requires that the array has the same shape; check with `fits`.
     pub fn map_assign_into<R: Drop, S: DataMut<Elem = R>, F: FnMut(N::Item) -> R>(
         self,
         into: &mut ArrayBase<S, D>,
@@ -126,29 +91,17 @@ impl<N: NdProducer<Dim = D>, D: Lengths> Zip<Parts<N, 1>, D> {
         ensures ran { (o : Order) × Collects (N.yields_at self.nested) (call_gives1 F.FnMut) o (N.lengths self.nested) f into.new }
         ensures whole { IsGrid into.new }
     {
-        let Zip {
-            parts,
-            dimension: _,
-        } = self;
-        let Parts { nested } = parts;
-        let order = assigning_order(&nested, into);
-        assign_items(nested, order, into, On1(f))
+        self.assign_items(into, On1(f))
     }
 }
 
-impl<X, Y, N: NdProducer<Item = (X, Y), Dim = D>, D: Lengths> Zip<Parts<N, 2>, D> {
+impl<X, Y, N: NdProducer<Item = (X, Y), Dim = D>, D: Lengths> Zip<Parts<N, Two>, D> {
     /// Calls `f` once at the items of each index list.
     pub fn for_each<F: FnMut(X, Y)>(self, f: F)
         requires callable { (o : Order) → MayVisit (N.yields_at self.nested) (call_gives2 F.FnMut) (can_call2 F.FnMut) (box_in o (N.lengths self.nested)) f }
         ensures ran { (o : Order) × Visits (N.yields_at self.nested) (call_gives2 F.FnMut) (box_in o (N.lengths self.nested)) f }
     {
-        let Zip {
-            parts,
-            dimension: _,
-        } = self;
-        let Parts { nested } = parts;
-        let order = preferred_order(&nested);
-        visit_items(nested, order, On2(f))
+        self.visit_items(On2(f))
     }
 
     /// Calls `f` once at the total and the items of each index list; each answer is the next total, and the
@@ -157,13 +110,7 @@ impl<X, Y, N: NdProducer<Item = (X, Y), Dim = D>, D: Lengths> Zip<Parts<N, 2>, D
         requires callable { (o : Order) → MayFold (N.yields_at self.nested) (call_gives_fold2 F.FnMut) (can_call_fold2 F.FnMut) (box_in o (N.lengths self.nested)) f acc }
         ensures ran { (o : Order) × Folds (N.yields_at self.nested) (call_gives_fold2 F.FnMut) (box_in o (N.lengths self.nested)) f acc result }
     {
-        let Zip {
-            parts,
-            dimension: _,
-        } = self;
-        let Parts { nested } = parts;
-        let order = preferred_order(&nested);
-        fold_items(nested, order, acc, On2(f))
+        self.fold_items(acc, On2(f))
     }
 
     /// As `fold`, up to the first answer that is `Done`.
@@ -171,13 +118,7 @@ impl<X, Y, N: NdProducer<Item = (X, Y), Dim = D>, D: Lengths> Zip<Parts<N, 2>, D
         requires callable { (o : Order) → MayFoldWhile (N.yields_at self.nested) (call_gives_fold2 F.FnMut) (can_call_fold2 F.FnMut) (box_in o (N.lengths self.nested)) f acc }
         ensures ran { (o : Order) × FoldsWhile (N.yields_at self.nested) (call_gives_fold2 F.FnMut) (box_in o (N.lengths self.nested)) f acc result }
     {
-        let Zip {
-            parts,
-            dimension: _,
-        } = self;
-        let Parts { nested } = parts;
-        let order = preferred_order(&nested);
-        fold_items_while(nested, order, acc, On2(f))
+        self.fold_items_while(acc, On2(f))
     }
 
     /// Whether `f` answers `true` at the items of each index list; it stops at the first `false`.
@@ -185,13 +126,7 @@ impl<X, Y, N: NdProducer<Item = (X, Y), Dim = D>, D: Lengths> Zip<Parts<N, 2>, D
         requires callable { (o : Order) → MayTest (N.yields_at self.nested) (call_gives2 F.FnMut) (can_call2 F.FnMut) (box_in o (N.lengths self.nested)) f true }
         ensures ran { (o : Order) × TestsUntil (N.yields_at self.nested) (call_gives2 F.FnMut) (box_in o (N.lengths self.nested)) f true false result }
     {
-        let Zip {
-            parts,
-            dimension: _,
-        } = self;
-        let Parts { nested } = parts;
-        let order = preferred_order(&nested);
-        all_items(nested, order, On2(f))
+        self.all_items(On2(f))
     }
 
     /// Whether `f` answers `true` at the items of some index list; it stops at the first `true`.
@@ -199,18 +134,13 @@ impl<X, Y, N: NdProducer<Item = (X, Y), Dim = D>, D: Lengths> Zip<Parts<N, 2>, D
         requires callable { (o : Order) → MayTest (N.yields_at self.nested) (call_gives2 F.FnMut) (can_call2 F.FnMut) (box_in o (N.lengths self.nested)) f false }
         ensures ran { (o : Order) × TestsUntil (N.yields_at self.nested) (call_gives2 F.FnMut) (box_in o (N.lengths self.nested)) f false true result }
     {
-        let Zip {
-            parts,
-            dimension: _,
-        } = self;
-        let Parts { nested } = parts;
-        let order = preferred_order(&nested);
-        any_items(nested, order, On2(f))
+        self.any_items(On2(f))
     }
 
     /// The array that has at each index list what `f` answers at the items there.
     ///
-    /// All memory is reserved before the first call; an `Err` calls `f` never.
+    /// All memory is reserved before the first call; an `Err` calls `f` never, and where there is no index
+    /// list there is none.
     pub fn map_collect<R: Drop, F: FnMut(X, Y) -> R>(
         self,
         alloc: Global,
@@ -218,20 +148,16 @@ impl<X, Y, N: NdProducer<Item = (X, Y), Dim = D>, D: Lengths> Zip<Parts<N, 2>, D
     ) -> Result<Array<R, D>, AllocError>
         requires callable { (o : Order) → MayGather (N.yields_at self.nested) (call_gives2 F.FnMut) (can_call2 F.FnMut) (box_in o (N.lengths self.nested)) f }
         ensures ran { IfOk result (λ g. (o : Order) × Collects (N.yields_at self.nested) (call_gives2 F.FnMut) o (N.lengths self.nested) f g) }
+        ensures axes { IfOk result (λ g. D.has_axes (length g.lengths)) }
         ensures whole { IfOk result IsGrid }
+        ensures empty { size (N.lengths self.nested) ≡ 0 → IsOk result }
     {
-        let Zip {
-            parts,
-            dimension: _,
-        } = self;
-        let Parts { nested } = parts;
-        let order = preferred_order(&nested);
-        collect_items(alloc, nested, order, On2(f))
+        self.collect_items(alloc, On2(f))
     }
 
     /// Leaves in the cells of an array what `f` answers at the items of each index list.
     ///
-    /// The caller owes that the array has the same shape; the test is `fits`.
+    /// Requires that the array has the same shape; check with `fits`.
     pub fn map_assign_into<R: Drop, S: DataMut<Elem = R>, F: FnMut(X, Y) -> R>(
         self,
         into: &mut ArrayBase<S, D>,
@@ -242,29 +168,17 @@ impl<X, Y, N: NdProducer<Item = (X, Y), Dim = D>, D: Lengths> Zip<Parts<N, 2>, D
         ensures ran { (o : Order) × Collects (N.yields_at self.nested) (call_gives2 F.FnMut) o (N.lengths self.nested) f into.new }
         ensures whole { IsGrid into.new }
     {
-        let Zip {
-            parts,
-            dimension: _,
-        } = self;
-        let Parts { nested } = parts;
-        let order = assigning_order(&nested, into);
-        assign_items(nested, order, into, On2(f))
+        self.assign_items(into, On2(f))
     }
 }
 
-impl<X, Y, Z, N: NdProducer<Item = ((X, Y), Z), Dim = D>, D: Lengths> Zip<Parts<N, 3>, D> {
+impl<X, Y, Z, N: NdProducer<Item = ((X, Y), Z), Dim = D>, D: Lengths> Zip<Parts<N, Three>, D> {
     /// Calls `f` once at the items of each index list.
     pub fn for_each<F: FnMut(X, Y, Z)>(self, f: F)
         requires callable { (o : Order) → MayVisit (N.yields_at self.nested) (call_gives3 F.FnMut) (can_call3 F.FnMut) (box_in o (N.lengths self.nested)) f }
         ensures ran { (o : Order) × Visits (N.yields_at self.nested) (call_gives3 F.FnMut) (box_in o (N.lengths self.nested)) f }
     {
-        let Zip {
-            parts,
-            dimension: _,
-        } = self;
-        let Parts { nested } = parts;
-        let order = preferred_order(&nested);
-        visit_items(nested, order, On3(f))
+        self.visit_items(On3(f))
     }
 
     /// Calls `f` once at the total and the items of each index list; each answer is the next total, and the
@@ -273,13 +187,7 @@ impl<X, Y, Z, N: NdProducer<Item = ((X, Y), Z), Dim = D>, D: Lengths> Zip<Parts<
         requires callable { (o : Order) → MayFold (N.yields_at self.nested) (call_gives_fold3 F.FnMut) (can_call_fold3 F.FnMut) (box_in o (N.lengths self.nested)) f acc }
         ensures ran { (o : Order) × Folds (N.yields_at self.nested) (call_gives_fold3 F.FnMut) (box_in o (N.lengths self.nested)) f acc result }
     {
-        let Zip {
-            parts,
-            dimension: _,
-        } = self;
-        let Parts { nested } = parts;
-        let order = preferred_order(&nested);
-        fold_items(nested, order, acc, On3(f))
+        self.fold_items(acc, On3(f))
     }
 
     /// As `fold`, up to the first answer that is `Done`.
@@ -287,13 +195,7 @@ impl<X, Y, Z, N: NdProducer<Item = ((X, Y), Z), Dim = D>, D: Lengths> Zip<Parts<
         requires callable { (o : Order) → MayFoldWhile (N.yields_at self.nested) (call_gives_fold3 F.FnMut) (can_call_fold3 F.FnMut) (box_in o (N.lengths self.nested)) f acc }
         ensures ran { (o : Order) × FoldsWhile (N.yields_at self.nested) (call_gives_fold3 F.FnMut) (box_in o (N.lengths self.nested)) f acc result }
     {
-        let Zip {
-            parts,
-            dimension: _,
-        } = self;
-        let Parts { nested } = parts;
-        let order = preferred_order(&nested);
-        fold_items_while(nested, order, acc, On3(f))
+        self.fold_items_while(acc, On3(f))
     }
 
     /// Whether `f` answers `true` at the items of each index list; it stops at the first `false`.
@@ -301,13 +203,7 @@ impl<X, Y, Z, N: NdProducer<Item = ((X, Y), Z), Dim = D>, D: Lengths> Zip<Parts<
         requires callable { (o : Order) → MayTest (N.yields_at self.nested) (call_gives3 F.FnMut) (can_call3 F.FnMut) (box_in o (N.lengths self.nested)) f true }
         ensures ran { (o : Order) × TestsUntil (N.yields_at self.nested) (call_gives3 F.FnMut) (box_in o (N.lengths self.nested)) f true false result }
     {
-        let Zip {
-            parts,
-            dimension: _,
-        } = self;
-        let Parts { nested } = parts;
-        let order = preferred_order(&nested);
-        all_items(nested, order, On3(f))
+        self.all_items(On3(f))
     }
 
     /// Whether `f` answers `true` at the items of some index list; it stops at the first `true`.
@@ -315,18 +211,13 @@ impl<X, Y, Z, N: NdProducer<Item = ((X, Y), Z), Dim = D>, D: Lengths> Zip<Parts<
         requires callable { (o : Order) → MayTest (N.yields_at self.nested) (call_gives3 F.FnMut) (can_call3 F.FnMut) (box_in o (N.lengths self.nested)) f false }
         ensures ran { (o : Order) × TestsUntil (N.yields_at self.nested) (call_gives3 F.FnMut) (box_in o (N.lengths self.nested)) f false true result }
     {
-        let Zip {
-            parts,
-            dimension: _,
-        } = self;
-        let Parts { nested } = parts;
-        let order = preferred_order(&nested);
-        any_items(nested, order, On3(f))
+        self.any_items(On3(f))
     }
 
     /// The array that has at each index list what `f` answers at the items there.
     ///
-    /// All memory is reserved before the first call; an `Err` calls `f` never.
+    /// All memory is reserved before the first call; an `Err` calls `f` never, and where there is no index
+    /// list there is none.
     pub fn map_collect<R: Drop, F: FnMut(X, Y, Z) -> R>(
         self,
         alloc: Global,
@@ -334,20 +225,16 @@ impl<X, Y, Z, N: NdProducer<Item = ((X, Y), Z), Dim = D>, D: Lengths> Zip<Parts<
     ) -> Result<Array<R, D>, AllocError>
         requires callable { (o : Order) → MayGather (N.yields_at self.nested) (call_gives3 F.FnMut) (can_call3 F.FnMut) (box_in o (N.lengths self.nested)) f }
         ensures ran { IfOk result (λ g. (o : Order) × Collects (N.yields_at self.nested) (call_gives3 F.FnMut) o (N.lengths self.nested) f g) }
+        ensures axes { IfOk result (λ g. D.has_axes (length g.lengths)) }
         ensures whole { IfOk result IsGrid }
+        ensures empty { size (N.lengths self.nested) ≡ 0 → IsOk result }
     {
-        let Zip {
-            parts,
-            dimension: _,
-        } = self;
-        let Parts { nested } = parts;
-        let order = preferred_order(&nested);
-        collect_items(alloc, nested, order, On3(f))
+        self.collect_items(alloc, On3(f))
     }
 
     /// Leaves in the cells of an array what `f` answers at the items of each index list.
     ///
-    /// The caller owes that the array has the same shape; the test is `fits`.
+    /// Requires that the array has the same shape; check with `fits`.
     pub fn map_assign_into<R: Drop, S: DataMut<Elem = R>, F: FnMut(X, Y, Z) -> R>(
         self,
         into: &mut ArrayBase<S, D>,
@@ -358,29 +245,17 @@ impl<X, Y, Z, N: NdProducer<Item = ((X, Y), Z), Dim = D>, D: Lengths> Zip<Parts<
         ensures ran { (o : Order) × Collects (N.yields_at self.nested) (call_gives3 F.FnMut) o (N.lengths self.nested) f into.new }
         ensures whole { IsGrid into.new }
     {
-        let Zip {
-            parts,
-            dimension: _,
-        } = self;
-        let Parts { nested } = parts;
-        let order = assigning_order(&nested, into);
-        assign_items(nested, order, into, On3(f))
+        self.assign_items(into, On3(f))
     }
 }
 
-impl<X, Y, Z, U, N: NdProducer<Item = (((X, Y), Z), U), Dim = D>, D: Lengths> Zip<Parts<N, 4>, D> {
+impl<X, Y, Z, U, N: NdProducer<Item = (((X, Y), Z), U), Dim = D>, D: Lengths> Zip<Parts<N, Four>, D> {
     /// Calls `f` once at the items of each index list.
     pub fn for_each<F: FnMut(X, Y, Z, U)>(self, f: F)
         requires callable { (o : Order) → MayVisit (N.yields_at self.nested) (call_gives4 F.FnMut) (can_call4 F.FnMut) (box_in o (N.lengths self.nested)) f }
         ensures ran { (o : Order) × Visits (N.yields_at self.nested) (call_gives4 F.FnMut) (box_in o (N.lengths self.nested)) f }
     {
-        let Zip {
-            parts,
-            dimension: _,
-        } = self;
-        let Parts { nested } = parts;
-        let order = preferred_order(&nested);
-        visit_items(nested, order, On4(f))
+        self.visit_items(On4(f))
     }
 
     /// Calls `f` once at the total and the items of each index list; each answer is the next total, and the
@@ -389,13 +264,7 @@ impl<X, Y, Z, U, N: NdProducer<Item = (((X, Y), Z), U), Dim = D>, D: Lengths> Zi
         requires callable { (o : Order) → MayFold (N.yields_at self.nested) (call_gives_fold4 F.FnMut) (can_call_fold4 F.FnMut) (box_in o (N.lengths self.nested)) f acc }
         ensures ran { (o : Order) × Folds (N.yields_at self.nested) (call_gives_fold4 F.FnMut) (box_in o (N.lengths self.nested)) f acc result }
     {
-        let Zip {
-            parts,
-            dimension: _,
-        } = self;
-        let Parts { nested } = parts;
-        let order = preferred_order(&nested);
-        fold_items(nested, order, acc, On4(f))
+        self.fold_items(acc, On4(f))
     }
 
     /// As `fold`, up to the first answer that is `Done`.
@@ -407,13 +276,7 @@ impl<X, Y, Z, U, N: NdProducer<Item = (((X, Y), Z), U), Dim = D>, D: Lengths> Zi
         requires callable { (o : Order) → MayFoldWhile (N.yields_at self.nested) (call_gives_fold4 F.FnMut) (can_call_fold4 F.FnMut) (box_in o (N.lengths self.nested)) f acc }
         ensures ran { (o : Order) × FoldsWhile (N.yields_at self.nested) (call_gives_fold4 F.FnMut) (box_in o (N.lengths self.nested)) f acc result }
     {
-        let Zip {
-            parts,
-            dimension: _,
-        } = self;
-        let Parts { nested } = parts;
-        let order = preferred_order(&nested);
-        fold_items_while(nested, order, acc, On4(f))
+        self.fold_items_while(acc, On4(f))
     }
 
     /// Whether `f` answers `true` at the items of each index list; it stops at the first `false`.
@@ -421,13 +284,7 @@ impl<X, Y, Z, U, N: NdProducer<Item = (((X, Y), Z), U), Dim = D>, D: Lengths> Zi
         requires callable { (o : Order) → MayTest (N.yields_at self.nested) (call_gives4 F.FnMut) (can_call4 F.FnMut) (box_in o (N.lengths self.nested)) f true }
         ensures ran { (o : Order) × TestsUntil (N.yields_at self.nested) (call_gives4 F.FnMut) (box_in o (N.lengths self.nested)) f true false result }
     {
-        let Zip {
-            parts,
-            dimension: _,
-        } = self;
-        let Parts { nested } = parts;
-        let order = preferred_order(&nested);
-        all_items(nested, order, On4(f))
+        self.all_items(On4(f))
     }
 
     /// Whether `f` answers `true` at the items of some index list; it stops at the first `true`.
@@ -435,18 +292,13 @@ impl<X, Y, Z, U, N: NdProducer<Item = (((X, Y), Z), U), Dim = D>, D: Lengths> Zi
         requires callable { (o : Order) → MayTest (N.yields_at self.nested) (call_gives4 F.FnMut) (can_call4 F.FnMut) (box_in o (N.lengths self.nested)) f false }
         ensures ran { (o : Order) × TestsUntil (N.yields_at self.nested) (call_gives4 F.FnMut) (box_in o (N.lengths self.nested)) f false true result }
     {
-        let Zip {
-            parts,
-            dimension: _,
-        } = self;
-        let Parts { nested } = parts;
-        let order = preferred_order(&nested);
-        any_items(nested, order, On4(f))
+        self.any_items(On4(f))
     }
 
     /// The array that has at each index list what `f` answers at the items there.
     ///
-    /// All memory is reserved before the first call; an `Err` calls `f` never.
+    /// All memory is reserved before the first call; an `Err` calls `f` never, and where there is no index
+    /// list there is none.
     pub fn map_collect<R: Drop, F: FnMut(X, Y, Z, U) -> R>(
         self,
         alloc: Global,
@@ -454,20 +306,16 @@ impl<X, Y, Z, U, N: NdProducer<Item = (((X, Y), Z), U), Dim = D>, D: Lengths> Zi
     ) -> Result<Array<R, D>, AllocError>
         requires callable { (o : Order) → MayGather (N.yields_at self.nested) (call_gives4 F.FnMut) (can_call4 F.FnMut) (box_in o (N.lengths self.nested)) f }
         ensures ran { IfOk result (λ g. (o : Order) × Collects (N.yields_at self.nested) (call_gives4 F.FnMut) o (N.lengths self.nested) f g) }
+        ensures axes { IfOk result (λ g. D.has_axes (length g.lengths)) }
         ensures whole { IfOk result IsGrid }
+        ensures empty { size (N.lengths self.nested) ≡ 0 → IsOk result }
     {
-        let Zip {
-            parts,
-            dimension: _,
-        } = self;
-        let Parts { nested } = parts;
-        let order = preferred_order(&nested);
-        collect_items(alloc, nested, order, On4(f))
+        self.collect_items(alloc, On4(f))
     }
 
     /// Leaves in the cells of an array what `f` answers at the items of each index list.
     ///
-    /// The caller owes that the array has the same shape; the test is `fits`.
+    /// Requires that the array has the same shape; check with `fits`.
     pub fn map_assign_into<R: Drop, S: DataMut<Elem = R>, F: FnMut(X, Y, Z, U) -> R>(
         self,
         into: &mut ArrayBase<S, D>,
@@ -478,18 +326,12 @@ impl<X, Y, Z, U, N: NdProducer<Item = (((X, Y), Z), U), Dim = D>, D: Lengths> Zi
         ensures ran { (o : Order) × Collects (N.yields_at self.nested) (call_gives4 F.FnMut) o (N.lengths self.nested) f into.new }
         ensures whole { IsGrid into.new }
     {
-        let Zip {
-            parts,
-            dimension: _,
-        } = self;
-        let Parts { nested } = parts;
-        let order = assigning_order(&nested, into);
-        assign_items(nested, order, into, On4(f))
+        self.assign_items(into, On4(f))
     }
 }
 
 impl<X, Y, Z, U, V, N: NdProducer<Item = ((((X, Y), Z), U), V), Dim = D>, D: Lengths> Zip<
-    Parts<N, 5>,
+    Parts<N, Five>,
     D,
 > {
     /// Calls `f` once at the items of each index list.
@@ -497,13 +339,7 @@ impl<X, Y, Z, U, V, N: NdProducer<Item = ((((X, Y), Z), U), V), Dim = D>, D: Len
         requires callable { (o : Order) → MayVisit (N.yields_at self.nested) (call_gives5 F.FnMut) (can_call5 F.FnMut) (box_in o (N.lengths self.nested)) f }
         ensures ran { (o : Order) × Visits (N.yields_at self.nested) (call_gives5 F.FnMut) (box_in o (N.lengths self.nested)) f }
     {
-        let Zip {
-            parts,
-            dimension: _,
-        } = self;
-        let Parts { nested } = parts;
-        let order = preferred_order(&nested);
-        visit_items(nested, order, On5(f))
+        self.visit_items(On5(f))
     }
 
     /// Calls `f` once at the total and the items of each index list; each answer is the next total, and the
@@ -512,13 +348,7 @@ impl<X, Y, Z, U, V, N: NdProducer<Item = ((((X, Y), Z), U), V), Dim = D>, D: Len
         requires callable { (o : Order) → MayFold (N.yields_at self.nested) (call_gives_fold5 F.FnMut) (can_call_fold5 F.FnMut) (box_in o (N.lengths self.nested)) f acc }
         ensures ran { (o : Order) × Folds (N.yields_at self.nested) (call_gives_fold5 F.FnMut) (box_in o (N.lengths self.nested)) f acc result }
     {
-        let Zip {
-            parts,
-            dimension: _,
-        } = self;
-        let Parts { nested } = parts;
-        let order = preferred_order(&nested);
-        fold_items(nested, order, acc, On5(f))
+        self.fold_items(acc, On5(f))
     }
 
     /// As `fold`, up to the first answer that is `Done`.
@@ -530,13 +360,7 @@ impl<X, Y, Z, U, V, N: NdProducer<Item = ((((X, Y), Z), U), V), Dim = D>, D: Len
         requires callable { (o : Order) → MayFoldWhile (N.yields_at self.nested) (call_gives_fold5 F.FnMut) (can_call_fold5 F.FnMut) (box_in o (N.lengths self.nested)) f acc }
         ensures ran { (o : Order) × FoldsWhile (N.yields_at self.nested) (call_gives_fold5 F.FnMut) (box_in o (N.lengths self.nested)) f acc result }
     {
-        let Zip {
-            parts,
-            dimension: _,
-        } = self;
-        let Parts { nested } = parts;
-        let order = preferred_order(&nested);
-        fold_items_while(nested, order, acc, On5(f))
+        self.fold_items_while(acc, On5(f))
     }
 
     /// Whether `f` answers `true` at the items of each index list; it stops at the first `false`.
@@ -544,13 +368,7 @@ impl<X, Y, Z, U, V, N: NdProducer<Item = ((((X, Y), Z), U), V), Dim = D>, D: Len
         requires callable { (o : Order) → MayTest (N.yields_at self.nested) (call_gives5 F.FnMut) (can_call5 F.FnMut) (box_in o (N.lengths self.nested)) f true }
         ensures ran { (o : Order) × TestsUntil (N.yields_at self.nested) (call_gives5 F.FnMut) (box_in o (N.lengths self.nested)) f true false result }
     {
-        let Zip {
-            parts,
-            dimension: _,
-        } = self;
-        let Parts { nested } = parts;
-        let order = preferred_order(&nested);
-        all_items(nested, order, On5(f))
+        self.all_items(On5(f))
     }
 
     /// Whether `f` answers `true` at the items of some index list; it stops at the first `true`.
@@ -558,18 +376,13 @@ impl<X, Y, Z, U, V, N: NdProducer<Item = ((((X, Y), Z), U), V), Dim = D>, D: Len
         requires callable { (o : Order) → MayTest (N.yields_at self.nested) (call_gives5 F.FnMut) (can_call5 F.FnMut) (box_in o (N.lengths self.nested)) f false }
         ensures ran { (o : Order) × TestsUntil (N.yields_at self.nested) (call_gives5 F.FnMut) (box_in o (N.lengths self.nested)) f false true result }
     {
-        let Zip {
-            parts,
-            dimension: _,
-        } = self;
-        let Parts { nested } = parts;
-        let order = preferred_order(&nested);
-        any_items(nested, order, On5(f))
+        self.any_items(On5(f))
     }
 
     /// The array that has at each index list what `f` answers at the items there.
     ///
-    /// All memory is reserved before the first call; an `Err` calls `f` never.
+    /// All memory is reserved before the first call; an `Err` calls `f` never, and where there is no index
+    /// list there is none.
     pub fn map_collect<R: Drop, F: FnMut(X, Y, Z, U, V) -> R>(
         self,
         alloc: Global,
@@ -577,20 +390,16 @@ impl<X, Y, Z, U, V, N: NdProducer<Item = ((((X, Y), Z), U), V), Dim = D>, D: Len
     ) -> Result<Array<R, D>, AllocError>
         requires callable { (o : Order) → MayGather (N.yields_at self.nested) (call_gives5 F.FnMut) (can_call5 F.FnMut) (box_in o (N.lengths self.nested)) f }
         ensures ran { IfOk result (λ g. (o : Order) × Collects (N.yields_at self.nested) (call_gives5 F.FnMut) o (N.lengths self.nested) f g) }
+        ensures axes { IfOk result (λ g. D.has_axes (length g.lengths)) }
         ensures whole { IfOk result IsGrid }
+        ensures empty { size (N.lengths self.nested) ≡ 0 → IsOk result }
     {
-        let Zip {
-            parts,
-            dimension: _,
-        } = self;
-        let Parts { nested } = parts;
-        let order = preferred_order(&nested);
-        collect_items(alloc, nested, order, On5(f))
+        self.collect_items(alloc, On5(f))
     }
 
     /// Leaves in the cells of an array what `f` answers at the items of each index list.
     ///
-    /// The caller owes that the array has the same shape; the test is `fits`.
+    /// Requires that the array has the same shape; check with `fits`.
     pub fn map_assign_into<R: Drop, S: DataMut<Elem = R>, F: FnMut(X, Y, Z, U, V) -> R>(
         self,
         into: &mut ArrayBase<S, D>,
@@ -601,18 +410,12 @@ impl<X, Y, Z, U, V, N: NdProducer<Item = ((((X, Y), Z), U), V), Dim = D>, D: Len
         ensures ran { (o : Order) × Collects (N.yields_at self.nested) (call_gives5 F.FnMut) o (N.lengths self.nested) f into.new }
         ensures whole { IsGrid into.new }
     {
-        let Zip {
-            parts,
-            dimension: _,
-        } = self;
-        let Parts { nested } = parts;
-        let order = assigning_order(&nested, into);
-        assign_items(nested, order, into, On5(f))
+        self.assign_items(into, On5(f))
     }
 }
 
 impl<X, Y, Z, U, V, W, N: NdProducer<Item = (((((X, Y), Z), U), V), W), Dim = D>, D: Lengths> Zip<
-    Parts<N, 6>,
+    Parts<N, Six>,
     D,
 > {
     /// Calls `f` once at the items of each index list.
@@ -620,13 +423,7 @@ impl<X, Y, Z, U, V, W, N: NdProducer<Item = (((((X, Y), Z), U), V), W), Dim = D>
         requires callable { (o : Order) → MayVisit (N.yields_at self.nested) (call_gives6 F.FnMut) (can_call6 F.FnMut) (box_in o (N.lengths self.nested)) f }
         ensures ran { (o : Order) × Visits (N.yields_at self.nested) (call_gives6 F.FnMut) (box_in o (N.lengths self.nested)) f }
     {
-        let Zip {
-            parts,
-            dimension: _,
-        } = self;
-        let Parts { nested } = parts;
-        let order = preferred_order(&nested);
-        visit_items(nested, order, On6(f))
+        self.visit_items(On6(f))
     }
 
     /// Calls `f` once at the total and the items of each index list; each answer is the next total, and the
@@ -635,13 +432,7 @@ impl<X, Y, Z, U, V, W, N: NdProducer<Item = (((((X, Y), Z), U), V), W), Dim = D>
         requires callable { (o : Order) → MayFold (N.yields_at self.nested) (call_gives_fold6 F.FnMut) (can_call_fold6 F.FnMut) (box_in o (N.lengths self.nested)) f acc }
         ensures ran { (o : Order) × Folds (N.yields_at self.nested) (call_gives_fold6 F.FnMut) (box_in o (N.lengths self.nested)) f acc result }
     {
-        let Zip {
-            parts,
-            dimension: _,
-        } = self;
-        let Parts { nested } = parts;
-        let order = preferred_order(&nested);
-        fold_items(nested, order, acc, On6(f))
+        self.fold_items(acc, On6(f))
     }
 
     /// As `fold`, up to the first answer that is `Done`.
@@ -653,13 +444,7 @@ impl<X, Y, Z, U, V, W, N: NdProducer<Item = (((((X, Y), Z), U), V), W), Dim = D>
         requires callable { (o : Order) → MayFoldWhile (N.yields_at self.nested) (call_gives_fold6 F.FnMut) (can_call_fold6 F.FnMut) (box_in o (N.lengths self.nested)) f acc }
         ensures ran { (o : Order) × FoldsWhile (N.yields_at self.nested) (call_gives_fold6 F.FnMut) (box_in o (N.lengths self.nested)) f acc result }
     {
-        let Zip {
-            parts,
-            dimension: _,
-        } = self;
-        let Parts { nested } = parts;
-        let order = preferred_order(&nested);
-        fold_items_while(nested, order, acc, On6(f))
+        self.fold_items_while(acc, On6(f))
     }
 
     /// Whether `f` answers `true` at the items of each index list; it stops at the first `false`.
@@ -667,13 +452,7 @@ impl<X, Y, Z, U, V, W, N: NdProducer<Item = (((((X, Y), Z), U), V), W), Dim = D>
         requires callable { (o : Order) → MayTest (N.yields_at self.nested) (call_gives6 F.FnMut) (can_call6 F.FnMut) (box_in o (N.lengths self.nested)) f true }
         ensures ran { (o : Order) × TestsUntil (N.yields_at self.nested) (call_gives6 F.FnMut) (box_in o (N.lengths self.nested)) f true false result }
     {
-        let Zip {
-            parts,
-            dimension: _,
-        } = self;
-        let Parts { nested } = parts;
-        let order = preferred_order(&nested);
-        all_items(nested, order, On6(f))
+        self.all_items(On6(f))
     }
 
     /// Whether `f` answers `true` at the items of some index list; it stops at the first `true`.
@@ -681,12 +460,6 @@ impl<X, Y, Z, U, V, W, N: NdProducer<Item = (((((X, Y), Z), U), V), W), Dim = D>
         requires callable { (o : Order) → MayTest (N.yields_at self.nested) (call_gives6 F.FnMut) (can_call6 F.FnMut) (box_in o (N.lengths self.nested)) f false }
         ensures ran { (o : Order) × TestsUntil (N.yields_at self.nested) (call_gives6 F.FnMut) (box_in o (N.lengths self.nested)) f false true result }
     {
-        let Zip {
-            parts,
-            dimension: _,
-        } = self;
-        let Parts { nested } = parts;
-        let order = preferred_order(&nested);
-        any_items(nested, order, On6(f))
+        self.any_items(On6(f))
     }
 }

@@ -8,197 +8,79 @@ use crate::zip::pair::Pair;
 use crate::zip::producer::{IntoBroadcast, IntoNdProducer, NdProducer};
 use crate::zip::{Parts, Zip};
 
-impl<N: NdProducer<Dim = D>, D: Lengths> Zip<Parts<N, 1>, D> {
-    /// Walks one more producer along, of the same shape, which the caller owes; the test is `fits`.
-    pub fn and<J: IntoNdProducer<Dim = D>>(self, part: J) -> Zip<Parts<Pair<N, J::Output>, 2>, D>
-        requires { (r : J.Output) → J.converts_to part r → N.lengths self.nested ≡ J.Output.lengths r }
-        ensures before { result.nested.first ≡ self.nested }
-        ensures last { J.converts_to part result.nested.second }
-    {
-        let Zip { parts, dimension } = self;
-        let Parts { nested: first } = parts;
-        let second = part.into_producer();
-        Zip {
-            parts: Parts {
-                nested: Pair { first, second },
-            },
-            dimension,
-        }
-    }
-
-    /// Walks an array along as it is seen at the shape, to which the caller owes that it broadcasts; the
-    /// test is `broadcasts`.
-    pub fn and_broadcast<J: IntoBroadcast<D>>(self, part: J) -> Zip<Parts<Pair<N, J::Output>, 2>, D>
-    where
-        J::Output: NdProducer<Dim = D>,
-        requires { BroadcastsTo (J.own_lengths part) (N.lengths self.nested) }
-        ensures before { result.nested.first ≡ self.nested }
-        ensures last { J.broadcasts_as part (N.lengths self.nested) result.nested.second }
-    {
-        let Zip { parts, dimension } = self;
-        let Parts { nested: first } = parts;
-        let second = part.into_broadcast(first.raw_dim());
-        Zip {
-            parts: Parts {
-                nested: Pair { first, second },
-            },
-            dimension,
-        }
-    }
+/// A number of producers that one more may join.
+pub trait JoinOne {
+    /// The number with one more.
+    type Next;
 }
 
-impl<N: NdProducer<Dim = D>, D: Lengths> Zip<Parts<N, 2>, D> {
-    /// Walks one more producer along, of the same shape, which the caller owes; the test is `fits`.
-    pub fn and<J: IntoNdProducer<Dim = D>>(self, part: J) -> Zip<Parts<Pair<N, J::Output>, 3>, D>
-        requires { (r : J.Output) → J.converts_to part r → N.lengths self.nested ≡ J.Output.lengths r }
-        ensures before { result.nested.first ≡ self.nested }
-        ensures last { J.converts_to part result.nested.second }
-    {
-        let Zip { parts, dimension } = self;
-        let Parts { nested: first } = parts;
-        let second = part.into_producer();
-        Zip {
-            parts: Parts {
-                nested: Pair { first, second },
-            },
-            dimension,
-        }
-    }
+/// One producer.
+pub struct One;
 
-    /// Walks an array along as it is seen at the shape, to which the caller owes that it broadcasts; the
-    /// test is `broadcasts`.
-    pub fn and_broadcast<J: IntoBroadcast<D>>(self, part: J) -> Zip<Parts<Pair<N, J::Output>, 3>, D>
-    where
-        J::Output: NdProducer<Dim = D>,
-        requires { BroadcastsTo (J.own_lengths part) (N.lengths self.nested) }
-        ensures before { result.nested.first ≡ self.nested }
-        ensures last { J.broadcasts_as part (N.lengths self.nested) result.nested.second }
-    {
-        let Zip { parts, dimension } = self;
-        let Parts { nested: first } = parts;
-        let second = part.into_broadcast(first.raw_dim());
-        Zip {
-            parts: Parts {
-                nested: Pair { first, second },
-            },
-            dimension,
-        }
-    }
+/// Two producers.
+pub struct Two;
+
+/// Three producers.
+pub struct Three;
+
+/// Four producers.
+pub struct Four;
+
+/// Five producers.
+pub struct Five;
+
+/// Six producers, which no other joins.
+pub struct Six;
+
+impl JoinOne for One {
+    type Next = Two;
 }
 
-impl<N: NdProducer<Dim = D>, D: Lengths> Zip<Parts<N, 3>, D> {
-    /// Walks one more producer along, of the same shape, which the caller owes; the test is `fits`.
-    pub fn and<J: IntoNdProducer<Dim = D>>(self, part: J) -> Zip<Parts<Pair<N, J::Output>, 4>, D>
-        requires { (r : J.Output) → J.converts_to part r → N.lengths self.nested ≡ J.Output.lengths r }
-        ensures before { result.nested.first ≡ self.nested }
-        ensures last { J.converts_to part result.nested.second }
-    {
-        let Zip { parts, dimension } = self;
-        let Parts { nested: first } = parts;
-        let second = part.into_producer();
-        Zip {
-            parts: Parts {
-                nested: Pair { first, second },
-            },
-            dimension,
-        }
-    }
-
-    /// Walks an array along as it is seen at the shape, to which the caller owes that it broadcasts; the
-    /// test is `broadcasts`.
-    pub fn and_broadcast<J: IntoBroadcast<D>>(self, part: J) -> Zip<Parts<Pair<N, J::Output>, 4>, D>
-    where
-        J::Output: NdProducer<Dim = D>,
-        requires { BroadcastsTo (J.own_lengths part) (N.lengths self.nested) }
-        ensures before { result.nested.first ≡ self.nested }
-        ensures last { J.broadcasts_as part (N.lengths self.nested) result.nested.second }
-    {
-        let Zip { parts, dimension } = self;
-        let Parts { nested: first } = parts;
-        let second = part.into_broadcast(first.raw_dim());
-        Zip {
-            parts: Parts {
-                nested: Pair { first, second },
-            },
-            dimension,
-        }
-    }
+impl JoinOne for Two {
+    type Next = Three;
 }
 
-impl<N: NdProducer<Dim = D>, D: Lengths> Zip<Parts<N, 4>, D> {
-    /// Walks one more producer along, of the same shape, which the caller owes; the test is `fits`.
-    pub fn and<J: IntoNdProducer<Dim = D>>(self, part: J) -> Zip<Parts<Pair<N, J::Output>, 5>, D>
-        requires { (r : J.Output) → J.converts_to part r → N.lengths self.nested ≡ J.Output.lengths r }
-        ensures before { result.nested.first ≡ self.nested }
-        ensures last { J.converts_to part result.nested.second }
-    {
-        let Zip { parts, dimension } = self;
-        let Parts { nested: first } = parts;
-        let second = part.into_producer();
-        Zip {
-            parts: Parts {
-                nested: Pair { first, second },
-            },
-            dimension,
-        }
-    }
-
-    /// Walks an array along as it is seen at the shape, to which the caller owes that it broadcasts; the
-    /// test is `broadcasts`.
-    pub fn and_broadcast<J: IntoBroadcast<D>>(self, part: J) -> Zip<Parts<Pair<N, J::Output>, 5>, D>
-    where
-        J::Output: NdProducer<Dim = D>,
-        requires { BroadcastsTo (J.own_lengths part) (N.lengths self.nested) }
-        ensures before { result.nested.first ≡ self.nested }
-        ensures last { J.broadcasts_as part (N.lengths self.nested) result.nested.second }
-    {
-        let Zip { parts, dimension } = self;
-        let Parts { nested: first } = parts;
-        let second = part.into_broadcast(first.raw_dim());
-        Zip {
-            parts: Parts {
-                nested: Pair { first, second },
-            },
-            dimension,
-        }
-    }
+impl JoinOne for Three {
+    type Next = Four;
 }
 
-impl<N: NdProducer<Dim = D>, D: Lengths> Zip<Parts<N, 5>, D> {
-    /// Walks one more producer along, of the same shape, which the caller owes; the test is `fits`.
-    pub fn and<J: IntoNdProducer<Dim = D>>(self, part: J) -> Zip<Parts<Pair<N, J::Output>, 6>, D>
+impl JoinOne for Four {
+    type Next = Five;
+}
+
+impl JoinOne for Five {
+    type Next = Six;
+}
+
+impl<N: NdProducer<Dim = D>, D: Lengths, K: JoinOne> Zip<Parts<N, K>, D> {
+    /// Walks one more producer along. Requires the same shape; check with `fits`.
+    pub fn and<J: IntoNdProducer<Dim = D>>(
+        self,
+        part: J,
+    ) -> Zip<Parts<Pair<N, J::Output>, K::Next>, D>
         requires { (r : J.Output) → J.converts_to part r → N.lengths self.nested ≡ J.Output.lengths r }
         ensures before { result.nested.first ≡ self.nested }
         ensures last { J.converts_to part result.nested.second }
     {
-        let Zip { parts, dimension } = self;
-        let Parts { nested: first } = parts;
+        let first = self.parts.nested;
         let second = part.into_producer();
-        Zip {
-            parts: Parts {
-                nested: Pair { first, second },
-            },
-            dimension,
-        }
+        Zip::of(Pair { first, second })
     }
 
-    /// Walks an array along as it is seen at the shape, to which the caller owes that it broadcasts; the
-    /// test is `broadcasts`.
-    pub fn and_broadcast<J: IntoBroadcast<D>>(self, part: J) -> Zip<Parts<Pair<N, J::Output>, 6>, D>
+    /// Walks an array along as it is seen at the shape. Requires that it broadcasts to the shape; check
+    /// with `broadcasts`.
+    pub fn and_broadcast<J: IntoBroadcast<D>>(
+        self,
+        part: J,
+    ) -> Zip<Parts<Pair<N, J::Output>, K::Next>, D>
     where
         J::Output: NdProducer<Dim = D>,
         requires { BroadcastsTo (J.own_lengths part) (N.lengths self.nested) }
         ensures before { result.nested.first ≡ self.nested }
         ensures last { J.broadcasts_as part (N.lengths self.nested) result.nested.second }
     {
-        let Zip { parts, dimension } = self;
-        let Parts { nested: first } = parts;
+        let first = self.parts.nested;
         let second = part.into_broadcast(first.raw_dim());
-        Zip {
-            parts: Parts {
-                nested: Pair { first, second },
-            },
-            dimension,
-        }
+        Zip::of(Pair { first, second })
     }
 }

@@ -7,7 +7,7 @@
 ghost use Rattle.std.specs.Prelude.{◌≡◌};
 
 use crate::tests::asserted::{holds, same};
-use ndarray::zip::Parts;
+use ndarray::zip::{One, Parts, Three, Two};
 use ndarray::{Array, ArrayView1, FoldWhile, Ix1, NdProducer, Zip};
 use std::alloc::{AllocError, Global};
 use std::cell::Cell;
@@ -34,7 +34,7 @@ fn three_digits(a: u64, b: u64, c: u64) -> u64 {
 fn one_walked<
     'a,
     N: NdProducer<Item = &'a u64, Dim = Ix1>,
-    F: Fn() -> Result<Zip<Parts<N, 1>, Ix1>, AllocError>,
+    F: Fn() -> Result<Zip<Parts<N, One>, Ix1>, AllocError>,
 >(rt: &impl Abort, alloc: Global, make: F) -> Result<(), AllocError>
     requires { F.pre make }
 {
@@ -60,7 +60,7 @@ fn one_walked<
 
 /// Leaves these numbers in an array.
 fn one_assigned<'a, N: NdProducer<Item = &'a u64, Dim = Ix1>>(
-    zip: Zip<Parts<N, 1>, Ix1>,
+    zip: Zip<Parts<N, One>, Ix1>,
     into: &mut Array<u64, Ix1>,
 )
     requires { N.lengths zip.nested ≡ into.old.lengths }
@@ -72,7 +72,7 @@ fn one_assigned<'a, N: NdProducer<Item = &'a u64, Dim = Ix1>>(
 fn two_walked<
     'a,
     N: NdProducer<Item = (&'a u64, &'a u64), Dim = Ix1>,
-    F: Fn() -> Result<Zip<Parts<N, 2>, Ix1>, AllocError>,
+    F: Fn() -> Result<Zip<Parts<N, Two>, Ix1>, AllocError>,
 >(rt: &impl Abort, alloc: Global, make: F) -> Result<(), AllocError>
     requires { F.pre make }
 {
@@ -106,7 +106,7 @@ fn two_walked<
 
 /// Leaves these numbers in an array.
 fn two_assigned<'a, N: NdProducer<Item = (&'a u64, &'a u64), Dim = Ix1>>(
-    zip: Zip<Parts<N, 2>, Ix1>,
+    zip: Zip<Parts<N, Two>, Ix1>,
     into: &mut Array<u64, Ix1>,
 )
     requires { N.lengths zip.nested ≡ into.old.lengths }
@@ -118,7 +118,7 @@ fn two_assigned<'a, N: NdProducer<Item = (&'a u64, &'a u64), Dim = Ix1>>(
 fn three_walked<
     'a,
     N: NdProducer<Item = ((&'a u64, &'a u64), &'a u64), Dim = Ix1>,
-    F: Fn() -> Result<Zip<Parts<N, 3>, Ix1>, AllocError>,
+    F: Fn() -> Result<Zip<Parts<N, Three>, Ix1>, AllocError>,
 >(rt: &impl Abort, alloc: Global, make: F) -> Result<(), AllocError>
     requires { F.pre make }
 {
@@ -154,7 +154,7 @@ fn three_walked<
 
 /// Leaves these numbers in an array.
 fn three_assigned<'a, N: NdProducer<Item = ((&'a u64, &'a u64), &'a u64), Dim = Ix1>>(
-    zip: Zip<Parts<N, 3>, Ix1>,
+    zip: Zip<Parts<N, Three>, Ix1>,
     into: &mut Array<u64, Ix1>,
 )
     requires { N.lengths zip.nested ≡ into.old.lengths }

@@ -1,0 +1,109 @@
+//! The walks over all items of a `Zip`, in the order that suits its producers: once for all numbers of them.
+
+ghost use Rattle.std.specs.Prelude.{◌≡◌, true, false, length, IfOk, IsOk};
+ghost use Rattle.ndarray.specs.Grid.{IsGrid};
+ghost use Rattle.ndarray.specs.Index.{size};
+ghost use Rattle.ndarray.specs.Orders.{box_in};
+ghost use Rattle.ndarray.specs.Runs.{MayFold, Folds, MayVisit, Visits, MayTest, TestsUntil, MayFoldWhile, FoldsWhile, MayGather, Collects};
+ghost use Rattle.ndarray.specs.declared.base.shape.Order.{Order};
+
+use crate::base::array::{Array, ArrayBase};
+use crate::base::dimension::Lengths;
+use crate::base::storage::DataMut;
+use crate::zip::assigning::{assign_items, assigning_order};
+use crate::zip::calls::{FoldCall, ItemCall};
+use crate::zip::collecting::collect_items;
+use crate::zip::fold_while::FoldWhile;
+use crate::zip::producer::{NdProducer, preferred_order};
+use crate::zip::walks::{all_items, any_items, fold_items, fold_items_while, visit_items};
+use crate::zip::{Parts, Zip};
+use std::alloc::{AllocError, Global};
+
+impl<N: NdProducer<Dim = D>, D: Lengths, K> Zip<Parts<N, K>, D> {
+    /// Calls `f` at each item in turn.
+    pub(crate) fn visit_items<C: ItemCall<N::Item, Out = ()>>(self, f: C)
+        requires callable { (o : Order) → MayVisit (N.yields_at self.nested) C.call_gives C.can_call (box_in o (N.lengths self.nested)) f }
+        ensures ran { (o : Order) × Visits (N.yields_at self.nested) C.call_gives (box_in o (N.lengths self.nested)) f }
+    {
+        let nested = self.parts.nested;
+        let order = preferred_order(&nested);
+        visit_items(nested, order, f)
+    }
+
+    /// Calls `f` at the total and each item in turn; each answer is the next total.
+    pub(crate) fn fold_items<B, C: FoldCall<B, N::Item, Out = B>>(self, init: B, f: C) -> B
+        requires callable { (o : Order) → MayFold (N.yields_at self.nested) C.call_gives C.can_call (box_in o (N.lengths self.nested)) f init }
+        ensures ran { (o : Order) × Folds (N.yields_at self.nested) C.call_gives (box_in o (N.lengths self.nested)) f init result }
+    {
+        let nested = self.parts.nested;
+        let order = preferred_order(&nested);
+        fold_items(nested, order, init, f)
+    }
+
+    /// The same up to the first answer that is `Done`.
+    pub(crate) fn fold_items_while<B, C: FoldCall<B, N::Item, Out = FoldWhile<B>>>(
+        self,
+        init: B,
+        f: C,
+    ) -> FoldWhile<B>
+        requires callable { (o : Order) → MayFoldWhile (N.yields_at self.nested) C.call_gives C.can_call (box_in o (N.lengths self.nested)) f init }
+        ensures ran { (o : Order) × FoldsWhile (N.yields_at self.nested) C.call_gives (box_in o (N.lengths self.nested)) f init result }
+    {
+        let nested = self.parts.nested;
+        let order = preferred_order(&nested);
+        fold_items_while(nested, order, init, f)
+    }
+
+    /// Whether `f` answers `true` at each item, up to the first `false`.
+    pub(crate) fn all_items<C: ItemCall<N::Item, Out = bool>>(self, f: C) -> bool
+        requires callable { (o : Order) → MayTest (N.yields_at self.nested) C.call_gives C.can_call (box_in o (N.lengths self.nested)) f true }
+        ensures ran { (o : Order) × TestsUntil (N.yields_at self.nested) C.call_gives (box_in o (N.lengths self.nested)) f true false result }
+    {
+        let nested = self.parts.nested;
+        let order = preferred_order(&nested);
+        all_items(nested, order, f)
+    }
+
+    /// Whether `f` answers `true` at some item, up to the first `true`.
+    pub(crate) fn any_items<C: ItemCall<N::Item, Out = bool>>(self, f: C) -> bool
+        requires callable { (o : Order) → MayTest (N.yields_at self.nested) C.call_gives C.can_call (box_in o (N.lengths self.nested)) f false }
+        ensures ran { (o : Order) × TestsUntil (N.yields_at self.nested) C.call_gives (box_in o (N.lengths self.nested)) f false true result }
+    {
+        let nested = self.parts.nested;
+        let order = preferred_order(&nested);
+        any_items(nested, order, f)
+    }
+
+    /// The array of what `f` answers at the items.
+    pub(crate) fn collect_items<R: Drop, C: ItemCall<N::Item, Out = R>>(
+        self,
+        alloc: Global,
+        f: C,
+    ) -> Result<Array<R, D>, AllocError>
+        requires callable { (o : Order) → MayGather (N.yields_at self.nested) C.call_gives C.can_call (box_in o (N.lengths self.nested)) f }
+        ensures ran { IfOk result (λ g. (o : Order) × Collects (N.yields_at self.nested) C.call_gives o (N.lengths self.nested) f g) }
+        ensures axes { IfOk result (λ g. D.has_axes (length g.lengths)) }
+        ensures whole { IfOk result IsGrid }
+        ensures empty { size (N.lengths self.nested) ≡ 0 → IsOk result }
+    {
+        let nested = self.parts.nested;
+        let order = preferred_order(&nested);
+        collect_items(alloc, nested, order, f)
+    }
+
+    /// Leaves in the cells of an array what `f` answers at the items.
+    pub(crate) fn assign_items<R: Drop, S: DataMut<Elem = R>, C: ItemCall<N::Item, Out = R>>(
+        self,
+        into: &mut ArrayBase<S, D>,
+        f: C,
+    )
+        requires same { N.lengths self.nested ≡ into.old.lengths }
+        requires callable { (o : Order) → MayGather (N.yields_at self.nested) C.call_gives C.can_call (box_in o (N.lengths self.nested)) f }
+        ensures ran { (o : Order) × Collects (N.yields_at self.nested) C.call_gives o (N.lengths self.nested) f into.new }
+        ensures whole { IsGrid into.new }
+    {
+        let nested = self.parts.nested;
+        let order = assigning_order(&nested, into);
+        assign_items(nested, order, into, f)
+    }
+}
