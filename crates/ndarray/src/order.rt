@@ -70,15 +70,18 @@ fn advance<D: Lengths>(order: Order, dim: &D, index: &mut D)
     ensures next { rank_in order (D.numbers dim.now) (D.numbers index.new) ≡ rank_in order (D.numbers dim.now) (D.numbers index.old) + 1 }
 {
     let ndim = dim.ndim();
+    // Each axis is written on each step, since an index list that is written under a condition is kept in memory.
+    let mut carry = 1;
     for p in 0..ndim {
         let k = axis_at(order, ndim, p);
-        let i = index.axis(k);
         let end = dim.axis(k);
-        if i + 1 < end {
-            index.set_axis(k, i + 1);
-            return;
+        let next = index.axis(k) + carry;
+        if next < end {
+            index.set_axis(k, next);
+            carry = 0;
+        } else {
+            index.set_axis(k, 0);
         }
-        index.set_axis(k, 0);
     }
 }
 

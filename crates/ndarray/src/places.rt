@@ -1,6 +1,7 @@
 //! Elements that are moved out of their storage by place.
 pub mod block;
 pub mod partly_moved;
+pub mod indexed;
 pub mod lent;
 pub mod move_out;
 pub mod cell_places;

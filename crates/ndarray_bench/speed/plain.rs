@@ -3,10 +3,11 @@
 use std::hint::black_box;
 use std::time::Instant;
 
-const NAMES: [&str; 20] = [
-    "sum", "iter", "iter_transposed", "iter_stepped", "iter_mut", "indexed_iter", "to_owned",
-    "into_iter_of_a_copy", "windows_3x3", "axis_iter", "columns", "zip_one_fold", "zip_two_fold",
+const NAMES: [&str; 25] = [
+    "sum", "iter", "iter_transposed", "iter_stepped", "iter_mut", "indexed_iter", "indexed_iter_mut",
+    "to_owned", "to_owned_column_major", "into_iter_of_a_copy", "windows_3x3", "axis_iter", "columns", "zip_one_fold", "zip_one_for_each", "zip_two_fold",
     "zip_three_fold", "zip_two_for_each", "zip_two_map_collect", "zip_two_map_assign_into",
+    "zip_two_map_assign_into_view", "zip_two_for_each_mixed",
     "zip_two_fold_column_major", "zip_two_fold_mixed", "zip_two_map_collect_mixed",
 ];
 
@@ -49,7 +50,7 @@ fn walk(name: &str, n: usize, a: &mut [i64], b: &[i64], c: &[i64]) -> i64 {
                 }
             }
         }
-        "iter_mut" => {
+        "iter_mut" | "zip_one_for_each" => {
             for x in a.iter_mut() {
                 *x = x.wrapping_add(1);
             }
@@ -62,7 +63,15 @@ fn walk(name: &str, n: usize, a: &mut [i64], b: &[i64], c: &[i64]) -> i64 {
                 }
             }
         }
-        "to_owned" => return a.to_vec()[n + 1],
+        "indexed_iter_mut" => {
+            for (i, row) in a.chunks_mut(n).enumerate() {
+                for (j, x) in row.iter_mut().enumerate() {
+                    *x = if i < j { 1 } else { 3 };
+                }
+            }
+            return 1;
+        }
+        "to_owned" | "to_owned_column_major" => return a.to_vec()[n + 1],
         "into_iter_of_a_copy" => {
             for x in a.to_vec() {
                 sum = sum.wrapping_add(x);
@@ -112,7 +121,7 @@ fn walk(name: &str, n: usize, a: &mut [i64], b: &[i64], c: &[i64]) -> i64 {
             let made: Vec<i64> = a.iter().zip(b).map(|(x, y)| x.wrapping_add(*y)).collect();
             return made[n + 1];
         }
-        "zip_two_map_assign_into" => {
+        "zip_two_map_assign_into" | "zip_two_map_assign_into_view" => {
             for ((into, x), y) in a.iter_mut().zip(b).zip(c) {
                 *into = x.wrapping_add(*y);
             }
@@ -124,6 +133,14 @@ fn walk(name: &str, n: usize, a: &mut [i64], b: &[i64], c: &[i64]) -> i64 {
                     sum = sum.wrapping_add(a[i * n + j].wrapping_mul(b[j * n + i]));
                 }
             }
+        }
+        "zip_two_for_each_mixed" => {
+            for i in 0..n {
+                for j in 0..n {
+                    a[i * n + j] = a[i * n + j].wrapping_add(b[j * n + i]);
+                }
+            }
+            return 1;
         }
         "zip_two_map_collect_mixed" => {
             let mut made = Vec::with_capacity(n * n);

@@ -1,6 +1,6 @@
 -- One step of a walk.
 use Rattle.std.proofs.Common.{◌≡◌, ℕ, ◌+◌, ◌-◌, ◌*◌, ◌<◌, ◌≤◌, ◌^◌, suc, zero, List, [], ◌∷◌, ◌++◌, length, take, drop, set, get_or, replicate, refl, sym, ◌∙◌, ap, arith, subst, min}
-use Rattle.std.proofs.lemmas.List.{take-take, drop-drop, drop-take, take_all, drop_all, length-take-le, length-drop, get_or-take, get_or-drop, get_or_default, get_or-set_same}
+use Rattle.std.proofs.lemmas.List.{take-take, drop-drop, drop-take, take_all, drop_all, length-take-le, length-drop, get_or-take, get_or-drop, get_or_default, get_or-set_same, set-get_or}
 use Rattle.std.proofs.Math.Seq.{take-suc, drop-cons}
 use Rattle.std.specs.Prelude.{Contains}
 use Rattle.ndarray.specs.Index.{InBox, size}
@@ -83,14 +83,14 @@ module _ (o : Order) (ns is js : List ℕ) (n p k i t : ℕ) (b : InBox ns is) (
       let P : ℕ → Type 0 = λ x. rank_in o ns (set is x v) + get_or is x 0 * block_in o ns p ≡ rank_in o ns is + v * block_in o ns p in
       subst P (sym e) (rank_in-set o ns is p v (InBox-length ns is b) (omega arith))
 
-  pub step-here : i + 1 < get_or ns k 0 → js ≡ set is k (i + 1) → InBox ns js × (rank_in o ns js ≡ t)
+  step-here : i + 1 < get_or ns k 0 → js ≡ set is k (i + 1) → InBox ns js × (rank_in o ns js ≡ t)
   step-here below ej =
       let P : List ℕ → Type 0 = λ x. InBox ns x × (rank_in o ns x ≡ t) in
       let m = moved (i + 1) in
       let q : get_or is k 0 * block_in o ns p ≡ i * block_in o ns p = ap (λ x. x * block_in o ns p) (sym ei) in
       subst P (sym ej) (InBox-set ns is k (i + 1) b below, omega arith)
 
-  pub step-carry : get_or ns k 0 ≤ i + 1 → js ≡ set is k 0 → InBox ns js × (rank_in o ns js + block_in o ns (p + 1) ≡ t)
+  step-carry : get_or ns k 0 ≤ i + 1 → js ≡ set is k 0 → InBox ns js × (rank_in o ns js + block_in o ns (p + 1) ≡ t)
   step-carry above ej =
       let P : List ℕ → Type 0 = λ x. InBox ns x × (rank_in o ns x + block_in o ns (p + 1) ≡ t) in
       let m = moved 0 in
@@ -101,6 +101,26 @@ module _ (o : Order) (ns is js : List ℕ) (n p k i t : ℕ) (b : InBox ns is) (
       let more : block_in o ns (p + 1) ≡ (i + 1) * block_in o ns p =
       block_in-more o ns p (omega arith) ∙ ap (λ x. x * block_in o ns p) (ap (λ x. get_or ns x 0) e ∙ all) in
       subst P (sym ej) (InBox-set ns is k 0 b (omega arith), omega arith)
+
+-- an axis where the carry ends, or with none
+pub step-ends : (o : Order) (ns is js : List ℕ) (n p k i carry t : ℕ) → InBox ns is → n ≡ length ns → p < n → k ≡ axis_in o n p → i ≡ get_or is k 0 → carry ≤ 1
+    → (carry ≡ 1 → rank_in o ns is + block_in o ns p ≡ t) → (carry ≡ 0 → rank_in o ns is ≡ t) → i + carry < get_or ns k 0 → js ≡ set is k (i + carry) → InBox ns js × (rank_in o ns js ≡ t)
+step-ends o ns is js n p k i zero t b en lt ek ei bit carries done below ej =
+    let e : i + 0 ≡ get_or is k 0 = omega arith in
+    let same : js ≡ is = ej ∙ (ap (set is k) e ∙ set-get_or is k 0) in
+    subst (λ x. InBox ns x × (rank_in o ns x ≡ t)) (sym same) (b, done refl)
+step-ends o ns is js n p k i (suc zero) t b en lt ek ei bit carries done below ej = step-here o ns is js n p k i t b en lt ek ei (carries refl) below ej
+step-ends o ns is js n p k i (suc (suc c)) t b en lt ek ei bit carries done below ej = absurd (omega arith)
+
+-- an axis over which it goes on
+pub step-on : (o : Order) (ns is js : List ℕ) (n p k i carry t : ℕ) → InBox ns is → n ≡ length ns → p < n → k ≡ axis_in o n p → i ≡ get_or is k 0 → carry ≤ 1
+    → (carry ≡ 1 → rank_in o ns is + block_in o ns p ≡ t) → get_or ns k 0 ≤ i + carry → js ≡ set is k 0 → (carry ≡ 1) × (InBox ns js × (rank_in o ns js + block_in o ns (p + 1) ≡ t))
+step-on o ns is js n p k i zero t b en lt ek ei bit carries above ej =
+    let a = axis_in-lt o n p lt in
+    let g = InBox-get ns is k b (omega arith) in
+    absurd (omega arith)
+step-on o ns is js n p k i (suc zero) t b en lt ek ei bit carries above ej = (refl, step-carry o ns is js n p k i t b en lt ek ei (carries refl) above ej)
+step-on o ns is js n p k i (suc (suc c)) t b en lt ek ei bit carries above ej = absurd (omega arith)
 
 tails : {X : Type 0} (n : ℕ) (xs : List X) (i j : ℕ) → (0 < n → i ≡ j) → take n (drop i xs) ≡ take n (drop j xs)
 tails zero xs i j h = refl

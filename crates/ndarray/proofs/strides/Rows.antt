@@ -1,8 +1,8 @@
 -- Places a step apart, and the cells of a row that lie there.
-use Rattle.std.proofs.Common.{◌≡◌, ℕ, ◌+◌, ◌-◌, ◌*◌, ◌%◌, ◌<◌, ◌≤◌, ◌^◌, suc, zero, List, [], ◌∷◌, ◌++◌, length, drop, set, get_or, Option, Some, refl, sym, ◌∙◌, ap, arith, subst, inl, inr}
+use Rattle.std.proofs.Common.{◌≡◌, ℕ, ◌+◌, ◌-◌, ◌*◌, ◌%◌, ◌<◌, ◌≤◌, ◌^◌, suc, zero, List, [], ◌∷◌, ◌++◌, length, drop, set, get_or, zip, Option, Some, refl, sym, ◌∙◌, ap, arith, subst, inl, inr}
 use Rattle.std.specs.Prelude.{filter_map, All, IsTrue}
 use Rattle.std.specs.Option.{is_some}
-use Rattle.std.proofs.lemmas.List.{take-append-drop, map-append, length-set, set-get_or, set_past, get_or_past, length-append, get_or_append_left}
+use Rattle.std.proofs.lemmas.List.{take-append-drop, map-append, length-set, set-get_or, set_past, get_or_past, length-append, get_or_append_left, set-set, get_or-set_same}
 use Rattle.std.proofs.lemmas.List.Elements.{All-cons, All-head, All-tail, All-take, All-drop, filter_map-append}
 use Rattle.std.proofs.Math.Nat.{mod-add-mod, add-mod-mod}
 use Rattle.std.proofs.lemmas.Bool.{cases_lt}
@@ -11,7 +11,7 @@ use Rattle.ndarray.specs.Grid.{Grid, HasCells, cell}
 use Rattle.ndarray.specs.order.Ranks.{row_from, TakesRow}
 use Rattle.ndarray.specs.base.Places.{dot, place, Reaches, grid_at}
 use Rattle.ndarray.specs.base.Strided.{places_from, HaveElements}
-use Rattle.ndarray.specs.places.Lent.{places_along}
+use Rattle.ndarray.specs.places.Lent.{places_along, with_places}
 use Rattle.ndarray.proofs.cells.Cells.{length-along}
 use Rattle.ndarray.proofs.lists.Elements.{length-filter_map_all, some-of, get_or-append-last}
 use Rattle.ndarray.proofs.strides.Reach.{cell-at, dot-set}
@@ -116,6 +116,21 @@ length-row_from : (is : List ℕ) (axis n : ℕ) → length (row_from is axis n)
 length-row_from is axis zero = refl
 length-row_from is axis (suc n) = let ih = length-row_from (set is axis (get_or is axis 0 + 1)) axis n in omega arith
 
+-- as many index lists beside places
+pub length-indexed_row : (is : List ℕ) (axis p s n : ℕ) → length (zip (row_from is axis n) (places_from p s n)) ≡ n
+length-indexed_row is axis p s zero = refl
+length-indexed_row is axis p s (suc n) = let ih = length-indexed_row (set is axis (get_or is axis 0 + 1)) axis ((p + s) % 2 ^ 64) s n in omega arith
+
+-- one more on the axis
+pub indexed_row-next : (is : List ℕ) (axis i p s left : ℕ) → axis < length is → 0 < left
+    → zip (row_from (set is axis i) axis left) (places_from p s left) ≡ (set is axis i, p) ∷ zip (row_from (set is axis (i + 1)) axis (left - 1)) (places_from ((p + s) % 2 ^ 64) s (left - 1))
+indexed_row-next is axis i p s zero lt some = absurd (omega arith)
+indexed_row-next is axis i p s (suc n) lt some =
+    let e : n ≡ suc n - 1 = omega arith in
+    let next : set (set is axis i) axis (get_or (set is axis i) axis 0 + 1) ≡ set is axis (i + 1) = set-set is axis i _ ∙ ap (λ j. set is axis (j + 1)) (get_or-set_same is axis i 0 lt) in
+    ap (λ js. (set is axis i, p) ∷ zip (row_from js axis n) (places_from ((p + s) % 2 ^ 64) s n)) next
+    ∙ ap (λ m. (set is axis i, p) ∷ zip (row_from (set is axis (i + 1)) axis m) (places_from ((p + s) % 2 ^ 64) s m)) e
+
 -- what is left behind a row comes after it
 taken-parts : (ys zs : List (List ℕ)) (is : List ℕ) (axis count : ℕ) → TakesRow ys zs is axis count → ys ≡ row_from is axis count ++ zs
 taken-parts ys zs is axis count t = sym (take-append-drop count ys) ∙ (ap (λ l. l ++ drop count ys) t.row ∙ ap (λ l. row_from is axis count ++ l) (sym t.rest))
@@ -128,6 +143,14 @@ module _ (start : ℕ) (bs : List ℕ) where
       let js : List ℕ = set is axis (get_or is axis 0 + 1) in
       let ih = row-places axis n js (l ∙ sym (length-set is axis (get_or is axis 0 + 1))) in
       ap (λ ps. place start bs is ∷ ps) (ih ∙ ap (λ p. places_from p (get_or bs axis 0) n) (sym (place-any start bs is axis l)))
+
+  -- the index lists of a row, and those behind it, each beside its place
+  row-with_places : (axis n : ℕ) (is : List ℕ) → length bs ≡ length is → zip (row_from is axis n) (places_from (place start bs is) (get_or bs axis 0) n) ≡ with_places start bs (row_from is axis n)
+  row-with_places axis zero is l = refl
+  row-with_places axis (suc n) is l =
+      let js : List ℕ = set is axis (get_or is axis 0 + 1) in
+      let ih = row-with_places axis n js (l ∙ sym (length-set is axis (get_or is axis 0 + 1))) in
+      ap (λ p. (is, place start bs is) ∷ zip (row_from js axis n) (places_from p (get_or bs axis 0) n)) (place-any start bs is axis l) ∙ ap (λ ps. (is, place start bs is) ∷ ps) ih
 
   pub places-last : (ys rest : List (List ℕ)) (is : List ℕ) → ys ≡ rest ++ is ∷ [] → places_along start bs ys ≡ places_along start bs rest ++ place start bs is ∷ []
   places-last ys rest is e = ap (places_along start bs) e ∙ map-append (place start bs) rest (is ∷ [])
@@ -150,6 +173,12 @@ module _ (start : ℕ) (bs : List ℕ) where
         ap (places_along start bs) (taken-parts ys zs is axis count t)
         ∙ (map-append (place start bs) (row_from is axis count) zs
         ∙ ap (λ l. l ++ places_along start bs zs) (row-places axis count is row-as_many))
+
+    pub with_places-split : with_places start bs ys ≡ zip (row_from is axis count) (places_from (place start bs is) (get_or bs axis 0) count) ++ with_places start bs zs
+    with_places-split =
+        ap (with_places start bs) (taken-parts ys zs is axis count t)
+        ∙ (map-append (λ js. (js, place start bs js)) (row_from is axis count) zs
+        ∙ ap (λ l. l ++ with_places start bs zs) (sym (row-with_places axis count is row-as_many)))
 
     pub places-count : count + length zs ≡ length ys
     places-count =

@@ -1,21 +1,23 @@
 -- Cells that are lent one after another, along a list of index lists.
-use Rattle.std.specs.Prelude.{◌≡◌, ℕ, List, length, map, filter_map, Option, All, AllPairs, IsTrue}
+use Rattle.std.specs.Prelude.{◌≡◌, ℕ, List, length, map, zip, filter_map, Option, All, AllPairs, IsTrue}
 use Rattle.std.specs.Option.{is_some}
 use Rattle.ndarray.specs.base.Places.{place}
-
--- the elements at the places of the index lists
-abbrev pub along : {A : Type 0} → (ℕ → Option A) → ℕ → List ℕ → List (List ℕ) → List A
-along at start bs iss = filter_map (λ is. at (place start bs is)) iss
-
--- each index list has as many numbers as there are strides, and reaches an element that no later one reaches
-pub record AreLent {A : Type 0} (at : ℕ → Option A) (start : ℕ) (bs : List ℕ) (iss : List (List ℕ)) : Type 0 where
-  pub as_many : All (λ is. length bs ≡ length is) iss
-  pub held : All (λ is. IsTrue (is_some (at (place start bs is)))) iss
-  pub once : AllPairs (λ is js. place start bs is ≡ place start bs js → ⊥) iss
 
 -- the places of the index lists
 abbrev pub places_along : ℕ → List ℕ → List (List ℕ) → List ℕ
 places_along start bs iss = map (place start bs) iss
+
+-- the index lists, each beside its place
+abbrev pub with_places : ℕ → List ℕ → List (List ℕ) → List (List ℕ × ℕ)
+with_places start bs iss = map (λ is. (is, place start bs is)) iss
+
+-- the places beside index lists
+abbrev pub places_of : List (List ℕ × ℕ) → List ℕ
+places_of items = map (λ item. item.1) items
+
+-- index lists beside places, each beside the element at its place
+abbrev pub with_elements : {A : Type 0} → (ℕ → Option A) → List (List ℕ × ℕ) → List (List ℕ × A)
+with_elements at items = zip (map (λ item. item.0) items) (filter_map at (places_of items))
 
 -- each of the places has an element, and none comes twice
 pub record AreLentAt {A : Type 0} (at : ℕ → Option A) (ps : List ℕ) : Type 0 where

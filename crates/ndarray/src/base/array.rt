@@ -145,6 +145,7 @@ impl<S: Data, D: Dimension> ArrayBase<S, D> {
 
 impl<S: DataMut, D: Lengths> ArrayBase<S, D> {
     /// The cell at an index list, to write to, or `None` outside the box.
+    #[inline(always)]
     pub(crate) fn cell_mut(&mut self, index: &D) -> Option<&mut S::Elem>
         ensures* writes_back { sem 𝓛 (lends_cell S.row D.row S.Elem.row S.Data D.Lengths self.entry (D.numbers index.now) result) }
         ensures value { option_copied_mut result ≡ cell self.old (D.numbers index.now) }

@@ -24,6 +24,7 @@ pub struct Layout<D> {
 
 impl<D: Lengths> Layout<D> {
     /// Where the cell of an index list lies; `None` outside the box.
+    #[inline(always)]
     pub(crate) fn find(&self, index: &D) -> Option<usize>
         requires { length (D.numbers self.now.strides) ≡ length (D.numbers self.now.dim) }
         ensures { MatchOption result (InBox (D.numbers self.now.dim) (D.numbers index.now) → ⊥) (λ at. InBox (D.numbers self.now.dim) (D.numbers index.now) × (at ≡ place self.now.start (D.numbers self.now.strides) (D.numbers index.now))) }

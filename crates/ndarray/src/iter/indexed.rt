@@ -3,13 +3,15 @@
 ghost use Rattle.std.specs.Prelude.{◌≡◌, ◌<◌, ◌^◌, length, map, zip, ⊤, IfSome, All, Some};
 ghost use Rattle.std.specs.Iterator.{YieldsFirstBy, UpTo, item_count};
 ghost use Rattle.std.specs.Iterator.SizeHint.{IsExactHint, IsWithinCount};
-ghost use Rattle.ndarray.specs.Grid.{cell};
+ghost use Rattle.ndarray.specs.Grid.{cell, IsGrid};
 ghost use Rattle.ndarray.specs.Index.{IsRowOrder, row_order};
+ghost use Rattle.ndarray.specs.Limits.{IsWithinLimit};
 
 use crate::base::array::{ArrayBase, ArrayView};
 use crate::base::dimension::{Dimension, Lengths};
-use crate::base::storage::Data;
-use crate::order::{Order, Walk};
+use crate::base::storage::{Data, ViewRepr};
+use crate::order::Order;
+use crate::places::indexed::IndexedPlaces;
 use std::alloc::AllocError;
 use std::iter::ExactSizeIterator;
 use std::marker::Model;
@@ -19,19 +21,36 @@ use std::marker::Model;
 /// An iterator takes no memory, and neither does any of its steps.
 #[derive(Drop)]
 pub struct IndexedIter<'a, A, D: Lengths> {
-    view: ArrayView<'a, A, D>,
-    walk: Walk<D>,
+    storage: ViewRepr<'a, A>,
+    indexed: IndexedPlaces<D>,
 }
 
 impl<'a, A, D: Lengths> Model for IndexedIter<'a, A, D> {
-    ghost use Rattle.std.specs.Prelude.{ℕ, List, zip, filter_map};
-    ghost use Rattle.ndarray.specs.Grid.{HasCells, cell};
+    ghost use Rattle.std.specs.Prelude.{ℕ, List};
+    ghost use Rattle.ndarray.specs.base.Storage.{seen_at};
+    ghost use Rattle.ndarray.specs.base.Strided.{HaveElements};
+    ghost use Rattle.ndarray.specs.places.Lent.{with_elements, places_of};
 
     ghost Value = { List (List ℕ × A) };
 
-    ghost view = { λ s. zip s.walk (filter_map (cell s.view) s.walk) };
+    ghost view = { λ s. with_elements (seen_at s.storage) s.indexed };
 
-    ghost invariant = { λ s. HasCells s.view s.walk };
+    ghost invariant = { λ s. HaveElements (seen_at s.storage) (places_of s.indexed) };
+}
+
+impl<'a, A, D: Lengths> IndexedIter<'a, A, D> {
+    /// The cells of a view in row order.
+    fn new(view: ArrayView<'a, A, D>) -> Self
+        ensures list { result ≡ zip (row_order view.entry.lengths) view.entry.cells }
+        ensures whole { IsGrid view.entry }
+        ensures limit { IsWithinLimit view.entry.lengths }
+    {
+        let ArrayBase { storage, layout } = view;
+        IndexedIter {
+            storage,
+            indexed: IndexedPlaces::new(layout, Order::RowMajor),
+        }
+    }
 }
 
 impl<S: Data, D: Dimension> ArrayBase<S, D> {
@@ -49,10 +68,7 @@ impl<S: Data, D: Dimension> ArrayBase<S, D> {
         ensures own_cells { All (λ item. cell self.now item.0 ≡ Some item.1) result }
         ensures fits { length result < 2 ^ 63 }
     {
-        IndexedIter {
-            view: self.view(),
-            walk: Walk::new(self.raw_dim(), Order::RowMajor),
-        }
+        IndexedIter::new(self.view())
     }
 }
 
@@ -65,10 +81,10 @@ impl<'a, A, D: Dimension> Iterator for IndexedIter<'a, A, D> {
 
     #[inline(always)]
     fn next(&mut self) -> Option<(D::Pattern, &'a A)> {
-        let Some(index) = self.walk.next() else {
+        let Some((index, place)) = self.indexed.next() else {
             return None;
         };
-        let item = self.view.item(&index);
+        let item = self.storage.get(place);
         Some((index.into_pattern(), item))
     }
 
@@ -84,7 +100,7 @@ impl<'a, A, D: Dimension> Iterator for IndexedIter<'a, A, D> {
 
 impl<'a, A, D: Dimension> ExactSizeIterator for IndexedIter<'a, A, D> {
     fn len(&self) -> usize {
-        self.walk.len()
+        self.indexed.len()
     }
 }
 
@@ -95,8 +111,8 @@ impl<'a, A, D: Lengths> Clone for IndexedIter<'a, A, D> {
 
     fn clone(&self) -> Result<IndexedIter<'a, A, D>, AllocError> {
         Ok(IndexedIter {
-            view: self.view.again(),
-            walk: self.walk.clone()?,
+            storage: self.storage,
+            indexed: self.indexed.again(),
         })
     }
 }

@@ -12,6 +12,7 @@ use crate::base::dimension::Lengths;
 use crate::base::storage::{CellWriter, DataMut};
 use crate::order::{Order, Walk};
 use crate::zip::calls::ItemCall;
+use crate::zip::pair::PairRun;
 use crate::zip::producer::NdProducer;
 use std::marker::PhantomData;
 
@@ -74,7 +75,10 @@ fn assign_each<P: NdProducer, R: Drop, S: DataMut<Elem = R>, C: ItemCall<P::Item
     ensures ran { Collects (P.yields_at p) C.call_gives order (P.lengths p) f into.new }
     ensures whole { IsGrid into.new }
 {
-    let mut run = p.run(order).zip(Walk::new(into.raw_dim(), order));
+    let mut run = PairRun {
+        first: p.run(order),
+        second: Walk::new(into.raw_dim(), order),
+    };
     while let Some((x, index)) = run.next() {
         let r = f.call(x);
         let Some(cell) = into.cell_mut(&index) else {

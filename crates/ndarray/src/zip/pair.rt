@@ -100,8 +100,8 @@ impl<P: NdProducer, Q: NdProducer> NdProducer for Pair<P, Q> {
 /// The items of two runs, side by side. Its step is inlined, where that of the standard library's is a call.
 #[derive(Drop)]
 pub struct PairRun<R, S> {
-    first: R,
-    second: S,
+    pub(crate) first: R,
+    pub(crate) second: S,
 }
 
 impl<R: Iterator, S: Iterator> Iterator for PairRun<R, S>

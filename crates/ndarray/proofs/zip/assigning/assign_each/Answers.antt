@@ -1,7 +1,7 @@
 use Rattle.std.proofs.Common.{rules, ◌≡◌, ◌∙◌, ap, sym, refl}
 use Rattle.ndarray.specs.Orders.{box_in}
 use Rattle.ndarray.proofs.cells.Assignments.{YieldsInTurn-own, Assigned-start, Assigned-asks, Assigned-within, Assigned-next, Assigned-end}
-use Rattle.ndarray.proofs.runs.Producers.{YieldsInTurn-both}
+use Rattle.ndarray.proofs.runs.Producers.{YieldsInTurn-pairs}
 use Rattle.ndarray.proofs.zip.assigning.assign_each.Goals as goal
 
 pub loop-x-init : goal.loop-x-init
@@ -9,7 +9,7 @@ loop-x-init g c =
     let walked : c.new.result ≡ box_in c.args.order (g.P.Shaped.lengths c.args.p) = c.new.ensures.list ∙ ap (box_in c.args.order) (c.raw_dim.ensures.lengths ∙ sym c.requires.same) in (
       search rules,
       search rules,
-      Assigned-start _ _ _ _ _ _ (YieldsInTurn-both _ _ _ _ _ _ c.zip-run.result c.zip-run.ensures.first c.zip-run.ensures.second refl c.run.ensures.gives (YieldsInTurn-own g.P.Dim.Lengths.numbers (λ rest. rest) walked)) (sym c.requires.same) c.raw_dim.ensures.whole,
+      Assigned-start _ _ _ _ _ _ (YieldsInTurn-pairs _ _ _ _ _ _ _ refl c.run.ensures.gives (YieldsInTurn-own g.P.Dim.Lengths.numbers (λ rest. rest) walked)) (sym c.requires.same) c.raw_dim.ensures.whole,
     )
 
 pub call-r-requires : goal.call-r-requires

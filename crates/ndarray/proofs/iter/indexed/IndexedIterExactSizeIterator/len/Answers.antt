@@ -1,16 +1,20 @@
 use Rattle.std.proofs.Common.{ap, arith, length}
-use Rattle.std.specs.Prelude.{filter_map}
+use Rattle.std.proofs.lemmas.List.{length-map}
 use Rattle.std.proofs.lemmas.Slice.Zip.{length-zip}
-use Rattle.ndarray.specs.Grid.{cell}
-use Rattle.ndarray.proofs.cells.Cells.{length-along}
+use Rattle.std.specs.Prelude.{filter_map, map}
+use Rattle.ndarray.specs.base.Storage.{seen_at}
+use Rattle.ndarray.specs.places.Lent.{places_of}
+use Rattle.ndarray.proofs.moving.LentCells.{length-held_at}
 use Rattle.ndarray.proofs.iter.indexed.IndexedIterExactSizeIterator.len.Goals as goal
 
 pub returns-clause-value : goal.returns-clause-value
 returns-clause-value g c =
-    let i = c.self.invariant in
-    let v = c.self.inside.view in
-    let l = length-zip c.self.inside.walk (filter_map (cell v) c.self.inside.walk) in
-    let a = length-along v i.whole c.self.inside.walk i.within in
+    let s = c.self.inside in
+    let at = seen_at s.storage in
+    let f = length-held_at at (places_of s.indexed) c.self.invariant in
+    let lists = length-map s.indexed (λ item. item.0) in
+    let places = length-map s.indexed (λ item. item.1) in
+    let z = length-zip (map (λ item. item.0) s.indexed) (filter_map at (places_of s.indexed)) in
     let same = ap length c.self.view_is in
-    let n = c.len.ensures in
+    let n = c.len.ensures.value in
     omega arith

@@ -1,7 +1,38 @@
-use Rattle.std.proofs.Common.{zip, ap, ◌∙◌}
+use Rattle.std.proofs.Common.{zip, ap, ◌∙◌, subst, sym}
+use Rattle.ndarray.specs.Grid.{IsGrid}
 use Rattle.ndarray.specs.Index.{row_order}
+use Rattle.ndarray.specs.Limits.{IsWithinLimit}
+use Rattle.ndarray.specs.Orders.{cells_in}
+use Rattle.ndarray.specs.base.Slots.{held_at}
+use Rattle.ndarray.specs.declared.base.shape.Order.TheVariants.{RowMajor}
+use Rattle.ndarray.specs.places.Lent.{AreLentAt, places_of, with_elements}
 use Rattle.ndarray.proofs.cells.Cells.{along-row_order}
+use Rattle.ndarray.proofs.moving.LentCells.{AreLentAt-all, with_elements-all, with_places-places}
+use Rattle.ndarray.proofs.strides.Reach.{length-cells_at}
 use Rattle.ndarray.proofs.places.lent.Places.new.Goals as goal
 
+pub invariant_of-result : goal.invariant_of-result
+invariant_of-result g c =
+    let axes = g.D.Lengths.numbers in
+    let a = c.view.inside in
+    let at = held_at a.storage.slots in
+    let ns = axes a.layout.dim in
+    let bs = axes a.layout.strides in
+    subst (AreLentAt at) (sym (ap places_of c.new.ensures ∙ with_places-places a.layout.start bs (row_order ns))) (AreLentAt-all at ns a.layout.start bs c.view.invariant RowMajor)
+
+pub returns-clause-whole : goal.returns-clause-whole
+returns-clause-whole g c = subst IsGrid c.view.view_is (length-cells_at _ _ _ _ c.view.invariant)
+
+pub returns-clause-limit : goal.returns-clause-limit
+returns-clause-limit g c = subst (λ v. IsWithinLimit v.lengths) c.view.view_is c.view.invariant.limit
+
 pub returns-clause-list : goal.returns-clause-list
-returns-clause-list g c = c.in_order.ensures.list ∙ ap (zip (row_order c.args.view.lengths)) (along-row_order c.args.view c.in_order.ensures.whole)
+returns-clause-list g c =
+    let axes = g.D.Lengths.numbers in
+    let a = c.view.inside in
+    let at = held_at a.storage.slots in
+    let v = c.args.view in
+    ap (with_elements at) c.new.ensures
+    ∙ (with_elements-all at (axes a.layout.dim) a.layout.start (axes a.layout.strides) c.view.invariant RowMajor
+    ∙ (ap (λ w. zip (row_order w.lengths) (cells_in RowMajor w)) c.view.view_is
+    ∙ ap (zip (row_order v.lengths)) (along-row_order v (returns-clause-whole g c))))

@@ -1,0 +1,181 @@
+//! Index lists beside the places of their cells, row by row: on a row the last index is counted up, and each place is
+//! a stride after the one before.
+
+ghost use Rattle.std.specs.Prelude.{◌≡◌, ◌∷◌, ◌<◌, ◌+◌, ◌^◌, length, slice_index, zip};
+ghost use Rattle.std.specs.Iterator.{YieldsFirstBy};
+ghost use Rattle.ndarray.specs.Limits.{IsWithinLimit};
+ghost use Rattle.ndarray.specs.Orders.{box_in};
+ghost use Rattle.ndarray.specs.base.Strided.{places_from};
+ghost use Rattle.ndarray.specs.order.Ranks.{row_from, HasRoom};
+ghost use Rattle.ndarray.specs.places.Lent.{with_places};
+
+use crate::base::dimension::Lengths;
+use crate::base::layout::Layout;
+use crate::order::{Order, Row, Walk};
+use std::marker::Model;
+
+/// The index lists of one row that are still to come, each beside its place: `left` of them, from `next` on along the
+/// axis.
+#[derive(Drop)]
+struct IndexedRow<D: Lengths> {
+    // an index list of the row
+    index: D,
+    axis: usize,
+    next: usize,
+    place: usize,
+    stride: usize,
+    left: usize,
+}
+
+impl<D: Lengths> Model for IndexedRow<D> {
+    ghost use Rattle.std.specs.Prelude.{List, ℕ, ◌<◌, ◌+◌, ◌^◌, length, slice_set, zip};
+    ghost use Rattle.ndarray.specs.base.Strided.{places_from};
+    ghost use Rattle.ndarray.specs.order.Ranks.{row_from};
+
+    ghost Value = { List (List ℕ × ℕ) };
+
+    ghost view = { λ r. zip (row_from (slice_set (D.numbers r.index) r.axis r.next) r.axis r.left) (places_from r.place r.stride r.left) };
+
+    ghost invariant = { λ r. 0 < r.left → (r.axis < length (D.numbers r.index)) × (r.next + r.left < 2 ^ 64) };
+}
+
+impl<D: Lengths> IndexedRow<D> {
+    /// A row behind its first index list.
+    #[inline(always)]
+    fn behind_first(row: &Row<D>, place: usize, stride: usize) -> Self
+        requires some { 0 < row.now.count }
+        requires room { HasRoom (D.numbers row.now.first) row.now.axis row.now.count }
+        ensures { zip (row_from (D.numbers row.now.first) row.now.axis row.now.count) (places_from place stride row.now.count) ≡ (D.numbers row.now.first, place) ∷ result }
+    {
+        let left = row.count - 1;
+        let next = if left > 0 {
+            row.first.axis(row.axis) + 1
+        } else {
+            0
+        };
+        IndexedRow {
+            index: row.first.copied(),
+            axis: row.axis,
+            next,
+            place: place.wrapping_add(stride),
+            stride,
+            left,
+        }
+    }
+
+    /// How many are still to come.
+    fn len(&self) -> usize
+        ensures { result ≡ length self.now }
+    {
+        self.left
+    }
+
+    /// The next index list and its place.
+    #[inline(always)]
+    fn next(&mut self) -> Option<(D, usize)>
+        ensures { YieldsFirstBy (λ item. (D.numbers item.0, item.1)) (λ rest. rest) self.old result self.new }
+    {
+        if self.left == 0 {
+            return None;
+        }
+        let mut index = self.index.copied();
+        index.set_axis(self.axis, self.next);
+        let place = self.place;
+        self.next += 1;
+        self.place = place.wrapping_add(self.stride);
+        self.left -= 1;
+        Some((index, place))
+    }
+
+    /// The same once more.
+    fn again(&self) -> Self
+        ensures { result ≡ self.now }
+    {
+        IndexedRow {
+            index: self.index.copied(),
+            axis: self.axis,
+            next: self.next,
+            place: self.place,
+            stride: self.stride,
+            left: self.left,
+        }
+    }
+}
+
+/// The index lists of cells that are still to come, each beside the place of its cell: those of a row, and those behind
+/// it.
+#[derive(Drop)]
+pub(crate) struct IndexedPlaces<D: Lengths> {
+    row: IndexedRow<D>,
+    layout: Layout<D>,
+    walk: Walk<D>,
+}
+
+impl<D: Lengths> Model for IndexedPlaces<D> {
+    ghost use Rattle.std.specs.Prelude.{List, ℕ, ◌≡◌, ◌++◌, ◌+◌, ◌<◌, ◌^◌, length, All};
+    ghost use Rattle.ndarray.specs.places.Lent.{with_places};
+
+    ghost Value = { List (List ℕ × ℕ) };
+
+    ghost view = { λ s. s.row ++ with_places s.layout.start (D.numbers s.layout.strides) s.walk };
+
+    ghost invariant = { λ s. All (λ is. length (D.numbers s.layout.strides) ≡ length is) s.walk × (length s.row + length s.walk < 2 ^ 63) };
+}
+
+impl<D: Lengths> IndexedPlaces<D> {
+    /// All index lists of a box in an order, each beside its place.
+    pub(crate) fn new(layout: Layout<D>, order: Order) -> Self
+        requires limit { IsWithinLimit (D.numbers layout.dim) }
+        requires as_many { length (D.numbers layout.strides) ≡ length (D.numbers layout.dim) }
+        ensures { result ≡ with_places layout.start (D.numbers layout.strides) (box_in order (D.numbers layout.dim)) }
+    {
+        let walk = Walk::new(layout.dim.copied(), order);
+        IndexedPlaces {
+            row: IndexedRow {
+                index: layout.dim.copied(),
+                axis: 0,
+                next: 0,
+                place: 0,
+                stride: 0,
+                left: 0,
+            },
+            layout,
+            walk,
+        }
+    }
+
+    /// How many are still to come.
+    pub(crate) fn len(&self) -> usize
+        ensures value { result ≡ length self.now }
+        ensures fits { result < 2 ^ 63 }
+    {
+        self.row.len() + self.walk.len()
+    }
+
+    /// The next index list and its place.
+    #[inline(always)]
+    pub(crate) fn next(&mut self) -> Option<(D, usize)>
+        ensures { YieldsFirstBy (λ item. (D.numbers item.0, item.1)) (λ rest. rest) self.old result self.new }
+    {
+        if let Some(item) = self.row.next() {
+            return Some(item);
+        }
+        let Some(row) = self.walk.next_row() else {
+            return None;
+        };
+        let place = self.layout.place(&row.first);
+        self.row = IndexedRow::behind_first(&row, place, self.layout.stride(row.axis));
+        Some((row.first, place))
+    }
+
+    /// The same once more.
+    pub(crate) fn again(&self) -> Self
+        ensures { result ≡ self.now }
+    {
+        IndexedPlaces {
+            row: self.row.again(),
+            layout: self.layout.copied(),
+            walk: self.walk.again(),
+        }
+    }
+}
