@@ -19,18 +19,18 @@ pub fn halved<S: Data<Elem = u64>, D: Dimension>(
     Zip::from(a).map_collect(alloc, |x| *x / 2)
 }
 
-/// Whether each cell is below a limit.
-pub fn all_below<S: Data<Elem = u64>, D: Dimension>(a: &ArrayBase<S, D>, limit: u64) -> bool
-    ensures { result ≡ list_all (λ x. nat_lt x limit) a.now.cells }
+/// Whether each cell fits a byte.
+pub fn all_bytes<S: Data<Elem = u64>, D: Dimension>(a: &ArrayBase<S, D>) -> bool
+    ensures { result ≡ list_all (λ x. nat_lt x 256) a.now.cells }
 {
-    Zip::from(a.view()).all(|x| *x < limit)
+    Zip::from(a.view()).all(|x| *x < 256)
 }
 
-/// Whether some cell is below a limit.
-pub fn any_below<S: Data<Elem = u64>, D: Dimension>(a: &ArrayBase<S, D>, limit: u64) -> bool
-    ensures { result ≡ list_any (λ x. nat_lt x limit) a.now.cells }
+/// Whether some cell fits a byte.
+pub fn any_byte<S: Data<Elem = u64>, D: Dimension>(a: &ArrayBase<S, D>) -> bool
+    ensures { result ≡ list_any (λ x. nat_lt x 256) a.now.cells }
 {
-    Zip::from(a.view()).any(|x| *x < limit)
+    Zip::from(a.view()).any(|x| *x < 256)
 }
 
 /// The greatest cell, and 0 where there is none.
