@@ -1,5 +1,5 @@
 -- `map_collect` with a closure that computes a function of the index list, and arrays made in that way.
-use Rattle.std.proofs.Common.{◌≡◌, ℕ, List, [], ◌∷◌, ◌++◌, Option, Some, Ok, Err, map, length, remove, arith, ◌<◌, refl, subst, sym, ap, ◌∙◌, All, append-nil, append_assoc}
+use Rattle.std.proofs.Common.{◌≡◌, ℕ, List, [], ◌∷◌, ◌++◌, Some, Ok, Err, map, length, remove, arith, ◌<◌, refl, subst, sym, ap, ◌∙◌, All, append-nil, append_assoc}
 use Rattle.std.specs.Prelude.{Result, IfOk}
 use Rattle.std.specs.List.{AllByRecursion, Contains, FoldsTo}
 use Rattle.std.proofs.lemmas.List.Elements.{All-contains}

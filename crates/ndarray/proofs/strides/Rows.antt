@@ -1,7 +1,8 @@
 -- Places a step apart, and the cells of a row that lie there.
-use Rattle.std.proofs.Common.{◌≡◌, ℕ, ◌+◌, ◌-◌, ◌*◌, ◌%◌, ◌<◌, ◌≤◌, ◌^◌, suc, zero, List, [], ◌∷◌, ◌++◌, length, drop, set, get_or, zip, Option, Some, refl, sym, ◌∙◌, ap, arith, subst, inl, inr}
+use Rattle.std.proofs.Common.{◌≡◌, ℕ, ◌+◌, ◌-◌, ◌*◌, ◌%◌, ◌<◌, ◌≤◌, ◌^◌, suc, zero, List, [], ◌∷◌, ◌++◌, length, drop, set, get_or, zip, Option, Some, None, refl, sym, ◌∙◌, ap, arith, subst, inl, inr}
 use Rattle.std.specs.Prelude.{filter_map, All, IsTrue}
 use Rattle.std.specs.Option.{is_some}
+use Rattle.std.specs.Iterator.{YieldsFirstBy}
 use Rattle.std.proofs.lemmas.List.{take-append-drop, map-append, length-set, set-get_or, set_past, get_or_past, length-append, get_or_append_left, set-set, get_or-set_same}
 use Rattle.std.proofs.lemmas.List.Elements.{All-cons, All-head, All-tail, All-take, All-drop, filter_map-append}
 use Rattle.std.proofs.Math.Nat.{mod-add-mod, add-mod-mod}
@@ -121,15 +122,30 @@ pub length-indexed_row : (is : List ℕ) (axis p s n : ℕ) → length (zip (row
 length-indexed_row is axis p s zero = refl
 length-indexed_row is axis p s (suc n) = let ih = length-indexed_row (set is axis (get_or is axis 0 + 1)) axis ((p + s) % 2 ^ 64) s n in omega arith
 
--- one more on the axis
-pub indexed_row-next : (is : List ℕ) (axis i p s left : ℕ) → axis < length is → 0 < left
+-- one more on the axis, where it is there
+indexed_row-step : (is : List ℕ) (axis i : ℕ) → set (set is axis i) axis (get_or (set is axis i) axis 0 + 1) ≡ set is axis (i + 1)
+indexed_row-step is axis i = set-set is axis i _ ∙ elim (cases_lt axis (length is)) [
+  | inl lt ↦ ap (λ j. set is axis (j + 1)) (get_or-set_same is axis i 0 lt)
+  | inr past ↦ set_past is axis _ (omega (arith, past)) ∙ sym (set_past is axis (i + 1) (omega (arith, past)))
+]
+
+pub indexed_row-next : (is : List ℕ) (axis i p s left : ℕ) → 0 < left
     → zip (row_from (set is axis i) axis left) (places_from p s left) ≡ (set is axis i, p) ∷ zip (row_from (set is axis (i + 1)) axis (left - 1)) (places_from ((p + s) % 2 ^ 64) s (left - 1))
-indexed_row-next is axis i p s zero lt some = absurd (omega arith)
-indexed_row-next is axis i p s (suc n) lt some =
+indexed_row-next is axis i p s zero some = absurd (omega arith)
+indexed_row-next is axis i p s (suc n) some =
     let e : n ≡ suc n - 1 = omega arith in
-    let next : set (set is axis i) axis (get_or (set is axis i) axis 0 + 1) ≡ set is axis (i + 1) = set-set is axis i _ ∙ ap (λ j. set is axis (j + 1)) (get_or-set_same is axis i 0 lt) in
-    ap (λ js. (set is axis i, p) ∷ zip (row_from js axis n) (places_from ((p + s) % 2 ^ 64) s n)) next
+    ap (λ js. (set is axis i, p) ∷ zip (row_from js axis n) (places_from ((p + s) % 2 ^ 64) s n)) (indexed_row-step is axis i)
     ∙ ap (λ m. (set is axis i, p) ∷ zip (row_from (set is axis (i + 1)) axis m) (places_from ((p + s) % 2 ^ 64) s m)) e
+
+-- the first of a row is the first of all behind it
+pub yields-front : {A B : Type 0} (read : A → B) (row tail rest : List B) (r : Option A) → 0 < length row
+    → YieldsFirstBy read (λ l. l) row r rest → YieldsFirstBy read (λ l. l) (row ++ tail) r (rest ++ tail)
+yields-front read row tail rest None some h = absurd (let l = ap length h.0 in omega arith)
+yields-front read row tail rest (Some x) some h = ap (λ l. l ++ tail) h
+
+pub yields-fewer : {A B : Type 0} (read : A → B) (row rest : List B) (r : Option A) → YieldsFirstBy read (λ l. l) row r rest → length rest ≤ length row
+yields-fewer read row rest None h = let l = ap length h.0 in let m = ap length h.1 in omega arith
+yields-fewer read row rest (Some x) h = let l = ap length h in omega arith
 
 -- what is left behind a row comes after it
 taken-parts : (ys zs : List (List ℕ)) (is : List ℕ) (axis count : ℕ) → TakesRow ys zs is axis count → ys ≡ row_from is axis count ++ zs

@@ -1,5 +1,5 @@
 -- What the laws of dimensions cite: which of them have a fixed number of axes.
-use Rattle.std.proofs.Common.{◌≡◌, ℕ, ◌+◌, ◌-◌, ◌<◌, ◌≤◌, ◌∙◌, refl, sym, ap, arith, rules}
+use Rattle.std.proofs.Common.{◌≡◌, ℕ, ◌+◌, ◌-◌, ◌<◌, ◌≤◌, ◌∙◌, refl, ap, arith}
 use Rattle.std.specs.Prelude.{max}
 use Rattle.ndarray.specs.FixedAxes.{IsFixed}
 

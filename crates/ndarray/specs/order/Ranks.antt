@@ -47,9 +47,9 @@ abbrev pub row_from : List ℕ → ℕ → ℕ → List (List ℕ)
 row_from is axis zero = []
 row_from is axis (suc n) = is ∷ row_from (slice_set is axis (slice_index is axis + 1)) axis n
 
--- a row of more than one index list is along an axis that is there, and each index on it is a number of a word
+-- the indices of a row are numbers of a word
 abbrev pub HasRoom : List ℕ → ℕ → ℕ → Type 0
-HasRoom first axis count = 1 < count → (axis < length first) × (slice_index first axis + count < 2 ^ 64)
+HasRoom first axis count = slice_index first axis + count < 2 ^ 64
 
 -- the first `count` of the index lists are a row, and the others stay
 pub record TakesRow (old new : List (List ℕ)) (first : List ℕ) (axis count : ℕ) : Type 0 where

@@ -11,7 +11,7 @@ ghost use Rattle.ndarray.specs.places.Lent.{with_places};
 
 use crate::base::dimension::Lengths;
 use crate::base::layout::Layout;
-use crate::order::{Order, Row, Walk};
+use crate::order::{Order, Row, Walk, axis_at};
 use std::marker::Model;
 
 /// The index lists of one row that are still to come, each beside its place: `left` of them, from `next` on along the
@@ -36,34 +36,34 @@ impl<D: Lengths> Model for IndexedRow<D> {
 
     ghost view = { λ r. zip (row_from (slice_set (D.numbers r.index) r.axis r.next) r.axis r.left) (places_from r.place r.stride r.left) };
 
-    ghost invariant = { λ r. 0 < r.left → (r.axis < length (D.numbers r.index)) × (r.next + r.left < 2 ^ 64) };
+    ghost invariant = { λ r. 0 < r.left → r.next + r.left < 2 ^ 64 };
 }
 
 impl<D: Lengths> IndexedRow<D> {
-    /// A row behind its first index list.
+    /// The index lists of a row, the first of which lies at a place, and each other a stride after the one before.
     #[inline(always)]
-    fn behind_first(row: &Row<D>, place: usize, stride: usize) -> Self
-        requires some { 0 < row.now.count }
-        requires room { HasRoom (D.numbers row.now.first) row.now.axis row.now.count }
-        ensures { zip (row_from (D.numbers row.now.first) row.now.axis row.now.count) (places_from place stride row.now.count) ≡ (D.numbers row.now.first, place) ∷ result }
+    fn new(row: &Row<D>, place: usize, stride: usize) -> Self
+        requires { HasRoom (D.numbers row.now.first) row.now.axis row.now.count }
+        ensures { result ≡ zip (row_from (D.numbers row.now.first) row.now.axis row.now.count) (places_from place stride row.now.count) }
     {
-        let left = row.count - 1;
-        let next = if left > 0 {
-            row.first.axis(row.axis) + 1
+        let axis = row.axis;
+        let next = if axis < row.first.ndim() {
+            row.first.axis(axis)
         } else {
             0
         };
         IndexedRow {
             index: row.first.copied(),
-            axis: row.axis,
+            axis,
             next,
-            place: place.wrapping_add(stride),
+            place,
             stride,
-            left,
+            left: row.count,
         }
     }
 
     /// How many are still to come.
+    #[inline(always)]
     fn len(&self) -> usize
         ensures { result ≡ length self.now }
     {
@@ -79,7 +79,9 @@ impl<D: Lengths> IndexedRow<D> {
             return None;
         }
         let mut index = self.index.copied();
-        index.set_axis(self.axis, self.next);
+        if self.axis < index.ndim() {
+            index.set_axis(self.axis, self.next);
+        }
         let place = self.place;
         self.next += 1;
         self.place = place.wrapping_add(self.stride);
@@ -130,10 +132,17 @@ impl<D: Lengths> IndexedPlaces<D> {
         ensures { result ≡ with_places layout.start (D.numbers layout.strides) (box_in order (D.numbers layout.dim)) }
     {
         let walk = Walk::new(layout.dim.copied(), order);
+        // The axis of each row to come, so that the compiler knows which index is written.
+        let ndim = layout.dim.ndim();
+        let axis = if ndim == 0 {
+            0
+        } else {
+            axis_at(order, ndim, 0)
+        };
         IndexedPlaces {
             row: IndexedRow {
                 index: layout.dim.copied(),
-                axis: 0,
+                axis,
                 next: 0,
                 place: 0,
                 stride: 0,
@@ -157,15 +166,15 @@ impl<D: Lengths> IndexedPlaces<D> {
     pub(crate) fn next(&mut self) -> Option<(D, usize)>
         ensures { YieldsFirstBy (λ item. (D.numbers item.0, item.1)) (λ rest. rest) self.old result self.new }
     {
-        if let Some(item) = self.row.next() {
-            return Some(item);
+        if self.row.len() == 0 {
+            let Some(row) = self.walk.next_row() else {
+                return None;
+            };
+            let place = self.layout.place(&row.first);
+            let stride = self.layout.stride(row.axis);
+            self.row = IndexedRow::new(&row, place, stride);
         }
-        let Some(row) = self.walk.next_row() else {
-            return None;
-        };
-        let place = self.layout.place(&row.first);
-        self.row = IndexedRow::behind_first(&row, place, self.layout.stride(row.axis));
-        Some((row.first, place))
+        self.row.next()
     }
 
     /// The same once more.

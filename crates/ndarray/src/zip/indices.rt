@@ -80,14 +80,6 @@ impl<D: Dimension> NdProducer for Indices<D> {
 
     ghost flat_form = { λ s o flat. (flat ≡ s) × (o ≡ RowMajor) };
 
-    fn tendency(&self) -> i32 {
-        0
-    }
-
-    fn try_flat(self, _order: Order) -> Result<Self, Self> {
-        Err(self)
-    }
-
     fn from_flat(flat: Self) -> Self {
         flat
     }

@@ -64,13 +64,19 @@ pub trait NdProducer: Shaped + Drop + Sized {
     ghost flat_form: { Self → Order → Self.Flat → Type 0 };
 
     /// Which order is fast: row order where it is positive, column order where it is negative. No contract
-    /// speaks of it.
-    fn tendency(&self) -> i32;
+    /// speaks of it. A producer without a fast order has 0.
+    fn tendency(&self) -> i32 {
+        0
+    }
 
-    /// The flat form, where the items lie side by side in the order; else the producer.
+    /// The flat form, where the items lie side by side in the order; else the producer. A producer that is never flat
+    /// is given back.
     fn try_flat(self, order: Order) -> Result<Self::Flat, Self>
         ensures flat { IfOk result (λ flat. flat_form self order flat) }
-        ensures back { IfErr result (λ p. IsRefinedBy (Self.lengths self) (yields_at self) (Self.lengths p) (yields_at p)) };
+        ensures back { IfErr result (λ p. IsRefinedBy (Self.lengths self) (yields_at self) (Self.lengths p) (yields_at p)) }
+    {
+        Err(self)
+    }
 
     /// The producer of a flat form.
     fn from_flat(flat: Self::Flat) -> Self

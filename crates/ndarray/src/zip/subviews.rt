@@ -49,14 +49,6 @@ impl<'a, A, D: Lengths> NdProducer for Lanes<'a, A, D> {
 
     ghost flat_form = { λ s o flat. (flat ≡ s) × (o ≡ RowMajor) };
 
-    fn tendency(&self) -> i32 {
-        0
-    }
-
-    fn try_flat(self, _order: Order) -> Result<Self, Self> {
-        Err(self)
-    }
-
     fn from_flat(flat: Self) -> Self {
         flat
     }
@@ -100,14 +92,6 @@ impl<'a, A, D: Lengths> NdProducer for ExactChunks<'a, A, D> {
 
     ghost flat_form = { λ s o flat. (flat ≡ s) × (o ≡ RowMajor) };
 
-    fn tendency(&self) -> i32 {
-        0
-    }
-
-    fn try_flat(self, _order: Order) -> Result<Self, Self> {
-        Err(self)
-    }
-
     fn from_flat(flat: Self) -> Self {
         flat
     }
@@ -150,14 +134,6 @@ impl<'a, A, D: Lengths> NdProducer for Windows<'a, A, D> {
     type FlatRun = WindowsIter<'a, A, D>;
 
     ghost flat_form = { λ s o flat. (flat ≡ s) × (o ≡ RowMajor) };
-
-    fn tendency(&self) -> i32 {
-        0
-    }
-
-    fn try_flat(self, _order: Order) -> Result<Self, Self> {
-        Err(self)
-    }
 
     fn from_flat(flat: Self) -> Self {
         flat
@@ -209,14 +185,6 @@ impl<'a, A, D: Lengths> NdProducer for AxisWindows<'a, A, D> {
 
     ghost flat_form = { λ s o flat. (flat ≡ s) × (o ≡ RowMajor) };
 
-    fn tendency(&self) -> i32 {
-        0
-    }
-
-    fn try_flat(self, _order: Order) -> Result<Self, Self> {
-        Err(self)
-    }
-
     fn from_flat(flat: Self) -> Self {
         flat
     }
@@ -256,14 +224,6 @@ impl<'a, A, D: Lengths> NdProducer for AxisIter<'a, A, D> {
     type FlatRun = AxisIter<'a, A, D>;
 
     ghost flat_form = { λ s o flat. (flat ≡ s) × (o ≡ RowMajor) };
-
-    fn tendency(&self) -> i32 {
-        0
-    }
-
-    fn try_flat(self, _order: Order) -> Result<Self, Self> {
-        Err(self)
-    }
 
     fn from_flat(flat: Self) -> Self {
         flat

@@ -123,14 +123,6 @@ impl<'a, A, D: Lengths> NdProducer for AxisIterMut<'a, A, D> {
 
     ghost flat_form = { λ s o flat. (flat ≡ s) × (o ≡ RowMajor) };
 
-    fn tendency(&self) -> i32 {
-        0
-    }
-
-    fn try_flat(self, _order: Order) -> Result<Self, Self> {
-        Err(self)
-    }
-
     fn from_flat(flat: Self) -> Self {
         flat
     }
@@ -173,14 +165,6 @@ impl<'a, A, D: Lengths> NdProducer for LanesMut<'a, A, D> {
     type FlatRun = LanesIterMut<'a, A, D>;
 
     ghost flat_form = { λ s o flat. (flat ≡ s) × (o ≡ RowMajor) };
-
-    fn tendency(&self) -> i32 {
-        0
-    }
-
-    fn try_flat(self, _order: Order) -> Result<Self, Self> {
-        Err(self)
-    }
 
     fn from_flat(flat: Self) -> Self {
         flat
@@ -227,14 +211,6 @@ impl<'a, A, D: Lengths> NdProducer for ExactChunksMut<'a, A, D> {
     type FlatRun = ExactChunksIterMut<'a, A, D>;
 
     ghost flat_form = { λ s o flat. (flat ≡ s) × (o ≡ RowMajor) };
-
-    fn tendency(&self) -> i32 {
-        0
-    }
-
-    fn try_flat(self, _order: Order) -> Result<Self, Self> {
-        Err(self)
-    }
 
     fn from_flat(flat: Self) -> Self {
         flat

@@ -1,4 +1,5 @@
-use Rattle.std.proofs.Common.{arith, refl, ◌≡◌, ◌+◌, ◌-◌, ◌<◌, ◌∷◌, [], ap, sym, ◌∙◌, length, take, drop, get_or, subst, min}
+use Rattle.std.proofs.Common.{arith, refl, ◌≡◌, ◌+◌, ◌-◌, ◌<◌, ◌∷◌, [], ap, sym, ◌∙◌, length, take, drop, get_or, subst}
+use Rattle.std.proofs.lemmas.List.{get_or_past}
 use Rattle.ndarray.specs.order.Ranks.{axis_in, row_from, rank_in}
 use Rattle.ndarray.specs.Index.{InBox, size}
 use Rattle.ndarray.proofs.boxes.Boxes.{InBox-length}
@@ -14,7 +15,10 @@ returns-then-ndim-eq0 g c =
     let l = length-walk_rest w.order (axes w.dim) (axes w.index) w.left c.self.invariant in
     let s = walk_rest-next w.order (axes w.dim) (axes w.index) (axes w.index) w.left 0 c.self.invariant (omega arith) (λ p. absurd (omega arith)) in
     let e : c.args.self.now ≡ axes w.index ∷ [] = sym c.self.view_is ∙ s in
-    rw (e, c.copied-first.ensures.value) (record { some = omega arith; room = λ more. absurd (omega arith); row = refl; rest = refl })
+    let n = InBox-length (axes w.dim) (axes w.index) (c.self.invariant.within (omega (arith, c.if-self-eq0.false))) in
+    let d = c.ndim-ndim.ensures.value in
+    let none : get_or (axes w.index) 0 0 ≡ 0 = get_or_past (axes w.index) 0 0 (omega (arith, c.if-ndim-eq0.true)) in
+    rw (e, c.copied-first.ensures.value) (record { some = omega arith; room = omega arith; row = refl; rest = refl })
 
 pub axis-i-requires : goal.axis-i-requires
 axis-i-requires g c =
@@ -76,12 +80,9 @@ returns g c =
     let t = row-taken w.order (axes w.dim) (axes w.index) w.left c.axis_at-axis.result c.axis-end.result c.axis-i.result c.min-count.result c.self.invariant (omega (arith, c.if-self-eq0.false)) (omega (arith, c.if-ndim-eq0.false)) (c.axis_at-axis.ensures.value ∙ ap (λ n. axis_in w.order n 0) c.ndim-ndim.ensures.value) c.axis-end.ensures (c.axis-i.ensures ∙ ap (λ is. get_or is c.axis_at-axis.result 0) c.copied-first.ensures.value) (omega (arith, c.min-count.ensures, c.row_len.ensures.some, c.if-self-eq0.false)) (omega (arith, c.min-count.ensures, c.row_len.ensures.within)) (omega (arith, c.min-count.ensures)) in
     let le : c.min-count.result + (w.left - c.min-count.result) ≡ w.left = omega (arith, c.min-count.ensures) in
     let gone = ap (drop c.min-count.result) c.self.view_is in
-    let l = InBox-length (axes w.dim) (axes w.index) (c.self.invariant.within (omega (arith, c.if-self-eq0.false))) in
-    let e = ap length c.copied-first.ensures.value in
-    let b = c.axis_at-axis.ensures.below in
     let lt = row-inside w.order (axes w.dim) (axes w.index) w.left c.axis_at-axis.result c.axis-end.result c.axis-i.result 0 c.self.invariant (omega (arith, c.if-self-eq0.false)) (omega (arith, c.if-ndim-eq0.false)) (c.axis_at-axis.ensures.value ∙ ap (λ n. axis_in w.order n 0) c.ndim-ndim.ensures.value) c.axis-end.ensures (c.axis-i.ensures ∙ ap (λ is. get_or is c.axis_at-axis.result 0) c.copied-first.ensures.value) in
     record {
-      room = λ more. (omega arith, omega (arith, c.min-count.ensures, c.row_len.ensures.within, c.axis-i.ensures));
+      room = omega (arith, c.min-count.ensures, c.row_len.ensures.within, c.axis-i.ensures);
       some = omega (arith, c.min-count.ensures, c.row_len.ensures.some, c.if-self-eq0.false);
       row = ap (take c.min-count.result) (sym c.self.view_is) ∙ (t ∙ ap (λ is. row_from is c.axis_at-axis.result c.min-count.result) (sym c.copied-first.ensures.value));
       rest = elim c.if-self-gt0.branch [

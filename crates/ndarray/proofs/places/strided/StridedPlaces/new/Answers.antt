@@ -1,6 +1,5 @@
 use Rattle.std.proofs.Common.{◌≡◌, ◌∙◌, ap, arith, length, subst, sym}
 use Rattle.std.specs.Prelude.{All}
-use Rattle.ndarray.specs.Index.{InBox}
 use Rattle.ndarray.specs.Orders.{box_in}
 use Rattle.ndarray.specs.places.Lent.{places_along}
 use Rattle.ndarray.proofs.boxes.Boxes.{InBox-length}
