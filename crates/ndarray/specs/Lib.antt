@@ -14,6 +14,7 @@ pub mod Runs
 pub mod Slices
 pub mod Subviews
 pub mod Sums
+pub mod Updates
 pub mod Views
 pub mod Integers
 pub mod Writes

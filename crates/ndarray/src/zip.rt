@@ -17,6 +17,7 @@ mod joining;
 pub mod pair;
 pub mod producer;
 mod subviews;
+mod updating;
 mod views;
 mod walks;
 mod writing;

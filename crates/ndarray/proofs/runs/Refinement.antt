@@ -1,9 +1,10 @@
 -- What is known of a producer that shows no more than another.
-use Rattle.std.proofs.Common.{ℕ, List, [], ◌∙◌, subst, sym}
+use Rattle.std.proofs.Common.{ℕ, List, [], ◌∙◌, refl, subst, sym}
 use Rattle.ndarray.specs.Grid.{Grid}
 use Rattle.ndarray.specs.Orders.{box_in}
 use Rattle.ndarray.specs.Producers.{IsRefinedBy}
 use Rattle.ndarray.specs.Runs.{TurnAt, TakesAt, GatherTurn, MayGather, Gathers, Collects}
+use Rattle.ndarray.specs.Updates.{is_cell_beside}
 use Rattle.ndarray.specs.declared.base.shape.Order.{Order}
 use Rattle.ndarray.proofs.runs.RunsThrough.{folds_via, may_via}
 
@@ -27,3 +28,7 @@ module _ {F A R : Type 0} (call_gives : F → A → R → F → Type 0) {ns ms :
         list = c.list;
         gathered = subst (λ l. Gathers yields_at call_gives (box_in o l) f c.answers) less.lengths turns;
       }
+
+-- the same of items beside the cells of an array
+pub beside-refined : {A X : Type 0} {ns ms : List ℕ} {yields_at other_yields_at : List ℕ → X → Type 0} (g : Grid A) → IsRefinedBy ns yields_at ms other_yields_at → IsRefinedBy g.lengths (is_cell_beside g yields_at) g.lengths (is_cell_beside g other_yields_at)
+beside-refined g less = record { lengths = refl; items = λ is x s. (s.0, less.items is x.1 s.1) }

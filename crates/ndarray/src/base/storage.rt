@@ -68,8 +68,8 @@ pub trait DataMut: Data {
         array: &mut ArrayBase<Self, D>,
         writer: W,
     ) -> Result<(), W>
-        requires { W.can_write writer (length array.old.cells) }
-        ensures done { IfOk result (λ _. (array.new.lengths ≡ array.old.lengths) × W.writes writer array.new.cells × IsGrid array.new) }
+        requires { W.can_write writer array.old.cells }
+        ensures done { IfOk result (λ _. (array.new.lengths ≡ array.old.lengths) × W.writes writer array.old.cells array.new.cells × IsGrid array.new) }
         ensures back { IfErr result (λ w. (w ≡ writer) × (array.new ≡ array.old)) }
     {
         Err(writer)
@@ -87,16 +87,16 @@ pub trait DataMut: Data {
 
 /// What writes all elements of a slice.
 pub trait CellWriter<A>: Drop {
-    // Whether it may write to a slice of so many elements.
-    ghost can_write: { Self → ℕ → Type 0 };
+    // Whether it may write to a slice of these elements.
+    ghost can_write: { Self → List A → Type 0 };
 
-    // Whether these may be the elements that it leaves.
-    ghost writes: { Self → List A → Type 0 };
+    // Whether it may leave the second elements where the first were.
+    ghost writes: { Self → List A → List A → Type 0 };
 
     /// Writes them.
     fn write(self, slice: &mut [A])
-        requires { can_write self (length slice.old) }
-        ensures { writes self slice.new };
+        requires { can_write self slice.old }
+        ensures { writes self slice.old slice.new };
 }
 
 /// What owns its elements.

@@ -41,8 +41,8 @@ impl<A: Drop, D: Lengths> Array<A, D> {
     /// Has a writer write all cells as one slice, where they lie side by side in row order; else the writer
     /// comes back.
     pub(crate) fn write_slice<W: CellWriter<A>>(&mut self, writer: W) -> Result<(), W>
-        requires { W.can_write writer (length self.old.cells) }
-        ensures done { IfOk result (λ _. (self.new.lengths ≡ self.old.lengths) × W.writes writer self.new.cells × IsGrid self.new) }
+        requires { W.can_write writer self.old.cells }
+        ensures done { IfOk result (λ _. (self.new.lengths ≡ self.old.lengths) × W.writes writer self.old.cells self.new.cells × IsGrid self.new) }
         ensures back { IfErr result (λ w. (w ≡ writer) × (self.new ≡ self.old)) }
     {
         let len = self.layout.dim.size();
@@ -58,8 +58,8 @@ impl<A: Drop, D: Lengths> Array<A, D> {
 /// Has a writer write the `len` elements from `from` on.
 fn write_part<A, W: CellWriter<A>>(slice: &mut [A], from: usize, len: usize, writer: W)
     requires within { from + len ≤ length slice.old }
-    requires can { W.can_write writer len }
-    ensures { W.writes writer (take len (drop from slice.new)) }
+    requires can { W.can_write writer (take len (drop from slice.old)) }
+    ensures { W.writes writer (take len (drop from slice.old)) (take len (drop from slice.new)) }
 {
     let end = from + len;
     writer.write(&mut slice[from..end]);
@@ -73,8 +73,8 @@ impl<S: DataMut, D: Lengths> ArrayBase<S, D> {
         writer: W,
     ) -> Result<(), W>
         requires whole { IsGrid self.old }
-        requires can { W.can_write writer (length self.old.cells) }
-        ensures done { IfOk result (λ _. (self.new.lengths ≡ self.old.lengths) × W.writes writer (cells_in order self.new) × IsGrid self.new) }
+        requires can { W.can_write writer (cells_in order self.old) }
+        ensures done { IfOk result (λ _. (self.new.lengths ≡ self.old.lengths) × W.writes writer (cells_in order self.old) (cells_in order self.new) × IsGrid self.new) }
         ensures back { IfErr result (λ w. (w ≡ writer) × (self.new ≡ self.old)) }
     {
         match order {

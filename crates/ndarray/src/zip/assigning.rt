@@ -1,6 +1,6 @@
 //! Arrays whose cells become what a closure answers at the items of a producer.
 
-ghost use Rattle.std.specs.Prelude.{◌≡◌};
+ghost use Rattle.std.specs.Prelude.{◌≡◌, length};
 ghost use Rattle.ndarray.specs.Grid.{IsGrid};
 ghost use Rattle.ndarray.specs.Orders.{box_in};
 ghost use Rattle.ndarray.specs.Index.{size};
@@ -98,9 +98,9 @@ struct Answers<P, F, C> {
 
 impl<P: NdProducer, R: Drop, C: ItemCall<P::Item, Out = R>> CellWriter<R>
     for Answers<P, P::Flat, C> {
-    ghost can_write = { λ w n. (p : P) × ((o : Order) × (P.flat_form p o w.flat × MayGather (P.yields_at p) C.call_gives C.can_call (box_in o (P.lengths p)) w.f × (size (P.lengths p) ≡ n))) };
+    ghost can_write = { λ w xs. (p : P) × ((o : Order) × (P.flat_form p o w.flat × MayGather (P.yields_at p) C.call_gives C.can_call (box_in o (P.lengths p)) w.f × (size (P.lengths p) ≡ length xs))) };
 
-    ghost writes = { λ w xs. (p : P) (o : Order) → P.flat_form p o w.flat → Gathers (P.yields_at p) C.call_gives (box_in o (P.lengths p)) w.f xs };
+    ghost writes = { λ w xs ys. (p : P) (o : Order) → P.flat_form p o w.flat → Gathers (P.yields_at p) C.call_gives (box_in o (P.lengths p)) w.f ys };
 
     fn write(self, slice: &mut [R]) {
         let Answers {

@@ -1,9 +1,18 @@
 use Rattle.std.proofs.Common.{◌∙◌, ap, sym, subst, refl}
+use Rattle.ndarray.specs.Index.{size}
 use Rattle.ndarray.specs.Orders.{box_in, cells_in}
 use Rattle.ndarray.specs.Runs.{MayGather, Collects}
-use Rattle.ndarray.proofs.cells.Cells.{cells_in-HasInOrder}
+use Rattle.ndarray.proofs.cells.Cells.{cells_in-HasInOrder, length-along}
+use Rattle.ndarray.proofs.boxes.Orders.{box_in-within, length-box_in}
 use Rattle.ndarray.proofs.runs.Refinement.{Collects-refined, MayGather-refined}
 use Rattle.ndarray.proofs.zip.assigning.assign_items.Goals as goal
+
+pub write_cells_in-requires-clause-can : goal.write_cells_in-requires-clause-can
+write_cells_in-requires-clause-can g c =
+    let o = c.args.order in
+    let v = c.args.into.now in
+    let many = ap size c.requires.same ∙ (sym (length-box_in o v.lengths) ∙ sym (length-along v c.requires.whole (box_in o v.lengths) (box_in-within o v.lengths))) in
+    (c.args.p, (o, (c.in-Ok.ensures.flat, c.requires.callable, many)))
 
 pub assign_each-requires-clause-callable : goal.assign_each-requires-clause-callable
 assign_each-requires-clause-callable g c =

@@ -1,11 +1,11 @@
-use Rattle.std.proofs.Common.{◌≡◌, ◌∙◌, ℕ, List, ap, sym, subst, reverse, length, Result, Ok, Err}
+use Rattle.std.proofs.Common.{◌≡◌, ◌∙◌, ℕ, List, ap, sym, subst, reverse, Result, Ok, Err}
 use Rattle.std.specs.Prelude.{IfOk, IfErr}
 use Rattle.std.proofs.lemmas.List.{reverse-reverse}
 use Rattle.ndarray.specs.Grid.{Grid, IsGrid}
 use Rattle.ndarray.specs.Orders.{cells_in}
 use Rattle.ndarray.specs.Views.{transposed}
 use Rattle.ndarray.specs.declared.base.shape.Order.TheVariants.{RowMajor, ColumnMajor}
-use Rattle.ndarray.proofs.cells.CellsInOrder.{length-transposed, transposed-transposed, transposed-whole}
+use Rattle.ndarray.proofs.cells.CellsInOrder.{transposed-transposed, transposed-whole}
 use Rattle.ndarray.proofs.strides.ContiguousCells.{row-cells, transposed-cells}
 use Rattle.ndarray.proofs.base.array.ArrayBase.write_cells_in.Goals as goal
 
@@ -24,18 +24,24 @@ came_back : {A W U : Type 0} (w : W) (g h k f : Grid A) (r : Result U W) → IsG
 came_back w g h k f (Ok u) whole e t b = b
 came_back w g h k f (Err v) whole e t b = (b.0, t ∙ (ap transposed (b.1 ∙ e) ∙ transposed-transposed g whole (transposed-whole g whole)))
 
+pub write_cells-requires : goal.write_cells-requires
+write_cells-requires g c = subst (g.W.CellWriter.can_write c.args.writer) (rw c.in-RowMajor.is (row-cells c.args.self.now c.requires.whole)) c.requires.can
+
 pub write_cells-written-requires : goal.write_cells-written-requires
 write_cells-written-requires g c =
-    let many : length c.reverse_axes.new.self.cells ≡ length c.args.self.now.cells = ap (λ v. length v.cells) c.reverse_axes.ensures.value ∙ length-transposed c.args.self.now c.requires.whole in
-    subst (g.W.CellWriter.can_write c.args.writer) (sym many) c.requires.can
+    let before : c.reverse_axes.new.self.cells ≡ cells_in ColumnMajor c.args.self.now = ap (λ v. v.cells) c.reverse_axes.ensures.value ∙ transposed-cells c.args.self.now in
+    subst (g.W.CellWriter.can_write c.args.writer) (sym before) (rw c.in-ColumnMajor.is at c.requires.can)
 
 pub returns-in-RowMajor-clause-done : goal.returns-in-RowMajor-clause-done
-returns-in-RowMajor-clause-done g c = rw c.in-RowMajor.is (in_row g.W.CellWriter.writes c.args.writer _ c.write_cells.new.array c.write_cells.result c.write_cells.ensures.done)
+returns-in-RowMajor-clause-done g c =
+    let before = row-cells c.args.self.now c.requires.whole in
+    rw c.in-RowMajor.is (in_row (λ w. g.W.CellWriter.writes w (cells_in RowMajor c.args.self.now)) c.args.writer _ c.write_cells.new.array c.write_cells.result (rw before c.write_cells.ensures.done))
 
 pub returns-in-ColumnMajor-clause-done : goal.returns-in-ColumnMajor-clause-done
 returns-in-ColumnMajor-clause-done g c =
-    rw c.in-ColumnMajor.is (in_column g.W.CellWriter.writes c.args.writer c.args.self.now.lengths c.reverse_axes.new.self.lengths c.write_cells-written.new.array c.reverse_axes-in-ColumnMajor.new.self c.write_cells-written.result
-    (ap (λ v. v.lengths) c.reverse_axes.ensures.value) c.reverse_axes-in-ColumnMajor.ensures.value c.reverse_axes-in-ColumnMajor.ensures.whole c.write_cells-written.ensures.done)
+    let before : c.reverse_axes.new.self.cells ≡ cells_in ColumnMajor c.args.self.now = ap (λ v. v.cells) c.reverse_axes.ensures.value ∙ transposed-cells c.args.self.now in
+    rw c.in-ColumnMajor.is (in_column (λ w. g.W.CellWriter.writes w (cells_in ColumnMajor c.args.self.now)) c.args.writer c.args.self.now.lengths c.reverse_axes.new.self.lengths c.write_cells-written.new.array c.reverse_axes-in-ColumnMajor.new.self c.write_cells-written.result
+    (ap (λ v. v.lengths) c.reverse_axes.ensures.value) c.reverse_axes-in-ColumnMajor.ensures.value c.reverse_axes-in-ColumnMajor.ensures.whole (rw before at c.write_cells-written.ensures.done))
 
 pub returns-in-ColumnMajor-clause-back : goal.returns-in-ColumnMajor-clause-back
 returns-in-ColumnMajor-clause-back g c =

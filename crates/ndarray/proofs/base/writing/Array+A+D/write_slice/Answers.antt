@@ -3,7 +3,7 @@ use Rattle.std.specs.Prelude.{⊤, slice_get}
 use Rattle.std.proofs.lemmas.List.{length-take-le, length-drop}
 use Rattle.std.proofs.lemmas.Option.{slice_get-get_or}
 use Rattle.ndarray.specs.Index.{InBox, size}
-use Rattle.ndarray.specs.base.Places.{place, Reaches}
+use Rattle.ndarray.specs.base.Places.{place, cells_at, Reaches}
 use Rattle.ndarray.specs.order.Ranks.{rank}
 use Rattle.ndarray.proofs.lists.Elements.{some-of}
 use Rattle.ndarray.proofs.strides.Reach.{length-cells_at}
@@ -24,11 +24,18 @@ write_part-requires-clause-within g c =
     let w = room c.self.inside.storage.items.items _ _ _ c.self.invariant (c.if-not-is_row_major.ensures.places.0 refl) (omega (arith, c.size-len.ensures)) in
     omega (arith, ap length c.as_mut_slice-items.ensures.value, c.size-len.ensures)
 
+-- where cells lie side by side, those of the array are a part of its elements
+part : {A : Type 0} (xs : List A) (ns : List ℕ) (start : ℕ) (bs : List ℕ) (h : Reaches ⊤ (slice_get xs) ns start bs) (beside : (is : List ℕ) → InBox ns is → place start bs is ≡ start + rank ns is) (some : 0 < size ns) (len : ℕ) → len ≡ size ns → take len (drop start xs) ≡ cells_at (slice_get xs) ns start bs
+part xs ns start bs h beside some len e =
+    let fits = room xs ns start bs h beside some in
+    let long : length (take len (drop start xs)) ≡ len = length-take-le len (drop start xs) (let d = length-drop start xs in omega arith) in
+    side-cells (slice_get xs) ns start bs h beside (take len (drop start xs)) len e long (λ k lt. slice-part xs start len k (omega arith) lt)
+
 pub write_part-requires-clause-can : goal.write_part-requires-clause-can
 write_part-requires-clause-can g c =
-    let many = length-cells_at _ _ _ _ c.self.invariant in
-    let same = ap (λ v. length v.cells) c.self.view_is in
-    subst (g.W.CellWriter.can_write c.args.writer) (sym same ∙ (many ∙ sym c.size-len.ensures)) c.requires
+    let some = c.if-len-eq0.false in
+    let before : take c.size-len.result (drop c.self.inside.layout.start c.as_mut_slice-items.result.now) ≡ c.args.self.now.cells = rw c.as_mut_slice-items.ensures.value (part c.self.inside.storage.items.items _ _ _ c.self.invariant (c.if-not-is_row_major.ensures.places.0 refl) (omega (arith, c.size-len.ensures)) c.size-len.result c.size-len.ensures) ∙ ap (λ v. v.cells) c.self.view_is in
+    subst (g.W.CellWriter.can_write c.args.writer) (sym before) c.requires
 
 pub invariant_of-self : goal.invariant_of-self
 invariant_of-self g c =
@@ -56,4 +63,5 @@ returns-clause-done g c =
     let x = some-of (slice_get xs (start + k)) (side-there _ _ _ _ c.self.invariant beside k (omega (arith, c.size-len.ensures))) in
     slice-part ws start len k (omega arith) lt ∙ (slice_get-get_or ws (start + k) x.0 (omega arith) ∙ sym (refilled-at ws xs a.storage.items.len (start + k) x.0 a.storage.items.ok.0 x.1)) in
     let cells = side-cells after ns start (g.D.Lengths.numbers a.layout.strides) reaches beside (take len (drop start ws)) len c.size-len.ensures long each in
-    (ap (λ v. v.lengths) c.self.view_is, subst (g.W.CellWriter.writes c.args.writer) cells c.write_part.ensures, length-cells_at _ _ _ _ reaches)
+    let before : take len (drop start c.as_mut_slice-items.result.now) ≡ c.args.self.now.cells = rw c.as_mut_slice-items.ensures.value (part c.self.inside.storage.items.items _ _ _ c.self.invariant (c.if-not-is_row_major.ensures.places.0 refl) (omega (arith, c.size-len.ensures)) c.size-len.result c.size-len.ensures) ∙ ap (λ v. v.cells) c.self.view_is in
+    (ap (λ v. v.lengths) c.self.view_is, subst (g.W.CellWriter.writes c.args.writer c.args.self.now.cells) cells (subst (λ l. g.W.CellWriter.writes c.args.writer l (take len (drop start ws))) before c.write_part.ensures), length-cells_at _ _ _ _ reaches)
