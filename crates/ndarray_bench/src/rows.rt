@@ -2,19 +2,20 @@
 
 mod answer;
 mod calls;
-mod element;
+mod items;
 mod layouts;
 mod lists;
 mod owned;
 mod reading;
 mod shown;
 mod spelling;
+mod stepping;
 mod steps;
 mod values;
 mod writing;
 
 use crate::rows::answer::answer;
-use crate::rows::layouts::LAYOUTS;
+use crate::rows::layouts::{LAYOUTS, Layout};
 use std::alloc::{AllocError, Global};
 use std::process::ExitCode;
 use std::{fmt, io};
@@ -96,16 +97,28 @@ pub fn compared<R: Print + AllocGlobal>(
 /// What a row gives in place of its answer, a line for each layout on which it does.
 fn differences(alloc: Global, row: &str) -> Result<String, AllocError> {
     let mut found = String::new(alloc);
-    let Some((calls, wanted)) = row.split_once("=>") else {
-        found.push_str("    no answer is given: TABLE | CALL | .. => ANSWER\n")?;
-        return Ok(found);
-    };
-    let wanted = wanted.trim();
-    for layout in LAYOUTS {
-        let given = answer(alloc, calls, layout)?;
-        if given.as_str() != wanted {
-            write!(found, "    {layout}: {given}\n")?;
+    match row.split_once("=>") {
+        Some((calls, wanted)) => {
+            for layout in LAYOUTS {
+                push_difference(&mut found, alloc, calls, wanted.trim(), *layout)?;
+            }
         }
+        None => found.push_str("    no answer is given: TABLE | CALL | .. => ANSWER\n")?,
     }
     Ok(found)
+}
+
+/// Appends what a row gives on a layout, where that is another answer.
+fn push_difference(
+    found: &mut String,
+    alloc: Global,
+    calls: &str,
+    wanted: &str,
+    layout: Layout,
+) -> Result<(), AllocError> {
+    let given = answer(alloc, calls, layout)?;
+    if given.as_str() == wanted {
+        return Ok(());
+    }
+    write!(found, "    {layout}: {given}\n")
 }

@@ -1,6 +1,5 @@
 //! What a row gives.
 
-use crate::rows::element::Element;
 use crate::rows::layouts::{Layout, Table};
 use crate::rows::{owned, reading, spelling, writing};
 use std::alloc::{AllocError, Global};
@@ -15,19 +14,58 @@ pub fn answer(alloc: Global, row: &str, layout: Layout) -> Result<String, AllocE
     };
     let words: Vec<&str> = table.split_whitespace().collect(alloc)?;
     match words.as_slice() {
-        ["i8", words @ ..] => called::<i8>(alloc, words, calls, layout),
-        words => called::<i64>(alloc, words, calls, layout),
+        ["i8", words @ ..] => of_i8(alloc, words, calls, layout),
+        words => called(alloc, words, calls, layout),
     }
 }
 
-/// What calls give on a layout of a table.
-fn called<A: Element>(
+/// What a call gives on a layout of a table of `i8`, which has one call: `sums_fit`.
+fn of_i8(
     alloc: Global,
     table: &[&str],
     calls: &[&str],
     layout: Layout,
 ) -> Result<String, AllocError> {
-    let Some(table) = spelled::<A>(alloc, table, layout)? else {
+    let Some(table) = spelled(alloc, table, layout)? else {
+        return "no table".to_string(alloc);
+    };
+    let Some(cells) = as_i8(alloc, table.cells.as_slice())? else {
+        return "no table".to_string(alloc);
+    };
+    match calls {
+        [call] if call.trim() == "sums_fit" => sums_fit(alloc, &table, cells.as_slice()),
+        _ => "not understood".to_string(alloc),
+    }
+}
+
+/// Whether the sums of these cells fit, which lie as those of a table.
+fn sums_fit(alloc: Global, table: &Table, cells: &[i8]) -> Result<String, AllocError> {
+    match table.view_of(cells) {
+        Ok(view) => view.sums_fit().to_string(alloc),
+        Err(error) => reading::kind(alloc, &error),
+    }
+}
+
+/// Cells as `i8`; `None` where one is out of range.
+fn as_i8(alloc: Global, cells: &[i64]) -> Result<Option<Vec<i8>>, AllocError> {
+    let mut narrow = Vec::new(alloc);
+    for cell in cells {
+        let Ok(cell) = i8::try_from(*cell) else {
+            return Ok(None);
+        };
+        narrow.push(cell)?;
+    }
+    Ok(Some(narrow))
+}
+
+/// What calls give on a layout of a table.
+fn called(
+    alloc: Global,
+    table: &[&str],
+    calls: &[&str],
+    layout: Layout,
+) -> Result<String, AllocError> {
+    let Some(table) = spelled(alloc, table, layout)? else {
         return "no table".to_string(alloc);
     };
     match calls.split_first() {
@@ -37,26 +75,23 @@ fn called<A: Element>(
 }
 
 /// The table of these words; `None` where they spell none.
-fn spelled<A: Element>(
-    alloc: Global,
-    words: &[&str],
-    layout: Layout,
-) -> Result<Option<Table<A>>, AllocError> {
+fn spelled(alloc: Global, words: &[&str], layout: Layout) -> Result<Option<Table>, AllocError> {
     let Some((shape, cells)) = words.split_first() else {
         return Ok(None);
     };
-    let lengths = spelling::lengths(alloc, *shape)?;
-    let cells = spelling::cells(alloc, cells)?;
-    match (lengths, cells) {
-        (Some(lengths), Some(cells)) => Table::new(alloc, lengths, cells, layout).map(Some),
-        _ => Ok(None),
+    let Some(lengths) = spelling::lengths(alloc, *shape)? else {
+        return Ok(None);
+    };
+    match spelling::cells(alloc, cells)? {
+        Some(cells) => Table::new(alloc, lengths, cells, layout).map(Some),
+        None => Ok(None),
     }
 }
 
 /// What calls give on a table, by the first of them.
-fn begun<A: Element>(
+fn begun(
     alloc: Global,
-    table: Table<A>,
+    table: Table,
     first: &str,
     rest: &[&str],
     calls: &[&str],
@@ -70,7 +105,7 @@ fn begun<A: Element>(
 }
 
 /// What calls give on a view of a table.
-fn read<A: Element>(alloc: Global, table: &Table<A>, calls: &[&str]) -> Result<String, AllocError> {
+fn read(alloc: Global, table: &Table, calls: &[&str]) -> Result<String, AllocError> {
     match table.view() {
         Ok(view) => reading::answer(alloc, view, calls),
         Err(error) => reading::kind(alloc, &error),

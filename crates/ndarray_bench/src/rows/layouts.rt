@@ -1,6 +1,5 @@
 //! The layouts of a table.
 
-use crate::rows::element::Element;
 use crate::rows::spelling;
 use ndarray::{
     Array, ArrayBase, ArrayView, Axis, Data, IxDyn, Lengths, ShapeBuilder, ShapeError, Slice,
@@ -22,12 +21,15 @@ pub enum Layout {
 }
 
 /// All layouts.
-pub const LAYOUTS: [Layout; 4] = [
+pub const LAYOUTS: &[Layout] = &[
     Layout::RowMajor,
     Layout::ColumnMajor,
     Layout::Stepped,
     Layout::Reversed,
 ];
+
+/// What the places of a larger table hold that the table does not reach.
+pub const HIDDEN: i64 = -77;
 
 impl fmt::Display for Layout {
     fn fmt<W: fmt::Write>(&self, f: &mut fmt::Formatter<W>) -> fmt::Result {
@@ -43,72 +45,67 @@ impl fmt::Display for Layout {
 
 /// A table: its lengths, and its cells as they lie in memory.
 #[derive(Drop)]
-pub struct Table<A: Element> {
+pub struct Table {
     /// How they lie.
     pub layout: Layout,
     // The lengths of what lies in memory, larger than the table's where it has every second place.
     lengths: IxDyn,
-    cells: Vec<A>,
+    /// What lies in memory.
+    pub cells: Vec<i64>,
 }
 
-impl<A: Element> Table<A> {
+impl Table {
     /// The table of these cells, which are given in row order.
     ///
     /// Where there are not as many as the lengths have index lists, they stay as they are given.
     pub fn new(
         alloc: Global,
         lengths: IxDyn,
-        cells: Vec<A>,
+        cells: Vec<i64>,
         layout: Layout,
-    ) -> Result<Table<A>, AllocError> {
+    ) -> Result<Table, AllocError> {
         if !lengths.size_ok() || lengths.size() != cells.len() {
-            return Ok(Table {
-                layout: Layout::RowMajor,
-                lengths,
-                cells,
-            });
+            return Ok(Table::in_rows(lengths, cells));
         }
-        match layout {
-            Layout::RowMajor => Ok(Table {
-                layout,
-                lengths,
-                cells,
-            }),
-            Layout::ColumnMajor => {
-                let cells = in_column_order(alloc, lengths.slice(), cells.as_slice())?;
-                Ok(Table {
-                    layout,
-                    lengths,
-                    cells,
-                })
-            }
-            Layout::Stepped => spread(alloc, lengths, cells),
-            Layout::Reversed => {
-                let mut cells = cells;
-                cells.reverse();
-                Ok(Table {
-                    layout,
-                    lengths,
-                    cells,
-                })
-            }
+        if layout == Layout::Stepped {
+            return spread(alloc, lengths, cells);
+        }
+        let cells = arranged(alloc, lengths.slice(), cells, layout)?;
+        Ok(Table {
+            layout,
+            lengths,
+            cells,
+        })
+    }
+
+    /// The table whose cells lie one after another in row order.
+    fn in_rows(lengths: IxDyn, cells: Vec<i64>) -> Table {
+        Table {
+            layout: Layout::RowMajor,
+            lengths,
+            cells,
         }
     }
 
     /// The table to read.
-    pub fn view(&self) -> Result<ArrayView<'_, A, IxDyn>, ShapeError> {
+    pub fn view(&self) -> Result<ArrayView<'_, i64, IxDyn>, ShapeError> {
+        self.view_of(self.cells.as_slice())
+    }
+
+    /// The table to read where these cells lie in memory in place of its own.
+    pub fn view_of<'a, A>(&self, cells: &'a [A]) -> Result<ArrayView<'a, A, IxDyn>, ShapeError> {
         let lengths = self.lengths.copied();
         let mut view = if self.layout == Layout::ColumnMajor {
-            ArrayView::from_shape(lengths.f(), self.cells.as_slice())?
+            ArrayView::from_shape(lengths.f(), cells)?
         } else {
-            ArrayView::from_shape(lengths, self.cells.as_slice())?
+            ArrayView::from_shape(lengths, cells)?
         };
         cut(&mut view, self.layout);
         Ok(view)
     }
 
     /// An array of what lies in memory.
-    pub fn into_array(self) -> Result<Array<A, IxDyn>, ShapeError> {
+    pub fn into_array(self) -> Result<Array<i64, IxDyn>, ShapeError> {
         let Table {
             layout,
             lengths,
@@ -120,6 +117,23 @@ impl<A: Element> Table<A> {
             Array::from_shape_vec(lengths, cells)
         }
     }
+}
+
+/// Cells as they lie in memory, which are given in row order, where they lie one after another.
+fn arranged(
+    alloc: Global,
+    lengths: &[usize],
+    given: Vec<i64>,
+    layout: Layout,
+) -> Result<Vec<i64>, AllocError> {
+    if layout == Layout::ColumnMajor {
+        return in_column_order(alloc, lengths, given.as_slice());
+    }
+    let mut cells = given;
+    if layout == Layout::Reversed {
+        cells.reverse();
+    }
+    Ok(cells)
 }
 
 /// Leaves of what lies in memory the table.
@@ -136,11 +150,11 @@ pub fn cut<S: Data>(array: &mut ArrayBase<S, IxDyn>, layout: Layout) {
 }
 
 /// The cells with the first index fastest.
-fn in_column_order<A: Element>(
+fn in_column_order(
     alloc: Global,
     lengths: &[usize],
-    cells: &[A],
-) -> Result<Vec<A>, AllocError> {
+    cells: &[i64],
+) -> Result<Vec<i64>, AllocError> {
     let mut turned = Vec::new(alloc);
     for place in 0..cells.len() {
         let Some(cell) = cells.get(row_position(lengths, place)) else {
@@ -165,36 +179,36 @@ fn row_position(lengths: &[usize], place: usize) -> usize {
 }
 
 /// The table at every second place along each axis of a larger one, where that is not too large.
-fn spread<A: Element>(
-    alloc: Global,
-    lengths: IxDyn,
-    cells: Vec<A>,
-) -> Result<Table<A>, AllocError> {
+fn spread(alloc: Global, lengths: IxDyn, cells: Vec<i64>) -> Result<Table, AllocError> {
     let larger = doubled(alloc, lengths.slice())?.unwrap_or(lengths.copied());
     if larger.slice() == lengths.slice() || !larger.size_ok() {
-        return Ok(Table {
-            layout: Layout::RowMajor,
-            lengths,
-            cells,
-        });
+        return Ok(Table::in_rows(lengths, cells));
     }
-    let mut all = Vec::new(alloc);
-    let mut left = cells.as_slice();
-    for place in 0..larger.size() {
-        let mut cell = A::HIDDEN;
-        if is_even(larger.slice(), place) {
-            if let Some((first, rest)) = left.split_first() {
-                cell = *first;
-                left = rest;
-            }
-        }
-        all.push(cell)?;
-    }
+    let cells = at_even_places(alloc, larger.slice(), larger.size(), cells.as_slice())?;
     Ok(Table {
         layout: Layout::Stepped,
         lengths: larger,
-        cells: all,
+        cells,
     })
+}
+
+/// So many places of a table of these lengths, with the cells at those that have even indices alone.
+fn at_even_places(
+    alloc: Global,
+    lengths: &[usize],
+    count: usize,
+    cells: &[i64],
+) -> Result<Vec<i64>, AllocError> {
+    let mut places = Vec::new(alloc);
+    let mut left = cells.iter();
+    for place in 0..count {
+        let mut cell = HIDDEN;
+        if is_even(lengths, place) {
+            cell = *left.next().unwrap_or(&HIDDEN);
+        }
+        places.push(cell)?;
+    }
+    Ok(places)
 }
 
 /// Twice each length above 1, where the lengths are small.

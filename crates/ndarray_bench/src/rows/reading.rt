@@ -1,8 +1,8 @@
 //! Calls that read.
 
-use crate::rows::calls::{PartCall, Pieces, ViewCall};
-use crate::rows::element::Element;
+use crate::rows::calls::{Cells, PartCall, Pieces, ViewCall};
 use crate::rows::shown::as_text;
+use crate::rows::stepping::Ending;
 use crate::rows::steps::Step;
 use crate::rows::{lists, spelling, values};
 use ndarray::{
@@ -12,15 +12,11 @@ use ndarray::{
 use std::alloc::{AllocError, Global};
 
 /// A view with any number of axes.
-pub type View<'a, A> = ArrayView<'a, A, IxDyn>;
+pub type View<'a> = ArrayView<'a, i64, IxDyn>;
 
 /// What calls give on a view, from the first to the last: `refused` where a test of the library says no, and
 /// `not understood` where one is no call of rows.
-pub fn answer<A: Element>(
-    alloc: Global,
-    view: View<'_, A>,
-    calls: &[&str],
-) -> Result<String, AllocError> {
+pub fn answer(alloc: Global, view: View<'_>, calls: &[&str]) -> Result<String, AllocError> {
     let Some((call, rest)) = calls.split_first() else {
         return as_text(alloc, &view);
     };
@@ -76,17 +72,34 @@ impl Call {
         if let Some(call) = ViewCall::spelled(words) {
             return Ok(Call::View(call));
         }
-        match words {
-            ["to_owned"] => Ok(Call::ToOwned),
-            ["broadcast", shape] => match spelling::lengths(alloc, *shape)? {
-                Some(lengths) => Ok(Call::Broadcast(lengths)),
-                None => Ok(Call::Last),
-            },
-            [name, arguments @ ..] => match PartCall::spelled(*name, arguments) {
-                Some(part) => Ok(Call::Part(part)),
-                None => Call::item(alloc, *name, arguments, rest),
-            },
-            [] => Ok(Call::Last),
+        match words.split_first() {
+            Some((name, arguments)) => Call::named(alloc, *name, arguments, rest),
+            None => Ok(Call::Last),
+        }
+    }
+
+    /// The call of this name with these arguments, before the other ones.
+    fn named(
+        alloc: Global,
+        name: &str,
+        arguments: &[&str],
+        rest: &[&str],
+    ) -> Result<Call, AllocError> {
+        if let Some(part) = PartCall::spelled(name, arguments) {
+            return Ok(Call::Part(part));
+        }
+        match arguments {
+            [] if name == "to_owned" => Ok(Call::ToOwned),
+            [shape] if name == "broadcast" => Call::broadcast(alloc, *shape),
+            arguments => Call::item(alloc, name, arguments, rest),
+        }
+    }
+
+    /// The broadcast to these lengths.
+    fn broadcast(alloc: Global, shape: &str) -> Result<Call, AllocError> {
+        match spelling::lengths(alloc, shape)? {
+            Some(lengths) => Ok(Call::Broadcast(lengths)),
+            None => Ok(Call::Last),
         }
     }
 
@@ -114,7 +127,7 @@ fn item_number(calls: &[&str]) -> Option<usize> {
 }
 
 /// The part of a view that a call borrows; `None` where its test says no.
-fn part_of<'b, A: Element>(view: &'b View<'_, A>, call: PartCall) -> Option<View<'b, A>> {
+fn part_of<'b>(view: &'b View<'_>, call: PartCall) -> Option<View<'b>> {
     match call {
         PartCall::View => Some(view.view()),
         PartCall::Transposed => Some(view.t()),
@@ -128,52 +141,58 @@ fn part_of<'b, A: Element>(view: &'b View<'_, A>, call: PartCall) -> Option<View
     }
 }
 
-/// What a call gives that makes no view.
-fn listed<A: Element>(
-    alloc: Global,
-    view: &View<'_, A>,
-    call: &str,
-    rest: &[&str],
-) -> Result<String, AllocError> {
+/// What a call gives that makes no view: a value, or the items of a list.
+fn listed(alloc: Global, view: &View<'_>, call: &str, rest: &[&str]) -> Result<String, AllocError> {
     let words: Vec<&str> = call.split_whitespace().collect(alloc)?;
     let words = words.as_slice();
-    let answered = match values::answer(alloc, view, words)? {
-        Some(text) if rest.is_empty() => Some(text),
-        _ => stepped(alloc, view, words, rest)?,
-    };
-    match answered {
-        Some(text) => Ok(text),
-        None => "not understood".to_string(alloc),
+    if rest.is_empty() {
+        if let Some(text) = values::answer(alloc, view, words)? {
+            return Ok(text);
+        }
     }
+    stepped(alloc, view, words, rest)?.into_text(alloc)
 }
 
-/// What the steps of a list give; `None` where one is no step of rows.
-fn stepped<A: Element>(
+/// What the steps of a list give.
+fn stepped(
     alloc: Global,
-    view: &View<'_, A>,
+    view: &View<'_>,
     words: &[&str],
     calls: &[&str],
-) -> Result<Option<String>, AllocError> {
+) -> Result<Ending, AllocError> {
     let (Some((name, arguments)), Some(steps)) = (
         words.split_first(),
         Step::all_spelled(alloc, calls)?,
     ) else {
-        return Ok(None);
+        return Ok(Ending::Unknown);
     };
+    if let Some(call) = Cells::spelled(*name) {
+        return lists::cells(alloc, view, call, steps.as_slice());
+    }
     match Pieces::spelled(alloc, *name, arguments)? {
         Some(pieces) => lists::pieces(alloc, view, &pieces, steps.as_slice()),
-        None => lists::cells(alloc, view, *name, steps.as_slice()),
+        None => Ok(Ending::Unknown),
     }
 }
 
 /// The view that a call makes of a view, or `None` where its test says no.
 pub fn viewed<S: Data>(
-    given: ArrayBase<S, IxDyn>,
+    view: ArrayBase<S, IxDyn>,
     call: ViewCall,
 ) -> Result<Option<ArrayBase<S, IxDyn>>, ShapeError> {
+    match call {
+        ViewCall::ReversedAxes => Ok(Some(view.reversed_axes())),
+        ViewCall::IndexAxisMove(axis, index) => Ok(item_of(view, axis, index)),
+        ViewCall::InsertAxis(axis) => Ok(with_axis(view, axis)),
+        ViewCall::IntoDimensionality(axes) => through_fixed(view, axes),
+        call => Ok(changed(view, call)),
+    }
+}
+
+/// A view that is changed in place; `None` where the test of the call says no.
+fn changed<S: Data>(given: ArrayBase<S, IxDyn>, call: ViewCall) -> Option<ArrayBase<S, IxDyn>> {
     let mut view = given;
     match call {
-        ViewCall::ReversedAxes => return Ok(Some(view.reversed_axes())),
         ViewCall::InvertAxis(axis) if view.axis_ok(axis) => view.invert_axis(axis),
         ViewCall::SwapAxes(first, second)
             if view.axis_ok(Axis(first)) && view.axis_ok(Axis(second)) => {
@@ -182,20 +201,46 @@ pub fn viewed<S: Data>(
         ViewCall::SliceAxisInplace(axis, slice) if view.slice_ok(axis, &slice) => {
             view.slice_axis_inplace(axis, slice)
         }
-        ViewCall::IndexAxisMove(axis, index) if view.axis_ok(axis) && index < view.len_of(axis) => {
-            return Ok(Some(view.index_axis_move(axis, index)));
-        }
-        ViewCall::InsertAxis(axis) if axis.0 <= view.ndim() && view.ndim() < 32 => {
-            return Ok(Some(view.insert_axis(axis)));
-        }
-        ViewCall::IntoDimensionality(0) => return through::<S, Ix0>(view).map(Some),
-        ViewCall::IntoDimensionality(1) => return through::<S, Ix1>(view).map(Some),
-        ViewCall::IntoDimensionality(2) => return through::<S, Ix2>(view).map(Some),
-        ViewCall::IntoDimensionality(3) => return through::<S, Ix3>(view).map(Some),
-        ViewCall::IntoDimensionality(6) => return through::<S, Ix6>(view).map(Some),
-        _ => return Ok(None),
+        _ => return None,
     }
-    Ok(Some(view))
+    Some(view)
+}
+
+/// An item along an axis; `None` where there is none.
+fn item_of<S: Data>(
+    view: ArrayBase<S, IxDyn>,
+    axis: Axis,
+    index: usize,
+) -> Option<ArrayBase<S, IxDyn>> {
+    if view.axis_ok(axis) && index < view.len_of(axis) {
+        Some(view.index_axis_move(axis, index))
+    } else {
+        None
+    }
+}
+
+/// A view with an axis more; `None` where it has no place.
+fn with_axis<S: Data>(view: ArrayBase<S, IxDyn>, axis: Axis) -> Option<ArrayBase<S, IxDyn>> {
+    if axis.0 <= view.ndim() && view.ndim() < 32 {
+        Some(view.insert_axis(axis))
+    } else {
+        None
+    }
+}
+
+/// An array under so many fixed axes, and back; `None` for a number that rows do not have.
+fn through_fixed<S: Data>(
+    array: ArrayBase<S, IxDyn>,
+    axes: usize,
+) -> Result<Option<ArrayBase<S, IxDyn>>, ShapeError> {
+    match axes {
+        0 => through::<S, Ix0>(array).map(Some),
+        1 => through::<S, Ix1>(array).map(Some),
+        2 => through::<S, Ix2>(array).map(Some),
+        3 => through::<S, Ix3>(array).map(Some),
+        6 => through::<S, Ix6>(array).map(Some),
+        _ => Ok(None),
+    }
 }
 
 /// An array under a fixed number of axes, and back.

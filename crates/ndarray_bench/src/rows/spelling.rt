@@ -1,6 +1,5 @@
 //! How lengths, axes, slices and cells are spelled.
 
-use crate::rows::element::Element;
 use ndarray::{Axis, IxDyn, Slice};
 use std::alloc::{AllocError, Global};
 
@@ -66,29 +65,40 @@ pub fn index(alloc: Global, words: &[&str]) -> Result<Option<IxDyn>, AllocError>
 }
 
 /// Cells: numbers, `1..=15` for all from 1 to 15, and `7*48` for 7 forty-eight times.
-pub fn cells<A: Element>(alloc: Global, words: &[&str]) -> Result<Option<Vec<A>>, AllocError> {
+pub fn cells(alloc: Global, words: &[&str]) -> Result<Option<Vec<i64>>, AllocError> {
     let mut cells = Vec::new(alloc);
     for word in words {
-        if !push_cells(&mut cells, *word)? {
+        let is_spelled = match word.split_once("..=") {
+            Some((first, last)) => push_range(&mut cells, first, last)?,
+            None => push_copies(&mut cells, *word)?,
+        };
+        if !is_spelled {
             return Ok(None);
         }
     }
     Ok(Some(cells))
 }
 
-/// Pushes the cells that a word stands for, and answers whether it is understood.
-fn push_cells<A: Element>(cells: &mut Vec<A>, word: &str) -> Result<bool, AllocError> {
-    if let Some((first, last)) = word.split_once("..=") {
-        let (Some(first), Some(last)) = (number(first), number(last)) else {
-            return Ok(false);
-        };
-        for value in first..=last {
-            cells.push(A::of(value))?;
-        }
-        return Ok(true);
+/// A cell.
+pub fn cell(word: &str) -> Option<i64> {
+    word.parse::<i64>().ok()
+}
+
+/// Pushes all cells from the first to the last, and answers whether both are spelled.
+fn push_range(cells: &mut Vec<i64>, first: &str, last: &str) -> Result<bool, AllocError> {
+    let (Some(first), Some(last)) = (cell(first), cell(last)) else {
+        return Ok(false);
+    };
+    for value in first..=last {
+        cells.push(value)?;
     }
+    Ok(true)
+}
+
+/// Pushes a cell as often as a word says, and answers whether it is spelled.
+fn push_copies(cells: &mut Vec<i64>, word: &str) -> Result<bool, AllocError> {
     let (word, count) = word.split_once('*').unwrap_or((word, "1"));
-    let (Some(cell), Some(count)) = (A::spelled(word), number(count)) else {
+    let (Some(cell), Some(count)) = (cell(word), number(count)) else {
         return Ok(false);
     };
     for _ in 0..count {

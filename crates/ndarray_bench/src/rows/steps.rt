@@ -49,16 +49,22 @@ impl Step {
         }
     }
 
-    /// The steps that the last call of a row spells, and with no such call all items.
+    /// The steps that the last call of a row spells, and with no such call all items. None comes after one that takes
+    /// all items.
     pub fn all_spelled(alloc: Global, calls: &[&str]) -> Result<Option<Vec<Step>>, AllocError> {
         let mut steps = Vec::new(alloc);
         match calls {
             [] => steps.push(Step::Rest)?,
             [words] => {
+                let mut is_ended = false;
                 for word in words.split_whitespace() {
                     let Some(step) = Step::spelled(word) else {
                         return Ok(None);
                     };
+                    if is_ended {
+                        return Ok(None);
+                    }
+                    is_ended = step == Step::Rest || step == Step::Cells;
                     steps.push(step)?;
                 }
             }

@@ -1,105 +1,182 @@
 //! Calls that answer a number, a cell, or yes or no.
 
-use crate::rows::element::Element;
-use crate::rows::lists;
 use crate::rows::reading::View;
-use crate::rows::shown::push_lengths;
+use crate::rows::shown::{as_text, push_lengths, push_view};
 use crate::rows::spelling::{axis, index, lengths, number, slice};
+use ndarray::Axis;
 use std::alloc::{AllocError, Global};
 
 /// What a call answers; `None` for another call.
-pub fn answer<A: Element>(
+pub fn answer(
     alloc: Global,
-    view: &View<'_, A>,
+    view: &View<'_>,
     words: &[&str],
 ) -> Result<Option<String>, AllocError> {
-    if let Some(is_so) = tested(alloc, view, words)? {
-        return Ok(Some(is_so.to_string(alloc)?));
+    let Some((name, arguments)) = words.split_first() else {
+        return Ok(None);
+    };
+    if *name == "get" {
+        return cell_at(alloc, view, arguments);
     }
-    if let Some(number) = counted(view, words) {
-        return Ok(Some(number.to_string(alloc)?));
-    }
-    match words {
-        ["shape"] => shape(alloc, view).map(Some),
-        ["get", at @ ..] => cell(alloc, view, at),
-        ["sum"] => found(alloc, A::sum(view)).map(Some),
-        ["split_at", at, index] => match (axis(*at), number(*index)) {
-            (Some(axis), Some(index)) => lists::split(alloc, view, axis, index).map(Some),
-            _ => Ok(None),
-        },
+    match arguments {
+        [] => of_view(alloc, view, *name),
+        [argument] => of_one(alloc, view, *name, *argument),
+        [first, second] => of_two(alloc, view, *name, *first, *second),
+        [at, range, step] if *name == "slice_ok" => {
+            is_so(alloc, slice_fits(view, *at, *range, *step))
+        }
         _ => Ok(None),
     }
 }
 
-/// The number that a call answers; `None` for another call.
-fn counted<A: Element>(view: &View<'_, A>, words: &[&str]) -> Option<usize> {
-    match words {
-        ["ndim"] => Some(view.ndim()),
-        ["len"] => Some(view.len()),
-        ["len_of", at] => match axis(*at)? {
-            axis if view.axis_ok(axis) => Some(view.len_of(axis)),
-            _ => None,
-        },
-        _ => None,
+/// Yes or no, where it is known.
+fn is_so(alloc: Global, answer: Option<bool>) -> Result<Option<String>, AllocError> {
+    match answer {
+        Some(answer) => answer.to_string(alloc).map(Some),
+        None => Ok(None),
     }
 }
 
+/// What a call without arguments answers.
+fn of_view(alloc: Global, view: &View<'_>, name: &str) -> Result<Option<String>, AllocError> {
+    match name {
+        "shape" => shape(alloc, view).map(Some),
+        "ndim" => view.ndim().to_string(alloc).map(Some),
+        "len" => view.len().to_string(alloc).map(Some),
+        "sums_fit" => view.sums_fit().to_string(alloc).map(Some),
+        "sum" => sum(alloc, view).map(Some),
+        _ => Ok(None),
+    }
+}
+
+/// What a call with one argument answers.
+fn of_one(
+    alloc: Global,
+    view: &View<'_>,
+    name: &str,
+    argument: &str,
+) -> Result<Option<String>, AllocError> {
+    if name == "chunks_ok" {
+        return match lengths(alloc, argument)? {
+            Some(chunk) => is_so(alloc, Some(view.chunks_ok(&chunk))),
+            None => Ok(None),
+        };
+    }
+    match axis(argument) {
+        Some(axis) => along(alloc, view, name, axis),
+        None => Ok(None),
+    }
+}
+
+/// What a call answers of an axis.
+fn along(
+    alloc: Global,
+    view: &View<'_>,
+    name: &str,
+    axis: Axis,
+) -> Result<Option<String>, AllocError> {
+    match name {
+        "axis_ok" => view.axis_ok(axis).to_string(alloc).map(Some),
+        "lanes_ok" => view.lanes_ok(axis).to_string(alloc).map(Some),
+        "len_of" if view.axis_ok(axis) => view.len_of(axis).to_string(alloc).map(Some),
+        _ => Ok(None),
+    }
+}
+
+/// What a call with two arguments answers.
+fn of_two(
+    alloc: Global,
+    view: &View<'_>,
+    name: &str,
+    first: &str,
+    second: &str,
+) -> Result<Option<String>, AllocError> {
+    match name {
+        "slice_ok" => is_so(alloc, slice_fits(view, first, second, "1")),
+        "chunk_ok" => is_so(alloc, chunk_fits(view, first, second)),
+        "windows_ok" => windows_fit(alloc, view, first, second),
+        "split_at" => split_at(alloc, view, first, second),
+        _ => Ok(None),
+    }
+}
+
+/// What `slice_ok` answers of a spelled slice.
+fn slice_fits(view: &View<'_>, at: &str, range: &str, step: &str) -> Option<bool> {
+    Some(view.slice_ok(axis(at)?, &slice(range, step)?))
+}
+
+/// What `chunk_ok` answers of a spelled axis and size.
+fn chunk_fits(view: &View<'_>, at: &str, size: &str) -> Option<bool> {
+    Some(view.chunk_ok(axis(at)?, number(size)?))
+}
+
+/// What `windows_ok` answers of spelled lengths and steps.
+fn windows_fit(
+    alloc: Global,
+    view: &View<'_>,
+    window: &str,
+    strides: &str,
+) -> Result<Option<String>, AllocError> {
+    let Some(window) = lengths(alloc, window)? else {
+        return Ok(None);
+    };
+    match lengths(alloc, strides)? {
+        Some(strides) => is_so(alloc, Some(view.windows_ok(&window, &strides))),
+        None => Ok(None),
+    }
+}
+
+/// Both parts of a view that is split at a spelled place; `None` where that is misspelled.
+fn split_at(
+    alloc: Global,
+    view: &View<'_>,
+    at: &str,
+    index: &str,
+) -> Result<Option<String>, AllocError> {
+    let Some(axis) = axis(at) else {
+        return Ok(None);
+    };
+    match number(index) {
+        Some(index) => split(alloc, view, axis, index).map(Some),
+        None => Ok(None),
+    }
+}
+
+/// Both parts of a view that is split; `refused` where there is no such place to split it.
+fn split(alloc: Global, view: &View<'_>, axis: Axis, index: usize) -> Result<String, AllocError> {
+    if !view.axis_ok(axis) || view.len_of(axis) < index {
+        return "refused".to_string(alloc);
+    }
+    let (first, second) = view.view().split_at(axis, index);
+    let mut text = as_text(alloc, &first)?;
+    text.push_str(", ")?;
+    push_view(&mut text, &second)?;
+    Ok(text)
+}
+
 /// The lengths.
-fn shape<A: Element>(alloc: Global, view: &View<'_, A>) -> Result<String, AllocError> {
+fn shape(alloc: Global, view: &View<'_>) -> Result<String, AllocError> {
     let mut text = String::new(alloc);
     push_lengths(&mut text, view.shape())?;
     Ok(text)
 }
 
 /// The cell at an index list; `None` where that is misspelled.
-fn cell<A: Element>(
-    alloc: Global,
-    view: &View<'_, A>,
-    at: &[&str],
-) -> Result<Option<String>, AllocError> {
-    match index(alloc, at)? {
-        Some(index) => found(alloc, view.get(index).copied()).map(Some),
-        None => Ok(None),
-    }
-}
-
-/// A cell or a number, or `none`.
-fn found<A: Element>(alloc: Global, cell: Option<A>) -> Result<String, AllocError> {
-    match cell {
-        Some(cell) => cell.to_string(alloc),
-        None => "none".to_string(alloc),
-    }
-}
-
-/// What a test answers; `None` for another call.
-fn tested<A: Element>(
-    alloc: Global,
-    view: &View<'_, A>,
-    words: &[&str],
-) -> Result<Option<bool>, AllocError> {
-    let is_so = match words {
-        ["sums_fit"] => Some(view.sums_fit()),
-        ["axis_ok", at] => axis(*at).map(|axis| view.axis_ok(axis)),
-        ["lanes_ok", at] => axis(*at).map(|axis| view.lanes_ok(axis)),
-        ["chunk_ok", at, size] => match (axis(*at), number(*size)) {
-            (Some(axis), Some(size)) => Some(view.chunk_ok(axis, size)),
-            _ => None,
-        },
-        ["chunks_ok", chunk] => lengths(alloc, *chunk)?.map(|chunk| view.chunks_ok(&chunk)),
-        ["windows_ok", window, strides] => {
-            match (lengths(alloc, *window)?, lengths(alloc, *strides)?) {
-                (Some(window), Some(strides)) => Some(view.windows_ok(&window, &strides)),
-                _ => None,
-            }
-        }
-        ["slice_ok", at, range] => slice_fits(view, *at, *range, "1"),
-        ["slice_ok", at, range, step] => slice_fits(view, *at, *range, *step),
-        _ => None,
+fn cell_at(alloc: Global, view: &View<'_>, at: &[&str]) -> Result<Option<String>, AllocError> {
+    let Some(index) = index(alloc, at)? else {
+        return Ok(None);
     };
-    Ok(is_so)
+    match view.get(index) {
+        Some(cell) => cell.to_string(alloc).map(Some),
+        None => "none".to_string(alloc).map(Some),
+    }
 }
 
-/// What `slice_ok` answers of a spelled slice.
-fn slice_fits<A: Element>(view: &View<'_, A>, at: &str, range: &str, step: &str) -> Option<bool> {
-    Some(view.slice_ok(axis(at)?, &slice(range, step)?))
+/// The sum of the cells; `refused` where one of their selections may be out of range.
+fn sum(alloc: Global, view: &View<'_>) -> Result<String, AllocError> {
+    if view.sums_fit() {
+        view.sum().to_string(alloc)
+    } else {
+        "refused".to_string(alloc)
+    }
 }

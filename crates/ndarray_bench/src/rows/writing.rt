@@ -1,38 +1,24 @@
 //! Calls that write, and what the table holds afterwards.
 
-ghost use Rattle.std.specs.Iterator.{IsFinite};
-
-use crate::rows::calls::{PartCall, Pieces, ViewCall};
-use crate::rows::element::Element;
-use crate::rows::layouts::{Layout, Table, cut};
+use crate::rows::calls::{CellsMut, PartCall, Pieces, ViewCall, WriteCall};
+use crate::rows::items::fill;
+use crate::rows::layouts::{HIDDEN, Layout, Table, cut};
 use crate::rows::reading::{View, kind, viewed};
-use crate::rows::shown::{as_text, push_word};
-use crate::rows::spelling::{axis, index, number};
+use crate::rows::shown::push_view;
+use crate::rows::stepping::{Ending, forward, parted};
 use crate::rows::steps::Step;
-use ndarray::iter::{AxisChunksIterMut, AxisIterMut, ElementsBaseMut};
-use ndarray::{Array, ArrayBase, ArrayViewMut, Axis, DataMut, IxDyn, Lengths};
+use ndarray::iter::ElementsBaseMut;
+use ndarray::{Array, ArrayBase, ArrayViewMut, Axis, DataMut, IxDyn, Lengths, Slice};
 use std::alloc::{AllocError, Global};
 
-/// How the calls of a row that writes ended.
-#[derive(Clone, Copy)]
-pub enum Ending {
-    /// So many of the steps found no item.
-    Done(usize),
-    /// A test of the library says no.
-    Refused,
-    /// No call of rows.
-    Unknown,
-}
-
-/// What a table holds after the calls on a view to write in, with `none` after it for each step that found no item.
+/// What a table holds after the calls on a view to write in, and behind it the answers of the steps.
 ///
 /// Each item that a step takes is written with its number, counted from 1: the cell, each cell of the
 /// subview, or for an indexed item the digits of its index list.
-pub fn answer<A: Element>(
-    alloc: Global,
-    table: Table<A>,
-    calls: &[&str],
-) -> Result<String, AllocError> {
+pub fn answer(alloc: Global, table: Table, calls: &[&str]) -> Result<String, AllocError> {
+    let Some(calls) = Calls::spelled(alloc, calls)? else {
+        return "not understood".to_string(alloc);
+    };
     let layout = table.layout;
     match table.into_array() {
         Ok(array) => written_in(alloc, array, layout, calls),
@@ -40,16 +26,102 @@ pub fn answer<A: Element>(
     }
 }
 
-/// What a table holds after the calls on a view to write in of the array in which it lies.
-fn written_in<A: Element>(
+/// The calls of a row on a view to write in.
+#[derive(Drop)]
+struct Calls {
+    // The part that is borrowed before the others.
+    part: Option<PartCall>,
+    views: Vec<ViewCall>,
+    last: WriteCall,
+    steps: Vec<Step>,
+}
+
+impl Calls {
+    /// The calls that these texts spell.
+    fn spelled(alloc: Global, calls: &[&str]) -> Result<Option<Calls>, AllocError> {
+        let Some((first, rest)) = calls.split_first() else {
+            return Ok(None);
+        };
+        match part_spelled(alloc, *first)? {
+            Some(part) => Calls::after(alloc, Some(part), rest),
+            None => Calls::after(alloc, None, calls),
+        }
+    }
+
+    /// The calls that these texts spell, after that of a part.
+    fn after(
+        alloc: Global,
+        part: Option<PartCall>,
+        calls: &[&str],
+    ) -> Result<Option<Calls>, AllocError> {
+        let views = views_spelled(alloc, calls)?;
+        let rest = calls.get(views.len()..).unwrap_or(&[]);
+        match last_spelled(alloc, rest)? {
+            Some((last, steps)) => Ok(Some(Calls {
+                part,
+                views,
+                last,
+                steps,
+            })),
+            None => Ok(None),
+        }
+    }
+}
+
+/// The calls that make views, up to the first other one.
+fn views_spelled(alloc: Global, calls: &[&str]) -> Result<Vec<ViewCall>, AllocError> {
+    let mut views = Vec::new(alloc);
+    for call in calls {
+        match ViewCall::of_text(alloc, *call)? {
+            Some(view) => views.push(view)?,
+            None => return Ok(views),
+        }
+    }
+    Ok(views)
+}
+
+/// The call that writes, the first of these, and its steps.
+pub fn last_spelled(
     alloc: Global,
-    given: Array<A, IxDyn>,
-    layout: Layout,
     calls: &[&str],
+) -> Result<Option<(WriteCall, Vec<Step>)>, AllocError> {
+    let Some((call, steps)) = calls.split_first() else {
+        return Ok(None);
+    };
+    let Some(steps) = Step::all_spelled(alloc, steps)? else {
+        return Ok(None);
+    };
+    let words: Vec<&str> = call.split_whitespace().collect(alloc)?;
+    match WriteCall::spelled(alloc, words.as_slice())? {
+        Some(call) => Ok(Some((call, steps))),
+        None => Ok(None),
+    }
+}
+
+/// The call that this text spells, where it borrows a part to write in.
+fn part_spelled(alloc: Global, call: &str) -> Result<Option<PartCall>, AllocError> {
+    let words: Vec<&str> = call.split_whitespace().collect(alloc)?;
+    let Some((name, arguments)) = words.as_slice().split_first() else {
+        return Ok(None);
+    };
+    match name.strip_suffix("_mut") {
+        Some(name) => Ok(PartCall::spelled(name, arguments)),
+        None => Ok(None),
+    }
+}
+
+/// What a table holds after the calls on a view to write in of the array in which it lies.
+fn written_in(
+    alloc: Global,
+    given: Array<i64, IxDyn>,
+    layout: Layout,
+    calls: Calls,
 ) -> Result<String, AllocError> {
     let mut array = given;
     let outside = hidden(&array);
-    let ending = through_view(alloc, &mut array, layout, calls)?;
+    let mut view = array.view_mut();
+    cut(&mut view, layout);
+    let ending = part_written(alloc, view, calls)?;
     if hidden(&array) != outside {
         return "a place outside the table is written".to_string(alloc);
     }
@@ -57,483 +129,275 @@ fn written_in<A: Element>(
     ending_shown(alloc, &array.view(), ending)
 }
 
-/// Carries out the calls on a view to write in.
-fn through_view<A: Element>(
-    alloc: Global,
-    array: &mut Array<A, IxDyn>,
-    layout: Layout,
-    calls: &[&str],
-) -> Result<Ending, AllocError> {
-    let mut view = array.view_mut();
-    cut(&mut view, layout);
-    viewed_and_written(alloc, view, calls)
-}
-
-/// What a table holds after the calls, or why they ended.
-pub fn ending_shown<A: Element>(
-    alloc: Global,
-    table: &View<'_, A>,
-    ending: Ending,
-) -> Result<String, AllocError> {
+/// What a table holds after the calls and the answers of the steps, or why they ended.
+pub fn ending_shown(alloc: Global, table: &View<'_>, ending: Ending) -> Result<String, AllocError> {
     match ending {
-        Ending::Done(missing) => left(alloc, table, missing),
-        Ending::Refused => "refused".to_string(alloc),
-        Ending::Unknown => "not understood".to_string(alloc),
+        Ending::Done(answers) => held(alloc, table, answers.as_str()),
+        ending => ending.into_text(alloc),
     }
 }
 
-/// What a table holds, and `none` for each step that found no item.
-fn left<A: Element>(
-    alloc: Global,
-    table: &View<'_, A>,
-    missing: usize,
-) -> Result<String, AllocError> {
-    let mut text = as_text(alloc, table)?;
-    for _ in 0..missing {
-        push_word(&mut text, "none")?;
+/// What a table holds, and the answers of the steps.
+fn held(alloc: Global, table: &View<'_>, answers: &str) -> Result<String, AllocError> {
+    let mut text = String::new(alloc);
+    push_view(&mut text, table)?;
+    if !answers.is_empty() {
+        text.push_str(", ")?;
+        text.push_str(answers)?;
     }
     Ok(text)
 }
 
 /// How many places hold what lies outside a table.
-fn hidden<A: Element>(array: &Array<A, IxDyn>) -> usize {
+fn hidden(array: &Array<i64, IxDyn>) -> usize {
     let mut count = 0usize;
     for cell in array {
-        if *cell == A::HIDDEN {
+        if *cell == HIDDEN {
             count = count.wrapping_add(1);
         }
     }
     count
 }
 
-/// Borrows a part of a view, where the first call says so, and carries out the others on it.
-fn viewed_and_written<'a, A: Element + 'a>(
+/// Carries out calls on a view, or on the part of it that the first of them borrows.
+fn part_written(
     alloc: Global,
-    given: ArrayViewMut<'a, A, IxDyn>,
-    calls: &[&str],
+    given: ArrayViewMut<'_, i64, IxDyn>,
+    calls: Calls,
 ) -> Result<Ending, AllocError> {
     let mut view = given;
-    let Some((call, rest)) = calls.split_first() else {
-        return Ok(Ending::Unknown);
-    };
-    match part_spelled(alloc, *call)? {
-        Some(call) => match part_of(&mut view, call) {
-            Some(part) => called(alloc, part, rest),
+    match calls.part {
+        Some(part) => match part_of(&mut view, part) {
+            Some(part) => view_written(alloc, part, calls),
             None => Ok(Ending::Refused),
         },
-        None => called(alloc, view, calls),
-    }
-}
-
-/// Makes the views that the calls name, one of another, and writes as the last calls say.
-fn called<'a, A: Element + 'a>(
-    alloc: Global,
-    given: ArrayViewMut<'a, A, IxDyn>,
-    calls: &[&str],
-) -> Result<Ending, AllocError> {
-    let mut view = given;
-    for (at, call) in calls.iter().enumerate() {
-        let words: Vec<&str> = call.split_whitespace().collect(alloc)?;
-        let words = words.as_slice();
-        let Some(call) = ViewCall::spelled(words) else {
-            let steps = calls.get(at.wrapping_add(1)..).unwrap_or(&[]);
-            return match Step::all_spelled(alloc, steps)? {
-                Some(steps) => ended(alloc, view, words, steps.as_slice()),
-                None => Ok(Ending::Unknown),
-            };
-        };
-        view = match viewed(view, call) {
-            Ok(Some(next)) => next,
-            _ => return Ok(Ending::Refused),
-        };
-    }
-    Ok(Ending::Unknown)
-}
-
-/// Writes to the items of a call, which may take the view itself.
-fn ended<'a, A: Element + 'a>(
-    alloc: Global,
-    given: ArrayViewMut<'a, A, IxDyn>,
-    words: &[&str],
-    steps: &[Step],
-) -> Result<Ending, AllocError> {
-    match words {
-        ["into_iter"] => Ok(cells_written(given, steps)),
-        ["elements_base_mut"] => Ok(elements_written(given, steps)),
-        words => {
-            let mut view = given;
-            written(alloc, &mut view, words, steps)
-        }
-    }
-}
-
-/// Writes to the items of an iterator that is made of a view.
-fn cells_written<'a, A: Element + 'a>(view: ArrayViewMut<'a, A, IxDyn>, steps: &[Step]) -> Ending {
-    stepped(view.into_iter(), steps)
-}
-
-/// Writes to the elements of a view.
-fn elements_written<'a, A: Element + 'a>(
-    view: ArrayViewMut<'a, A, IxDyn>,
-    steps: &[Step],
-) -> Ending {
-    stepped(ElementsBaseMut::new(view), steps)
-}
-
-/// The call that this text spells, where it borrows a part to write in.
-fn part_spelled(alloc: Global, call: &str) -> Result<Option<PartCall>, AllocError> {
-    let words: Vec<&str> = call.split_whitespace().collect(alloc)?;
-    match words.as_slice() {
-        [name, arguments @ ..] => match name.strip_suffix("_mut") {
-            Some(name) => Ok(PartCall::spelled(name, arguments)),
-            None => Ok(None),
-        },
-        [] => Ok(None),
+        None => view_written(alloc, view, calls),
     }
 }
 
 /// The part of a view that a call borrows; `None` where its test says no.
-fn part_of<A: Element, S: DataMut<Elem = A>>(
-    array: &mut ArrayBase<S, IxDyn>,
+fn part_of<'b>(
+    view: &'b mut ArrayViewMut<'_, i64, IxDyn>,
     call: PartCall,
-) -> Option<ArrayViewMut<'_, A, IxDyn>> {
+) -> Option<ArrayViewMut<'b, i64, IxDyn>> {
     match call {
-        PartCall::View => Some(array.view_mut()),
-        PartCall::SliceAxis(axis, slice) if array.slice_ok(axis, &slice) => {
-            Some(array.slice_axis_mut(axis, slice))
+        PartCall::View => Some(view.view_mut()),
+        PartCall::SliceAxis(axis, slice) => slice_of(view, axis, slice),
+        PartCall::IndexAxis(axis, index) => item_of(view, axis, index),
+        PartCall::Transposed => None,
+    }
+}
+
+/// A slice of an axis of a view; `None` where its test says no.
+fn slice_of<'b>(
+    view: &'b mut ArrayViewMut<'_, i64, IxDyn>,
+    axis: Axis,
+    slice: Slice,
+) -> Option<ArrayViewMut<'b, i64, IxDyn>> {
+    if view.slice_ok(axis, &slice) {
+        Some(view.slice_axis_mut(axis, slice))
+    } else {
+        None
+    }
+}
+
+/// An item along an axis of a view; `None` where there is none.
+fn item_of<'b>(
+    view: &'b mut ArrayViewMut<'_, i64, IxDyn>,
+    axis: Axis,
+    index: usize,
+) -> Option<ArrayViewMut<'b, i64, IxDyn>> {
+    if view.axis_ok(axis) && index < view.len_of(axis) {
+        Some(view.index_axis_mut(axis, index))
+    } else {
+        None
+    }
+}
+
+/// Makes the views that the calls name, one of another, and writes to the last.
+fn view_written(
+    alloc: Global,
+    given: ArrayViewMut<'_, i64, IxDyn>,
+    calls: Calls,
+) -> Result<Ending, AllocError> {
+    let mut view = given;
+    for call in calls.views.as_slice() {
+        view = match viewed(view, *call) {
+            Ok(Some(next)) => next,
+            _ => return Ok(Ending::Refused),
+        };
+    }
+    last_written(alloc, view, calls.last, calls.steps.as_slice())
+}
+
+/// Writes to the items of a call, which may take the view itself.
+fn last_written(
+    alloc: Global,
+    given: ArrayViewMut<'_, i64, IxDyn>,
+    call: WriteCall,
+    steps: &[Step],
+) -> Result<Ending, AllocError> {
+    match call {
+        WriteCall::IntoIter => forward(alloc, given.into_iter(), steps),
+        WriteCall::ElementsBaseMut => forward(alloc, ElementsBaseMut::new(given), steps),
+        call => {
+            let mut view = given;
+            written(alloc, &mut view, call, steps)
         }
-        PartCall::IndexAxis(axis, index) if array.axis_ok(axis) && index < array.len_of(axis) => {
-            Some(array.index_axis_mut(axis, index))
-        }
-        _ => None,
     }
 }
 
 /// Writes to the items of a call, whatever keeps the cells.
-pub fn written<A: Element, S: DataMut<Elem = A>>(
+pub fn written<S: DataMut<Elem = i64>>(
     alloc: Global,
     array: &mut ArrayBase<S, IxDyn>,
-    words: &[&str],
+    call: WriteCall,
     steps: &[Step],
 ) -> Result<Ending, AllocError> {
-    match words {
-        ["get_mut", at @ .., value] => set_at(alloc, array, at, *value),
-        ["split_at", at, index] => match (axis(*at), number(*index)) {
-            (Some(axis), Some(index)) => Ok(both_parts(array, axis, index)),
-            _ => Ok(Ending::Unknown),
-        },
-        [name, arguments @ ..] => match pieces_spelled(alloc, *name, arguments)? {
-            Some(pieces) => Ok(pieces_written(array, pieces, steps)),
-            None => Ok(each_written(array, *name, steps)),
-        },
-        [] => Ok(Ending::Unknown),
-    }
-}
-
-/// The call of this name, where it yields subviews to write in.
-fn pieces_spelled(
-    alloc: Global,
-    name: &str,
-    arguments: &[&str],
-) -> Result<Option<Pieces>, AllocError> {
-    match name.strip_suffix("_mut") {
-        Some(name) => Pieces::spelled(alloc, name, arguments),
-        None => Ok(None),
+    match call {
+        WriteCall::GetMut(at, value) => set(alloc, array, at, value),
+        WriteCall::SplitAt(axis, index) => Ok(both_written(alloc, array.view_mut(), axis, index)),
+        WriteCall::Cells(call) => cells_written(alloc, array, call, steps),
+        WriteCall::Pieces(pieces) => pieces_written(alloc, array, pieces, steps),
+        WriteCall::IntoIter | WriteCall::ElementsBaseMut => Ok(Ending::Unknown),
     }
 }
 
 /// Writes to each cell of an iterator over cells.
-fn each_written<A: Element, S: DataMut<Elem = A>>(
-    array: &mut ArrayBase<S, IxDyn>,
-    name: &str,
-    steps: &[Step],
-) -> Ending {
-    match name {
-        "iter_mut" => stepped(array.iter_mut(), steps),
-        "indexed_iter_mut" => stepped(array.indexed_iter_mut(), steps),
-        "mut_into_iter" => by_reference(array, steps),
-        _ => Ending::Unknown,
-    }
-}
-
-/// Writes a number to the cell at an index list, where both are spelled.
-fn set_at<A: Element, S: DataMut<Elem = A>>(
+fn cells_written<S: DataMut<Elem = i64>>(
     alloc: Global,
     array: &mut ArrayBase<S, IxDyn>,
-    at: &[&str],
-    value: &str,
+    call: CellsMut,
+    steps: &[Step],
 ) -> Result<Ending, AllocError> {
-    match (index(alloc, at)?, number(value)) {
-        (Some(at), Some(value)) => Ok(set(array, at, value)),
-        _ => Ok(Ending::Unknown),
+    match call {
+        CellsMut::IterMut => forward(alloc, array.iter_mut(), steps),
+        CellsMut::IndexedIterMut => forward(alloc, array.indexed_iter_mut(), steps),
+        CellsMut::MutIntoIter => by_reference(alloc, array, steps),
     }
 }
 
 /// Writes to the items of an iterator that is made of a reference to an array.
-fn by_reference<A: Element, S: DataMut<Elem = A>>(
+fn by_reference<S: DataMut<Elem = i64>>(
+    alloc: Global,
     array: &mut ArrayBase<S, IxDyn>,
     steps: &[Step],
-) -> Ending {
-    stepped(array.into_iter(), steps)
+) -> Result<Ending, AllocError> {
+    forward(alloc, array.into_iter(), steps)
 }
 
 /// Writes a number to the cell at an index list.
-fn set<A: Element, S: DataMut<Elem = A>>(
+fn set<S: DataMut<Elem = i64>>(
+    alloc: Global,
     array: &mut ArrayBase<S, IxDyn>,
     index: IxDyn,
-    value: usize,
-) -> Ending {
+    value: i64,
+) -> Result<Ending, AllocError> {
     match array.get_mut(index) {
         Some(cell) => {
-            *cell = A::of(value);
-            Ending::Done(0)
+            *cell = value;
+            Ok(Ending::Done(String::new(alloc)))
         }
-        None => Ending::Done(1),
+        None => Ok(Ending::Done("none".to_string(alloc)?)),
     }
 }
 
 /// Writes 2 to the second part of a view and then 1 to the first, which is held beside it.
-fn both_parts<A: Element, S: DataMut<Elem = A>>(
-    array: &mut ArrayBase<S, IxDyn>,
+fn both_written(
+    alloc: Global,
+    view: ArrayViewMut<'_, i64, IxDyn>,
     axis: Axis,
     index: usize,
 ) -> Ending {
-    let view = array.view_mut();
     if !view.axis_ok(axis) || view.len_of(axis) < index {
         return Ending::Refused;
     }
     let (first, second) = view.split_at(axis, index);
-    second.write(2);
-    first.write(1);
-    Ending::Done(0)
+    fill(second, 2);
+    fill(first, 1);
+    Ending::Done(String::new(alloc))
 }
 
 /// Writes to the subviews of a call.
-fn pieces_written<A: Element, S: DataMut<Elem = A>>(
+fn pieces_written<S: DataMut<Elem = i64>>(
+    alloc: Global,
     array: &mut ArrayBase<S, IxDyn>,
     pieces: Pieces,
     steps: &[Step],
-) -> Ending {
+) -> Result<Ending, AllocError> {
     match pieces {
-        Pieces::AxisIter(axis) if array.axis_ok(axis) => parted(array.axis_iter_mut(axis), steps),
-        Pieces::OuterIter if array.axis_ok(Axis(0)) => parted(array.outer_iter_mut(), steps),
-        Pieces::AxisChunksIter(axis, size) if array.chunk_ok(axis, size) => {
-            parted(array.axis_chunks_iter_mut(axis, size), steps)
-        }
-        pieces => lanes_written(array, pieces, steps),
+        Pieces::AxisIter(axis) => items_written(alloc, array, axis, steps),
+        Pieces::OuterIter => outer_written(alloc, array, steps),
+        Pieces::AxisChunksIter(axis, size) => chunks_written(alloc, array, axis, size, steps),
+        Pieces::Lanes(axis) => lanes_written(alloc, array, axis, steps),
+        Pieces::Rows => forward(alloc, array.rows_mut().into_iter(), steps),
+        Pieces::Columns => forward(alloc, array.columns_mut().into_iter(), steps),
+        Pieces::ExactChunks(chunk) => exact_chunks_written(alloc, array, chunk, steps),
+        _ => Ok(Ending::Unknown),
     }
 }
 
-/// Writes to the lanes or the whole chunks of a call.
-fn lanes_written<A: Element, S: DataMut<Elem = A>>(
+/// Writes to the items along an axis.
+fn items_written<S: DataMut<Elem = i64>>(
+    alloc: Global,
     array: &mut ArrayBase<S, IxDyn>,
-    pieces: Pieces,
+    axis: Axis,
     steps: &[Step],
-) -> Ending {
-    match pieces {
-        Pieces::Lanes(axis) if array.lanes_ok(axis) => {
-            stepped(array.lanes_mut(axis).into_iter(), steps)
-        }
-        Pieces::Rows => stepped(array.rows_mut().into_iter(), steps),
-        Pieces::Columns => stepped(array.columns_mut().into_iter(), steps),
-        Pieces::ExactChunks(chunk) if array.chunks_ok(&chunk) => {
-            stepped(array.exact_chunks_mut(chunk).into_iter(), steps)
-        }
-        Pieces::Windows(_)
-        | Pieces::WindowsWithStride(_, _)
-        | Pieces::AxisWindows(_, _)
-        | Pieces::AxisWindowsWithStride(_, _, _) => Ending::Unknown,
-        _ => Ending::Refused,
+) -> Result<Ending, AllocError> {
+    if !array.axis_ok(axis) {
+        return Ok(Ending::Refused);
     }
+    parted(alloc, array.axis_iter_mut(axis), steps)
 }
 
-/// What an iterator of a row may yield to write to.
-trait Writable: Drop {
-    /// Writes the number of the item.
-    fn write(self, number: usize);
-
-    /// Writes to one cell after another the number `first` and those after it, and answers the next one.
-    fn write_cells(self, first: usize) -> usize;
+/// Writes to the items along the first axis.
+fn outer_written<S: DataMut<Elem = i64>>(
+    alloc: Global,
+    array: &mut ArrayBase<S, IxDyn>,
+    steps: &[Step],
+) -> Result<Ending, AllocError> {
+    if !array.axis_ok(Axis(0)) {
+        return Ok(Ending::Refused);
+    }
+    parted(alloc, array.outer_iter_mut(), steps)
 }
 
-impl<'a, A: Element> Writable for &'a mut A {
-    fn write(self, number: usize) {
-        *self = A::of(number);
+/// Writes to the chunks along an axis.
+fn chunks_written<S: DataMut<Elem = i64>>(
+    alloc: Global,
+    array: &mut ArrayBase<S, IxDyn>,
+    axis: Axis,
+    size: usize,
+    steps: &[Step],
+) -> Result<Ending, AllocError> {
+    if !array.chunk_ok(axis, size) {
+        return Ok(Ending::Refused);
     }
-
-    fn write_cells(self, first: usize) -> usize {
-        *self = A::of(first);
-        first.wrapping_add(1)
-    }
+    parted(alloc, array.axis_chunks_iter_mut(axis, size), steps)
 }
 
-impl<'a, A: Element, D: Lengths> Writable for ArrayViewMut<'a, A, D> {
-    fn write(self, number: usize) {
-        let mut view = self;
-        for cell in view.iter_mut() {
-            *cell = A::of(number);
-        }
+/// Writes to the lanes along an axis.
+fn lanes_written<S: DataMut<Elem = i64>>(
+    alloc: Global,
+    array: &mut ArrayBase<S, IxDyn>,
+    axis: Axis,
+    steps: &[Step],
+) -> Result<Ending, AllocError> {
+    if !array.lanes_ok(axis) {
+        return Ok(Ending::Refused);
     }
-
-    fn write_cells(self, first: usize) -> usize {
-        let mut view = self;
-        let mut number = first;
-        for cell in view.iter_mut() {
-            *cell = A::of(number);
-            number = number.wrapping_add(1);
-        }
-        number
-    }
+    forward(alloc, array.lanes_mut(axis).into_iter(), steps)
 }
 
-impl<'a, A: Element> Writable for (IxDyn, &'a mut A) {
-    fn write(self, _number: usize) {
-        let (index, cell) = self;
-        let mut digits = 0usize;
-        for digit in index.slice() {
-            digits = digits.wrapping_mul(10).wrapping_add(*digit);
-        }
-        *cell = A::of(digits);
+/// Writes to the whole chunks of these lengths.
+fn exact_chunks_written<S: DataMut<Elem = i64>>(
+    alloc: Global,
+    array: &mut ArrayBase<S, IxDyn>,
+    chunk: IxDyn,
+    steps: &[Step],
+) -> Result<Ending, AllocError> {
+    if !array.chunks_ok(&chunk) {
+        return Ok(Ending::Refused);
     }
-
-    fn write_cells(self, first: usize) -> usize {
-        let (_index, cell) = self;
-        *cell = A::of(first);
-        first.wrapping_add(1)
-    }
-}
-
-/// Carries out the steps of an iterator to write, none of them from the back.
-fn stepped<I: Iterator + Drop>(given: I, steps: &[Step]) -> Ending
-where
-    I::Item: Writable,
-    requires can { (it : I) → I.can_next it }
-    requires ends { (it : I) → IsFinite (I.remaining it) }
-{
-    let mut items = given;
-    let mut number = 1usize;
-    let mut missing = 0usize;
-    for step in steps {
-        let item = match *step {
-            Step::Next => items.next(),
-            Step::Nth(count) => items.nth(count),
-            Step::Skip => {
-                drop(items.next());
-                continue;
-            }
-            Step::Rest => {
-                write_rest(items, number);
-                return Ending::Done(missing);
-            }
-            Step::Cells => {
-                write_cells(items, number);
-                return Ending::Done(missing);
-            }
-            _ => return Ending::Unknown,
-        };
-        match item {
-            Some(item) => item.write(number),
-            None => missing = missing.wrapping_add(1),
-        }
-        number = number.wrapping_add(1);
-    }
-    Ending::Done(missing)
-}
-
-/// Carries out the steps of an iterator to write that goes from both ends, and is split.
-fn parted<I: BothEndsMut>(given: I, steps: &[Step]) -> Ending
-where
-    I::Item: Writable,
-    requires can { (it : I) → I.can_next it }
-    requires back { (it : I) → I.can_next_back it }
-    requires ends { (it : I) → IsFinite (I.remaining it) }
-{
-    let mut items = given;
-    let mut number = 1usize;
-    let mut missing = 0usize;
-    for step in steps {
-        let item = match *step {
-            Step::Next => items.next(),
-            Step::NextBack => items.next_back(),
-            Step::Nth(count) => items.nth(count),
-            Step::Skip => {
-                drop(items.next());
-                continue;
-            }
-            Step::SplitAt(count) => {
-                let Some((first, second)) = items.split(count) else {
-                    return Ending::Refused;
-                };
-                write_rest(first, 100);
-                items = second;
-                continue;
-            }
-            Step::Rest => {
-                write_rest(items, number);
-                return Ending::Done(missing);
-            }
-            Step::Cells => {
-                write_cells(items, number);
-                return Ending::Done(missing);
-            }
-            _ => return Ending::Unknown,
-        };
-        match item {
-            Some(item) => item.write(number),
-            None => missing = missing.wrapping_add(1),
-        }
-        number = number.wrapping_add(1);
-    }
-    Ending::Done(missing)
-}
-
-/// Writes numbers from `first` on to the cells of all items, one after another.
-fn write_cells<I: Iterator + Drop>(items: I, first: usize)
-where
-    I::Item: Writable,
-    requires can { I.can_next items }
-    requires ends { IsFinite (I.remaining items) }
-{
-    let mut number = first;
-    for item in items {
-        number = item.write_cells(number);
-    }
-}
-
-/// Writes their numbers to all items.
-fn write_rest<I: Iterator + Drop>(items: I, first: usize)
-where
-    I::Item: Writable,
-    requires can { I.can_next items }
-    requires ends { IsFinite (I.remaining items) }
-{
-    let mut number = first;
-    for item in items {
-        item.write(number);
-        number = number.wrapping_add(1);
-    }
-}
-
-/// An iterator to write that goes from both ends, and is split.
-trait BothEndsMut: DoubleEndedIterator + Drop {
-    /// The first so many items, and the rest; `None` where there are fewer.
-    fn split(self, count: usize) -> Option<(Self, Self)>;
-}
-
-impl<'a, A: Element> BothEndsMut for AxisIterMut<'a, A, IxDyn> {
-    fn split(self, count: usize) -> Option<(Self, Self)> {
-        if count > self.len() {
-            return None;
-        }
-        Some(self.split_at(count))
-    }
-}
-
-impl<'a, A: Element> BothEndsMut for AxisChunksIterMut<'a, A, IxDyn> {
-    fn split(self, count: usize) -> Option<(Self, Self)> {
-        if count > self.len() {
-            return None;
-        }
-        Some(self.split_at(count))
-    }
+    forward(alloc, array.exact_chunks_mut(chunk).into_iter(), steps)
 }

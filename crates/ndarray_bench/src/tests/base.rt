@@ -3,8 +3,8 @@
 use crate::tests::asserted::{holds, same};
 use crate::tests::layouts::{line, table};
 use ndarray::{
-    ArrayView, Axis, Dim, DimMax, Dimension, IntoDimension, Ix0, Ix1, Ix2, Ix3, Ix4, Ix5, Ix6,
-    IxDyn, Lengths, RemoveAxis, ShapeBuilder,
+    ArrayView, Axis, Dim, Dimension, IntoDimension, Ix0, Ix1, Ix2, Ix3, Ix4, Ix6, IxDyn, Lengths,
+    RemoveAxis, ShapeBuilder,
 };
 use std::test::Fail;
 
@@ -57,39 +57,6 @@ fn an_axis_put_in_and_taken_out(rt: HostRuntime) {
     same(&rt, smaller.slice(), [4, 5].as_slice());
 }
 
-/// The number of axes of the broadcast of two dimensions, where that is fixed.
-fn broadcast_axes<D: DimMax<E>, E: Dimension>(_: D, _: E) -> Option<usize> {
-    let mut axes = None;
-    for ndim in 0..33 {
-        if <D as DimMax<E>>::Output::may_have(ndim) {
-            if axes.is_some() {
-                return None;
-            }
-            axes = Some(ndim);
-        }
-    }
-    axes
-}
-
-#[test]
-fn the_dimension_of_a_broadcast_is_the_larger(rt: HostRuntime) {
-    same(&rt, broadcast_axes(Ix0(), Ix0()), Some(0));
-    same(&rt, broadcast_axes(Ix0(), Ix3(1, 1, 1)), Some(3));
-    same(&rt, broadcast_axes(Ix2(1, 1), Ix1(1)), Some(2));
-    same(
-        &rt,
-        broadcast_axes(Ix4(1, 1, 1, 1), Ix5(1, 1, 1, 1, 1)),
-        Some(5),
-    );
-    same(
-        &rt,
-        broadcast_axes(Ix6(1, 1, 1, 1, 1, 1), Ix6(1, 1, 1, 1, 1, 1)),
-        Some(6),
-    );
-    same(&rt, broadcast_axes(IxDyn(&[]), Ix1(1)), None);
-    same(&rt, broadcast_axes(Ix1(1), IxDyn(&[])), None);
-}
-
 #[test]
 fn the_limit_on_shapes(rt: HostRuntime) {
     holds(&rt, Ix1(isize::MAX as usize).size_ok());
@@ -126,16 +93,12 @@ fn numbers_are_read_and_set(rt: HostRuntime) {
 #[test]
 fn index_lists_are_tuples_or_arrays(rt: HostRuntime) -> Result<(), Fail> {
     let view = table()?;
-    same(&rt, view.raw_dim(), Ix2(2, 3));
     same(
         &rt,
         (view.get((1, 0)), view.get([0, 2])),
         (Some(&4), Some(&3)),
     );
     same(&rt, (view.get((2, 0)), line().get(2)), (None, Some(&3)));
-    let wide = view.broadcast((2, 2, 3)).ok_or("broadcast")?;
-    same(&rt, (wide.len(), wide.get((1, 1, 2))), (12, Some(&6)));
-    holds(&rt, view.broadcast(()).is_none());
     Ok(())
 }
 

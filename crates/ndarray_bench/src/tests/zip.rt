@@ -5,8 +5,10 @@ use crate::tests::asserted::{holds, same};
 use crate::tests::layouts::{array, table};
 use crate::tests::shown::shows;
 use crate::walked::products_of_two_layouts;
-use ndarray::{Array, ArrayBase, ArrayView1, Axis, Data, DataMut, Ix2, Zip, azip};
-use std::alloc::{AllocError, Global};
+use ndarray::zip::Parts;
+use ndarray::{
+    ArrayBase, ArrayView1, Axis, Data, DataMut, FoldWhile, Ix1, Ix2, NdProducer, Zip, azip,
+};
 use std::cell::Cell;
 use std::test::Fail;
 
@@ -46,29 +48,45 @@ fn double_into<S: Data<Elem = i64>, T: DataMut<Elem = i64>>(
     true
 }
 
-/// A row at each row of an array, in code that does not know the element type.
-fn rows_of<A: Copy + Drop, S: Data<Elem = A>>(
-    alloc: Global,
-    array: &ArrayBase<S, Ix2>,
-    row: &ArrayBase<S, Ix2>,
-) -> Result<Option<Array<A, Ix2>>, AllocError> {
-    if !Zip::from(array).broadcasts(&row.view()) {
-        return Ok(None);
-    }
-    let cells = Zip::from(array)
-        .and_broadcast(row)
-        .map_collect(alloc, |_x, y| *y)?;
-    Ok(Some(cells))
-}
-
 #[test]
-fn generic_callers(rt: HostRuntime) -> Result<(), Fail> {
+fn a_generic_caller_doubles(rt: HostRuntime) -> Result<(), Fail> {
     let a = array(rt.alloc())?;
     let mut b = array(rt.alloc())?;
     holds(&rt, double_into(&a, &mut b));
     shows(&rt, rt.alloc(), &b.view(), "[2, 3]: [2, 4, 6, 8, 10, 12]")?;
-    let row = Array::from_elem(rt.alloc(), (1, 3), 8i64)?;
-    let cells = rows_of(rt.alloc(), &a, &row)?.ok_or("broadcasts")?;
-    shows(&rt, rt.alloc(), &cells.view(), "[2, 3]: [8, 8, 8, 8, 8, 8]")?;
     Ok(())
+}
+
+/// The first number above 1, of any producer of numbers.
+fn first_above_one<'a, N: NdProducer<Item = &'a u64, Dim = Ix1>>(
+    zip: Zip<Parts<N, 1>, Ix1>,
+) -> u64 {
+    let first = zip.fold_while(0, |_found: u64, x| {
+        if *x > 1 {
+            FoldWhile::Done(*x)
+        } else {
+            FoldWhile::Continue(*x)
+        }
+    });
+    first.into_inner()
+}
+
+/// Whether all numbers of a producer are below 7.
+fn all_below_seven<'a, N: NdProducer<Item = &'a u64, Dim = Ix1>>(
+    zip: Zip<Parts<N, 1>, Ix1>,
+) -> bool {
+    zip.all(|x| *x < 7)
+}
+
+/// Whether a number of a producer is 6.
+fn has_six<'a, N: NdProducer<Item = &'a u64, Dim = Ix1>>(zip: Zip<Parts<N, 1>, Ix1>) -> bool {
+    zip.any(|x| *x == 6)
+}
+
+#[test]
+fn a_producer_is_asked(rt: HostRuntime) {
+    let a = ArrayView1::from([1u64, 6, 5].as_slice());
+    same(&rt, first_above_one(Zip::from(&a)), 6);
+    holds(&rt, all_below_seven(Zip::from(&a)));
+    holds(&rt, has_six(Zip::from(&a)));
 }

@@ -2,4 +2,4 @@ use Rattle.std.proofs.Common.{length}
 use Rattle.ndarray_bench.proofs.rows.reading.+answer.Given as goal
 
 abbrev pub decreases-answer : goal.decreases-answer
-decreases-answer g l = length l.calls.now
+decreases-answer l = length l.calls.now
