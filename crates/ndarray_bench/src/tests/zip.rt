@@ -5,7 +5,7 @@ use crate::tests::asserted::{holds, same};
 use crate::tests::layouts::{array, table};
 use crate::tests::shown::shows;
 use crate::walked::products_of_two_layouts;
-use ndarray::zip::Parts;
+use ndarray::zip::{One, Parts};
 use ndarray::{
     ArrayBase, ArrayView1, Axis, Data, DataMut, FoldWhile, Ix1, Ix2, NdProducer, Zip, azip,
 };
@@ -59,7 +59,7 @@ fn a_generic_caller_doubles(rt: HostRuntime) -> Result<(), Fail> {
 
 /// The first number above 1, of any producer of numbers.
 fn first_above_one<'a, N: NdProducer<Item = &'a u64, Dim = Ix1>>(
-    zip: Zip<Parts<N, 1>, Ix1>,
+    zip: Zip<Parts<N, One>, Ix1>,
 ) -> u64 {
     let first = zip.fold_while(0, |_found: u64, x| {
         if *x > 1 {
@@ -73,13 +73,13 @@ fn first_above_one<'a, N: NdProducer<Item = &'a u64, Dim = Ix1>>(
 
 /// Whether all numbers of a producer are below 7.
 fn all_below_seven<'a, N: NdProducer<Item = &'a u64, Dim = Ix1>>(
-    zip: Zip<Parts<N, 1>, Ix1>,
+    zip: Zip<Parts<N, One>, Ix1>,
 ) -> bool {
     zip.all(|x| *x < 7)
 }
 
 /// Whether a number of a producer is 6.
-fn has_six<'a, N: NdProducer<Item = &'a u64, Dim = Ix1>>(zip: Zip<Parts<N, 1>, Ix1>) -> bool {
+fn has_six<'a, N: NdProducer<Item = &'a u64, Dim = Ix1>>(zip: Zip<Parts<N, One>, Ix1>) -> bool {
     zip.any(|x| *x == 6)
 }
 
