@@ -1,7 +1,7 @@
 //! Index lists beside the places of their cells, row by row: on a row the last index is counted up, and each place is
 //! a stride after the one before.
 
-ghost use Rattle.std.specs.Prelude.{◌≡◌, ◌∷◌, ◌<◌, ◌+◌, ◌^◌, length, slice_index, zip};
+ghost use Rattle.std.specs.Prelude.{◌≡◌, ◌<◌, ◌^◌, length, zip};
 ghost use Rattle.std.specs.Iterator.{YieldsFirstBy};
 ghost use Rattle.ndarray.specs.Limits.{IsWithinLimit};
 ghost use Rattle.ndarray.specs.Orders.{box_in};
@@ -28,7 +28,7 @@ struct IndexedRow<D: Lengths> {
 }
 
 impl<D: Lengths> Model for IndexedRow<D> {
-    ghost use Rattle.std.specs.Prelude.{List, ℕ, ◌<◌, ◌+◌, ◌^◌, length, slice_set, zip};
+    ghost use Rattle.std.specs.Prelude.{List, ℕ, ◌<◌, ◌+◌, ◌^◌, slice_set, zip};
     ghost use Rattle.ndarray.specs.base.Strided.{places_from};
     ghost use Rattle.ndarray.specs.order.Ranks.{row_from};
 
