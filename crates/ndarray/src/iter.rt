@@ -38,7 +38,7 @@ use std::marker::Model;
 
 /// The cells of an array that are still to come, in row order.
 ///
-/// An iterator takes no memory, and neither does any of its steps.
+/// An iterator allocates nothing, and neither does any of its steps.
 #[derive(Drop)]
 pub struct Iter<'a, A, D: Lengths> {
     elements: ElementsBase<'a, A, D>,

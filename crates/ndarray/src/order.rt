@@ -17,7 +17,7 @@ use std::marker::Model;
 
 /// The index lists of a box that are still to come, in one of the two orders.
 ///
-/// A walk takes no memory, and neither does any of its steps.
+/// A walk allocates nothing, and neither does any of its steps.
 #[derive(Drop)]
 pub struct Walk<D: Lengths> {
     dim: D,
@@ -50,8 +50,8 @@ pub(crate) fn axis_at(order: Order, ndim: usize, p: usize) -> usize
     }
 }
 
-/// How many index lists make a row, of those that are left on an axis. Where the axis is short it is one, for then
-/// a step of the walk costs less than a new row.
+/// How many index lists make a row, of those that are left on an axis. Where the axis is short it is one, since
+/// then a step of the walk costs less than a new row.
 #[inline(always)]
 fn row_len(left: usize, len: usize) -> usize
     requires { 0 < left }
@@ -88,8 +88,8 @@ fn advance<D: Lengths>(order: Order, dim: &D, index: &mut D)
 impl<D: Lengths> Walk<D> {
     /// The whole box of the lengths, in the order.
     ///
-    /// The caller owes that the lengths that are not 0 multiply to at most `isize::MAX`; the test
-    /// is `size_ok` of the dimension.
+    /// Requires that the lengths that are not 0 multiply to at most `isize::MAX`; check with
+    /// `size_ok` of the dimension.
     ///
     /// There is one list alone that is the box in the order. In either order it is a rearrangement
     /// of the box in row order.

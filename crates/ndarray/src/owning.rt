@@ -6,8 +6,8 @@ ghost use Rattle.ndarray.specs.Grid.{IsGrid};
 ghost use Rattle.ndarray.specs.Index.{size};
 
 use crate::base::array::{Array, ArrayBase};
-use crate::base::dimension::Lengths;
 use crate::base::builder::ArrayBuilder;
+use crate::base::dimension::Lengths;
 use crate::base::shape::Order;
 use crate::base::storage::Data;
 use crate::iter::ElementsBase;
@@ -16,7 +16,7 @@ use std::alloc::{AllocError, Global};
 impl<A: Clone + Drop, S: Data<Elem = A>, D: Lengths> ArrayBase<S, D> {
     /// An array of the same lengths whose cells are clones of this one's.
     ///
-    /// The error is want of memory, for the array or for a clone.
+    /// The error is allocation failure, for the array or for a clone.
     pub fn to_owned(&self, alloc: Global) -> Result<Array<A, D>, AllocError>
         ensures lengths { IfOk result (λ a. a.lengths ≡ self.now.lengths) }
         ensures axes { IfOk result (λ a. D.has_axes (length a.lengths)) }
@@ -40,7 +40,7 @@ impl<A: Clone + Drop, S: Data<Elem = A>, D: Lengths> ArrayBase<S, D> {
     /// An array of the same lengths and cells: this one, where it owns its cells, else one with clones of
     /// them.
     ///
-    /// The error is want of memory, for the array or for a clone; this array is then gone.
+    /// The error is allocation failure, for the array or for a clone; this array is then gone.
     pub fn into_owned(self, alloc: Global) -> Result<Array<A, D>, AllocError>
         ensures owned { ((s : S) → S.owns s) → IsOk result × IfOk result (λ a. a ≡ self) }
         ensures lengths { IfOk result (λ a. a.lengths ≡ self.lengths) }
@@ -57,7 +57,7 @@ impl<A: Clone + Drop, S: Data<Elem = A>, D: Lengths> ArrayBase<S, D> {
     }
 }
 
-/// A vector of clones of the elements of a slice. Of none it asks for no memory.
+/// A vector of clones of the elements of a slice. Of none it allocates nothing.
 fn clones_of<A: Clone + Drop>(alloc: Global, cells: &[A]) -> Result<Vec<A>, AllocError>
     ensures ok { IfOk result (λ v. AllZip A.is_clone cells.now v.items) }
     ensures empty { length cells.now ≡ 0 → IsOk result }

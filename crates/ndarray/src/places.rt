@@ -1,8 +1,8 @@
 //! Elements that are moved out of their storage by place.
 pub mod block;
-pub mod partly_moved;
+pub mod cell_places;
 pub mod indexed;
 pub mod lent;
 pub mod move_out;
-pub mod cell_places;
+pub mod partly_moved;
 pub mod strided;

@@ -13,11 +13,11 @@ use crate::reduce::values::SumElem;
 use num_traits::{PrimInt, Zero};
 
 impl<A: SumElem, S: Data<Elem = A>, D: Lengths> ArrayBase<S, D> {
-    /// The sum of all cells, and zero for an array with no cell. It takes no memory.
+    /// The sum of all cells, and zero for an array with no cell. It allocates nothing.
     ///
-    /// The caller owes that every selection of the cells has its sum in range, so that no order of
-    /// adding leaves the range. For arrays of the integer types its test is
-    /// [`sums_fit`](Self::sums_fit), which is true exactly there.
+    /// Requires that every selection of the cells has its sum in range, so that no order of adding
+    /// leaves the range. For arrays of the integer types check with [`sums_fit`](Self::sums_fit),
+    /// which is true exactly there.
     ///
     /// ```
     /// let view = ArrayView::from_shape((2, 3), &[1i64, 2, 3, 4, 5, 6])?;
@@ -56,8 +56,7 @@ impl<A: PrimInt, S: Data<Elem = A>, D: Lengths> ArrayBase<S, D> {
     /// Whether every selection of the cells has its sum in the type, as [`sum`](Self::sum) asks.
     ///
     /// That is so exactly where the positive cells add up to at most the type's greatest number and
-    /// the negative cells to at least its least. The caller owes nothing, and the test takes no
-    /// memory.
+    /// the negative cells to at least its least. Requires nothing, and the test allocates nothing.
     ///
     /// ```
     /// assert!(ArrayView::from_shape(2, &[127i8, -128])?.sums_fit());

@@ -10,7 +10,7 @@ pub mod exact_chunks_mut;
 pub mod lanes;
 pub mod lanes_mut;
 pub(crate) mod piece_layouts;
-pub(crate) mod positions;
 pub(crate) mod pieces;
 pub(crate) mod pieces_mut;
+pub(crate) mod positions;
 pub mod windows;

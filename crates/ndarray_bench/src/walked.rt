@@ -10,7 +10,7 @@ use ndarray::{ArrayBase, ArrayView, Data, Dimension, ShapeBuilder, Zip};
 
 /// The sum of the products of the cells at the same index lists, whatever the layouts of the two arrays.
 ///
-/// The caller owes equal lengths, and that the sum fits.
+/// Requires equal lengths, and that the sum fits.
 pub fn sum_of_products<S: Data<Elem = u64>, T: Data<Elem = u64>, D: Dimension>(
     a: &ArrayBase<S, D>,
     b: &ArrayBase<T, D>,

@@ -6,7 +6,7 @@ ghost use Rattle.std.specs.Prelude.{◌≡◌};
 use std::alloc::{AllocError, AllocFailed};
 use thiserror::Error;
 
-/// A fault of the words, or want of memory. It prints as its word.
+/// A fault of the words, or allocation failure. It prints as its word.
 #[derive(Clone, Copy, PartialEq, Eq, Debug, Error)]
 pub enum Fault {
     /// No command, an unknown one, a missing word, or a word too many.

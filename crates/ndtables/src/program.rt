@@ -13,9 +13,9 @@ use std::io::Write;
 
 /// Answers the words, which are those after the program's name, and gives the exit status.
 ///
-/// The status is 0 where the answer stands on `out`. Else it is 2: a fault of the words and want of
-/// memory leave nothing on `out` and one line on `err`, and after a fault of a stream nothing more
-/// is printed on either.
+/// The status is 0 where the answer stands on `out`. Else it is 2: a fault of the words and
+/// allocation failure leave nothing on `out` and one line on `err`, and after a fault of a stream
+/// nothing more is printed on either.
 pub fn run<W: Write, E: Write>(alloc: Global, words: &[String], out: &mut W, err: &mut E) -> u8
     ensures status { (result ≡ 0) ⊎ (result ≡ 2) }
     ensures answered { result ≡ 0 → (text : List ℕ) × Answers (map string_bytes words.now) text × Appends (W.contents out.old) (W.contents out.new) text }

@@ -36,8 +36,8 @@ impl<D: Dimension> Model for Table<D> {
 impl<D: Dimension> Table<D> {
     /// The table of these cells, which are given in row order.
     ///
-    /// The caller owes that the lengths that are not 0 multiply to at most `isize::MAX`, and as many
-    /// cells as the lengths have index lists.
+    /// Requires that the lengths that are not 0 multiply to at most `isize::MAX`, and as many cells
+    /// as the lengths have index lists.
     pub fn new(alloc: Global, dim: D, order: Order, cells: Vec<i64>) -> Result<Self, AllocError>
         requires limit { IsWithinLimit (D.numbers dim) }
         requires as_many { length cells.items ≡ size (D.numbers dim) }

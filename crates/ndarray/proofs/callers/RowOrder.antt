@@ -25,7 +25,7 @@ module _ {B X : Type 0} (h : B → X → B) (commutes : (b : B) (x y : X) → h 
   fold-moved b x d (y ∷ ys) (suc k) p =
       ap (λ c. fold h c (set ys k x)) (commutes b (get_or ys k d) y)
       ∙ (fold-moved (h b y) x d ys k (omega arith)
-          ∙ ap (λ c. fold h c ys) (commutes b y x))
+      ∙ ap (λ c. fold h c ys) (commutes b y x))
 
   fold-exchanged : (b : B) (d : X) (l : List X) (i j : ℕ) → i < length l → j < length l → fold h b (set (set l i (get_or l j d)) j (get_or l i d)) ≡ fold h b l
   fold-exchanged b d [] i j p q = absurd (omega arith)
@@ -64,7 +64,7 @@ pub list_all-in_row_order : (t : List ℕ → Bool) (o : Order) (ns : List ℕ) 
 list_all-in_row_order t o ns =
     all-as_fold t (box_in o ns) true
     ∙ (fold-in_row_order (λ c x. c && t x) (λ b i j. both-commute b (t i) (t j)) o ns true
-        ∙ sym (all-as_fold t (row_order ns) true))
+    ∙ sym (all-as_fold t (row_order ns) true))
 
 pub list_any-in_row_order : (t : List ℕ → Bool) (o : Order) (ns : List ℕ) → list_any t (box_in o ns) ≡ list_any t (row_order ns)
 list_any-in_row_order t o ns = sym (list_any-IsPermutation t (row_order ns) (box_in o ns) (box_in-rearranges o ns))

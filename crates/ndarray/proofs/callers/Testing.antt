@@ -1,5 +1,5 @@
 -- `all` and `any` with a closure that computes a test of the index list.
-use Rattle.std.proofs.Common.{◌≡◌, ℕ, List, [], ◌∷◌, ◌++◌, Bool, true, false, ◌&&◌, ◌||◌, refl, sym, subst, ap, ◌∙◌, inl, inr}
+use Rattle.std.proofs.Common.{◌≡◌, ℕ, List, [], ◌∷◌, ◌++◌, Bool, true, false, refl, sym, subst, ap, ◌∙◌, inl, inr}
 use Rattle.std.specs.List.{FoldsTo, AllByRecursion, list_all, list_any}
 use Rattle.ndarray.specs.Runs.{RunsUntil}
 

@@ -91,7 +91,7 @@ impl<S: Data, D: Lengths> ArrayBase<S, D> {
         self.layout.dim.size()
     }
 
-    /// The length of an axis, which the caller owes to be below the number of axes.
+    /// The length of an axis. Requires it to be below the number of axes.
     pub fn len_of(&self, axis: Axis) -> usize
         requires { axis.0 < length self.now.lengths }
         ensures value { result ≡ slice_index self.now.lengths axis.0 }

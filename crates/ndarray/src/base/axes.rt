@@ -23,7 +23,7 @@ impl<S: Data, D: Lengths> ArrayBase<S, D> {
         axis.0 < self.ndim()
     }
 
-    /// Exchanges two axes, both of which the caller owes to be below the number of axes.
+    /// Exchanges two axes. Requires both to be below the number of axes.
     pub fn swap_axes(&mut self, ax: usize, bx: usize)
         requires first { ax < length self.old.lengths }
         requires second { bx < length self.old.lengths }
@@ -43,8 +43,8 @@ impl<S: Data, D: Lengths> ArrayBase<S, D> {
 
     /// The array of the indices that a slice takes on an axis.
     ///
-    /// The caller owes an axis below the number of axes, a slice within its length, and a step that
-    /// is not 0; the test is `slice_ok`.
+    /// Requires an axis below the number of axes, a slice within its length, and a step that is not
+    /// 0; check with `slice_ok`.
     pub fn slice_axis(&self, axis: Axis, slice: Slice) -> ArrayView<'_, S::Elem, D>
         requires axis { axis.0 < length self.now.lengths }
         requires within { IsSliceOf (slice_index self.now.lengths axis.0) slice }
@@ -92,8 +92,8 @@ impl<S: Data, D: RemoveAxis> ArrayBase<S, D> {
     /// Item `index` along an axis: the cell at an index list is that with `index` put in at the
     /// axis.
     ///
-    /// The caller owes an axis below the number of axes (the test is `axis_ok`) and an index below
-    /// its length.
+    /// Requires an axis below the number of axes (check with `axis_ok`) and an index below its
+    /// length.
     pub fn index_axis(&self, axis: Axis, index: usize) -> ArrayView<'_, S::Elem, D::Smaller>
         requires axis { axis.0 < length self.now.lengths }
         requires within { index < slice_index self.now.lengths axis.0 }
@@ -121,7 +121,7 @@ impl<S: Data, D: RemoveAxis> ArrayBase<S, D> {
 impl<S: DataMut, D: Lengths> ArrayBase<S, D> {
     /// The indices that a slice takes on an axis, to write in.
     ///
-    /// The caller owes what `slice_axis` asks for.
+    /// Requires what `slice_axis` requires.
     pub fn slice_axis_mut(&mut self, axis: Axis, slice: Slice) -> ArrayViewMut<'_, S::Elem, D>
         requires axis { axis.0 < length self.old.lengths }
         requires within { IsSliceOf (slice_index self.old.lengths axis.0) slice }
@@ -137,7 +137,7 @@ impl<S: DataMut, D: Lengths> ArrayBase<S, D> {
 impl<S: DataMut, D: RemoveAxis> ArrayBase<S, D> {
     /// Item `index` along an axis, to write in.
     ///
-    /// The caller owes what `index_axis` asks for.
+    /// Requires what `index_axis` requires.
     pub fn index_axis_mut(
         &mut self,
         axis: Axis,
@@ -155,7 +155,7 @@ impl<S: DataMut, D: RemoveAxis> ArrayBase<S, D> {
 impl<S: Data, D: Dimension> ArrayBase<S, D> {
     /// The array with an axis of length 1 put in.
     ///
-    /// The caller owes an axis that is at most the number of axes, which is below 32.
+    /// Requires an axis that is at most the number of axes, which is below 32.
     pub fn insert_axis(self, axis: Axis) -> ArrayBase<S, D::Larger>
         requires axis { axis.0 ≤ length self.lengths }
         requires room { length self.lengths < 32 }
@@ -173,8 +173,8 @@ impl<S: Data, D: Dimension> ArrayBase<S, D> {
 impl<'a, A, D: Lengths> ArrayView<'a, A, D> {
     /// The first `index` places of an axis, and the rest.
     ///
-    /// The caller owes an axis below the number of axes (the test is `axis_ok`) and an index that is
-    /// at most its length.
+    /// Requires an axis below the number of axes (check with `axis_ok`) and an index that is at most
+    /// its length.
     pub fn split_at(self, axis: Axis, index: usize) -> (Self, Self)
         requires axis { axis.0 < length self.lengths }
         requires within { index ≤ slice_index self.lengths axis.0 }
@@ -206,8 +206,8 @@ impl<'a, A, D: Lengths> ArrayView<'a, A, D> {
 impl<'a, A, D: Lengths> ArrayViewMut<'a, A, D> {
     /// The first `index` places of an axis, and the rest. No cell is in both.
     ///
-    /// The caller owes an axis below the number of axes (the test is `axis_ok`) and an index that is
-    /// at most its length.
+    /// Requires an axis below the number of axes (check with `axis_ok`) and an index that is at most
+    /// its length.
     pub fn split_at(self, axis: Axis, index: usize) -> (Self, Self)
         requires axis { axis.0 < length self.lengths }
         requires within { index ≤ slice_index self.lengths axis.0 }

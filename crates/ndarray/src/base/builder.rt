@@ -36,8 +36,8 @@ impl<A, D: Lengths> Model for ArrayBuilder<A, D> {
 }
 
 impl<A: Drop, D: Lengths> ArrayBuilder<A, D> {
-    /// Room for all cells of the lengths, which the caller owes to be within the limit. No memory is asked for where
-    /// there are none.
+    /// Room for all cells of the lengths. Requires them to be within the limit. Nothing is allocated where there are
+    /// none.
     pub(crate) fn with_capacity(alloc: Global, dim: D, order: Order) -> Result<Self, AllocError>
         requires { IsWithinLimit (D.numbers dim) }
         ensures room { IfOk result (λ f. f ≡ record { lengths = D.numbers dim; order = order; cells = [] }) }

@@ -37,7 +37,7 @@ pub trait Lengths: Drop + Sized {
 
     /// The list of `ndim` zeros.
     ///
-    /// The caller owes a number of axes that the type has; the test is `may_have`.
+    /// Requires a number of axes that the type has; check with `may_have`.
     fn zeros(ndim: usize) -> Self
         requires { has_axes ndim }
         ensures { numbers result ≡ replicate ndim 0 };
@@ -57,7 +57,7 @@ pub trait Lengths: Drop + Sized {
         ensures value { numbers result ≡ numbers self.now }
         ensures has { has_axes (length (numbers self.now)) };
 
-    /// The number of an axis, which the caller owes to be below the number of axes.
+    /// The number of an axis. Requires it to be below the number of axes.
     fn axis(&self, axis: usize) -> usize
         requires { axis < length (numbers self.now) }
         ensures { result ≡ slice_index (numbers self.now) axis }
@@ -65,7 +65,7 @@ pub trait Lengths: Drop + Sized {
         self.slice()[axis]
     }
 
-    /// Sets the number of an axis, which the caller owes to be below the number of axes.
+    /// Sets the number of an axis. Requires it to be below the number of axes.
     fn set_axis(&mut self, axis: usize, number: usize)
         requires { axis < length (numbers self.old) }
         ensures { numbers self.new ≡ slice_set (numbers self.old) axis number }
@@ -75,8 +75,8 @@ pub trait Lengths: Drop + Sized {
 
     /// The number of index lists in the box of the lengths: their product, and 1 for no axes.
     ///
-    /// The caller owes that the lengths that are not 0 multiply to at most `isize::MAX`; the test
-    /// is `size_ok`.
+    /// Requires that the lengths that are not 0 multiply to at most `isize::MAX`; check with
+    /// `size_ok`.
     #[tactic(auto, using(crate::proofs::boxes::Sizes::sizes))]
     fn size(&self) -> usize
         requires { IsWithinLimit (numbers self.now) }
@@ -130,7 +130,7 @@ pub trait Dimension: Lengths {
 
     /// The list with an axis of length 1 put in.
     ///
-    /// The caller owes an axis that is at most the number of axes, which is below 32.
+    /// Requires an axis that is at most the number of axes, which is below 32.
     fn insert_axis(&self, axis: Axis) -> Self::Larger
         requires axis_at_most { axis.0 ≤ length (Self.numbers self.now) }
         requires room { length (Self.numbers self.now) < 32 }
@@ -150,7 +150,7 @@ pub trait Dimension: Lengths {
 
     /// The list without the number of an axis; a list of no axes stays as it is.
     ///
-    /// The caller owes an axis that is below the number of axes, or no axes at all.
+    /// Requires an axis that is below the number of axes, or no axes at all.
     fn try_remove_axis(&self, axis: Axis) -> Self::Smaller
         requires { (Self.numbers self.now ≡ []) ⊎ (axis.0 < length (Self.numbers self.now)) }
         ensures { Self.Smaller.numbers result ≡ remove (Self.numbers self.now) axis.0 }
@@ -182,8 +182,7 @@ pub trait Dimension: Lengths {
 
 /// A dimension that may lose an axis: all but `Ix0`.
 pub trait RemoveAxis: Dimension {
-    /// The list without the number of an axis, which the caller owes to be below the number of
-    /// axes.
+    /// The list without the number of an axis. Requires it to be below the number of axes.
     fn remove_axis(&self, axis: Axis) -> Self::Smaller
         requires { axis.0 < length (Self.numbers self.now) }
         ensures { Self.Smaller.numbers result ≡ remove (Self.numbers self.now) axis.0 }
@@ -280,7 +279,7 @@ pub fn Ix6(a: usize, b: usize, c: usize, d: usize, e: usize, f: usize) -> Ix6
     Dim([a, b, c, d, e, f])
 }
 
-/// The dimension of the numbers of a slice, of which the caller owes at most 32.
+/// The dimension of the numbers of a slice. Requires at most 32.
 pub fn IxDyn(numbers: &[usize]) -> IxDyn
     requires { length numbers.now ≤ 32 }
     ensures { held_numbers result.0 ≡ numbers.now }

@@ -5,7 +5,7 @@ ghost use Rattle.ndarray.specs.Errors.{refusal, refusal_text};
 
 use std::fmt;
 
-/// What a refused shape offends against.
+/// What is wrong with a shape.
 #[derive(Clone, Copy, PartialEq, Eq, Debug)]
 pub enum ErrorKind {
     /// The lengths do not fit the data or each other.
@@ -22,14 +22,14 @@ pub enum ErrorKind {
     Overflow,
 }
 
-/// A refusal of a shape.
+/// Why a shape is an error.
 #[derive(Clone, Copy, PartialEq, Eq, Debug)]
 pub struct ShapeError {
     kind: ErrorKind,
 }
 
 impl ShapeError {
-    /// The refusal of a kind.
+    /// The error of a kind.
     pub fn from_kind(kind: ErrorKind) -> Self
         ensures { result ≡ refusal kind }
     {

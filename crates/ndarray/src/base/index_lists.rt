@@ -15,7 +15,7 @@ use std::marker::Model;
 /// The index lists of a box: an array whose cell at each index list is that list. Its parts keep the
 /// lists of the whole.
 ///
-/// As a producer it hands out the pattern of each list. It takes no memory.
+/// As a producer it yields the pattern of each list. It allocates nothing.
 #[derive(Drop)]
 pub struct Indices<D: Lengths> {
     // the list at the index list of zeros
@@ -92,7 +92,7 @@ impl<D: Lengths> Indices<D> {
 
     /// The first `index` places of an axis, and the rest.
     ///
-    /// The caller owes an axis below the number of axes and an index that is at most its length.
+    /// Requires an axis below the number of axes and an index that is at most its length.
     pub fn split_at(self, axis: Axis, index: usize) -> (Self, Self)
         requires axis { axis.0 < length self.lengths }
         requires within { index ≤ slice_index self.lengths axis.0 }

@@ -10,8 +10,8 @@ use crate::base::into_dimension::IntoDimension;
 
 /// The index lists of a box: a producer whose item at an index list is its pattern.
 ///
-/// The caller owes that the lengths that are not 0 multiply to at most `isize::MAX`; the test is
-/// `size_ok` of the dimension.
+/// Requires that the lengths that are not 0 multiply to at most `isize::MAX`; check with `size_ok`
+/// of the dimension.
 ///
 /// ```
 /// // (0, 0), (0, 1), (1, 0), (1, 1)

@@ -72,7 +72,7 @@ impl<D: Lengths> Layout<D> {
     /// Whether the cells lie side by side in row order, the first one at the start. An axis of length 1
     /// may have any stride.
     ///
-    /// The caller owes a box that is not empty.
+    /// Requires a box that is not empty.
     pub(crate) fn is_row_major(&self) -> bool
         requires as_many { length (D.numbers self.now.strides) ≡ length (D.numbers self.now.dim) }
         requires limit { IsWithinLimit (D.numbers self.now.dim) }

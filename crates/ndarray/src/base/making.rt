@@ -19,7 +19,7 @@ impl<'a, A, D: Dimension> ArrayView<'a, A, D> {
     /// The view of a slice's first elements, as many as the shape's size: they are its cells in row
     /// order, or in column order where the shape has `.f()`.
     ///
-    /// A refusal is `Overflow` for a shape whose nonzero lengths multiply to more than
+    /// The error is `Overflow` for a shape whose nonzero lengths multiply to more than
     /// `isize::MAX`, and `OutOfBounds` for a slice with fewer elements than the shape's size.
     ///
     /// ```

@@ -10,9 +10,9 @@ ghost use Rattle.ndarray.specs.Limits.{IsWithinLimit};
 ghost use Rattle.ndarray.specs.Orders.{HasInOrder, cells_in};
 
 use crate::base::array::{Array, ArrayBase, ArrayView, CowArray};
+use crate::base::builder::ArrayBuilder;
 use crate::base::dimension::{Dimension, Lengths};
 use crate::base::error::{ErrorKind, ShapeError};
-use crate::base::builder::ArrayBuilder;
 use crate::base::layout::{Layout, default_strides};
 use crate::base::shape::{Order, Shape, ShapeBuilder};
 use crate::base::storage::{CowRepr, DataOwned};
@@ -46,7 +46,7 @@ impl<A: Drop, S: DataOwned<Elem = A>, D: Dimension> ArrayBase<S, D> {
     /// The array that takes over a vector of as many elements as the shape's size: they are its cells in
     /// row order, or in column order where the shape has `.f()`.
     ///
-    /// A refusal is `Overflow` for a shape whose nonzero lengths multiply to more than `isize::MAX`, and
+    /// The error is `Overflow` for a shape whose nonzero lengths multiply to more than `isize::MAX`, and
     /// `OutOfBounds` for a vector of another length; it drops the vector.
     ///
     /// ```
@@ -79,8 +79,8 @@ impl<A: Drop, S: DataOwned<Elem = A>, D: Dimension> ArrayBase<S, D> {
 impl<A: Clone + Drop, S: DataOwned<Elem = A>, D: Dimension> ArrayBase<S, D> {
     /// The array that has clones of an element, and the element itself, in its cells.
     ///
-    /// The caller owes a shape within the limit; `size_ok` of its dimension tests it. The error is want of
-    /// memory.
+    /// Requires a shape within the limit; check with `size_ok` of its dimension. The error is allocation
+    /// failure.
     ///
     /// ```
     /// let sevens = Array::from_elem(alloc, (2, 1), 7)?;
@@ -104,7 +104,7 @@ impl<A: Clone + Drop, S: DataOwned<Elem = A>, D: Dimension> ArrayBase<S, D> {
     }
 }
 
-/// A vector of as many clones of an element, the element itself among them. Of none it asks for no memory.
+/// A vector of as many clones of an element, the element itself among them. Of none it allocates nothing.
 fn repeated<A: Clone + Drop>(alloc: Global, elem: A, count: usize) -> Result<Vec<A>, AllocError>
     ensures len { IfOk result (λ v. length v.items ≡ count) }
     ensures clones { IfOk result (λ v. AllClonesOf A.is_clone elem v.items) }
@@ -120,8 +120,8 @@ fn repeated<A: Clone + Drop>(alloc: Global, elem: A, count: usize) -> Result<Vec
 impl<A: Zero + Drop, S: DataOwned<Elem = A>, D: Dimension> ArrayBase<S, D> {
     /// The array that has zero in each cell.
     ///
-    /// The caller owes a shape within the limit; `size_ok` of its dimension tests it. The error is want of
-    /// memory.
+    /// Requires a shape within the limit; check with `size_ok` of its dimension. The error is allocation
+    /// failure.
     ///
     /// ```
     /// let zeros = Array::<i64, Ix2>::zeros(alloc, (2, 3))?;

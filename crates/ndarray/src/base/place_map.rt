@@ -79,8 +79,8 @@ impl<D: Lengths> Layout<D> {
 
     /// The index list whose cell lies at a place, of a box whose strides are nested; `None` where none does.
     ///
-    /// It takes no memory: the axes are told one by one, that of the largest stride first, for what is left of
-    /// it all other axes together do not reach.
+    /// It allocates nothing: the axes are found one by one, that of the largest stride first, for what is left
+    /// of it all other axes together do not reach.
     pub(crate) fn index_of(&self, at: usize) -> Option<D>
         requires as_many { length (D.numbers self.now.strides) ≡ length (D.numbers self.now.dim) }
         requires limit { IsWithinLimit (D.numbers self.now.dim) }

@@ -1,4 +1,4 @@
-//! A writing view is reborrow: its elements are lent again for a shorter time, beside its layout.
+//! A view to write in is borrowed again: its elements for a shorter time, beside its layout.
 
 ghost use Rattle.std.specs.Prelude.{◌≡◌, ⊤};
 ghost use Rattle.std.specs.Borrow.{sem};
@@ -15,7 +15,7 @@ use std::marker::PhantomData;
 impl<A, D: Lengths, M> ArrayBase<RegionRepr<M, A>, D> {
     /// How the cells lie, and the right to read and write them.
     ///
-    /// Once the loans of both have ended, the view has the lengths that it had.
+    /// Once both borrows have ended, the view has the lengths that it had.
     pub(crate) fn reborrow(&mut self) -> (&Layout<D>, RegionRepr<Life<'_>, A>)
         ensures* writes_back { sem 𝓛 (follows_reborrow M.row A.row D.row D.Lengths self.entry result.1.reborrow_name) }
         ensures reaches { Reaches ⊤ (held_at result.1.slots) (D.numbers result.0.now.dim) result.0.now.start (D.numbers result.0.now.strides) }

@@ -26,9 +26,9 @@ pub struct Life<'a> {
 pub struct RegionRepr<M, A> {
     pub(super) ptr: *mut A,
     pub(super) marker: PhantomData<M>,
-    // The loan of the elements.
+    // The borrow of the elements.
     ghost name: { GName },
-    // The loan of what was reborrow, where the region came of an opening.
+    // The borrow of what was borrowed again, where the region came of that.
     ghost reborrow_name: { GName },
     // The element at each place; `None` at one that is not held.
     ghost slots: { List (Option A) },
@@ -60,7 +60,7 @@ impl<'a, A> RegionRepr<Life<'a>, A> {
         }
     }
 
-    /// The `len` elements from `from` on, for as long as the slice was lent.
+    /// The `len` elements from `from` on, for as long as the slice was borrowed.
     pub(crate) fn into_slice(self, from: usize, len: usize) -> &'a mut [A]
         requires { IsRun self.slots from len }
         ensures* writes_back { sem 𝓛 (follows_run A.row self.entry.slots self.entry.name from result.ghost_name) }
@@ -70,7 +70,7 @@ impl<'a, A> RegionRepr<Life<'a>, A> {
         unsafe { slice::from_raw_parts_mut(ptr.add(from), len) }
     }
 
-    /// The element at one place, for as long as the slice was lent.
+    /// The element at one place, for as long as the slice was borrowed.
     pub(crate) fn into_mut(self, place: usize) -> &'a mut A
         requires { IsFilled self.slots place }
         ensures value { held_at self.entry.slots place ≡ Some result.now }
@@ -79,7 +79,8 @@ impl<'a, A> RegionRepr<Life<'a>, A> {
         &mut run[0]
     }
 
-    /// The element at one place, for as long as the slice was lent; the place is then no longer held.
+    /// The element at one place, for as long as the slice was borrowed; the place is then no longer
+    /// held.
     pub(crate) fn take(&mut self, place: usize) -> &'a mut A
         requires { IsFilled self.old.slots place }
         ensures value { held_at self.old.slots place ≡ Some result.now }

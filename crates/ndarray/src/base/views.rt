@@ -41,7 +41,7 @@ impl<S: Data, D: Lengths> ArrayBase<S, D> {
 
     /// Turns an axis round: the cell at an index is then that at length - 1 - index.
     ///
-    /// The caller owes an axis below the number of axes.
+    /// Requires an axis below the number of axes.
     pub fn invert_axis(&mut self, axis: Axis)
         requires { axis.0 < length self.old.lengths }
         ensures value { self.new ≡ inverted self.old axis.0 }

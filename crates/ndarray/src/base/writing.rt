@@ -25,7 +25,8 @@ pub(crate) struct Parts<'a, A, D: Lengths> {
 impl<A: Drop, D: Lengths> Array<A, D> {
     /// The elements of the array, and how its cells lie among them.
     ///
-    /// Once the loan of the elements has ended, the array has at each place what was written there.
+    /// Once the borrow of the elements has ended, the array has at each place what was written
+    /// there.
     pub(crate) fn parts_mut(&mut self) -> Parts<'_, A, D>
         ensures* writes_back { sem 𝓛 (follows_places A.row D.row D.Lengths self.entry result.slice.ghost_name (places_at (D.numbers result.layout.dim) result.layout.start (D.numbers result.layout.strides))) }
         ensures reaches { Reaches ⊤ (slice_get result.slice.now) (D.numbers result.layout.dim) result.layout.start (D.numbers result.layout.strides) }
@@ -125,8 +126,8 @@ impl<S: DataMut, D: Lengths> ArrayBase<S, D> {
 }
 
 impl<'a, A, D: Lengths> ArrayViewMut<'a, A, D> {
-    /// The cells as a slice, for as long as the view's elements were lent, where they lie side by side in
-    /// row order; else the view as it is. A view of no cells is an empty slice.
+    /// The cells as a slice, for as long as the view's elements were borrowed, where they lie side by
+    /// side in row order; else the view as it is. A view of no cells is an empty slice.
     ///
     /// ```
     /// if let Ok(cells) = array.view_mut().try_into_slice() {

@@ -18,7 +18,7 @@ use std::marker::Model;
 
 /// The cells of an array that are still to come, to write to, in row order.
 ///
-/// An iterator takes no memory, and neither does any of its steps.
+/// An iterator allocates nothing, and neither does any of its steps.
 #[derive(Drop)]
 pub struct IterMut<'a, A, D: Lengths> {
     elements: ElementsBaseMut<'a, A, D>,
@@ -90,7 +90,7 @@ impl<'a, A> DoubleEndedIterator for IterMut<'a, A, Ix1> {
 
 /// The cells of an array that are still to come in row order, to write to, each beside its index list.
 ///
-/// An iterator takes no memory, and neither does any of its steps.
+/// An iterator allocates nothing, and neither does any of its steps.
 #[derive(Drop)]
 pub struct IndexedIterMut<'a, A, D: Lengths> {
     places: Places<'a, A, D>,

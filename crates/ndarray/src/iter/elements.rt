@@ -18,7 +18,7 @@ use std::marker::Model;
 
 /// The cells of a view that are still to come, in row order.
 ///
-/// An iterator takes no memory, and neither does any of its steps.
+/// An iterator allocates nothing, and neither does any of its steps.
 #[derive(Drop)]
 pub struct ElementsBase<'a, A, D: Lengths> {
     row: Strided<'a, A>,

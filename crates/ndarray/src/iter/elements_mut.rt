@@ -17,7 +17,7 @@ use std::marker::{Model, PhantomData};
 
 /// The cells of a view to write in that are still to come, in row order.
 ///
-/// An iterator takes no memory, and neither does any of its steps.
+/// An iterator allocates nothing, and neither does any of its steps.
 #[derive(Drop)]
 pub struct ElementsBaseMut<'a, A, D: Lengths> {
     region: RegionRepr<Life<'a>, A>,

@@ -18,7 +18,7 @@ use std::marker::Model;
 
 /// The cells of an array that are still to come in row order, each beside its index list.
 ///
-/// An iterator takes no memory, and neither does any of its steps.
+/// An iterator allocates nothing, and neither does any of its steps.
 #[derive(Drop)]
 pub struct IndexedIter<'a, A, D: Lengths> {
     storage: ViewRepr<'a, A>,

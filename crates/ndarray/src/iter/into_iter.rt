@@ -8,8 +8,8 @@ ghost use Rattle.ndarray.specs.Index.{size};
 
 use crate::base::array::{Array, CowArray};
 use crate::base::dimension::Lengths;
-use crate::places::move_out::MoveOut;
 use crate::places::cell_places::CellPlaces;
+use crate::places::move_out::MoveOut;
 use std::alloc::{AllocError, Global};
 use std::iter::ExactSizeIterator;
 use std::marker::Model;
@@ -17,8 +17,8 @@ use std::vec;
 
 /// The cells of an array that are still to come, in row order, each moved out of it.
 ///
-/// An iterator takes no memory, and neither does any of its steps. Its end drops each element that was not moved out,
-/// also those that the array hid.
+/// An iterator allocates nothing, and neither does any of its steps. Its end drops each element that was not moved
+/// out, also those that the array hid.
 #[derive(Drop)]
 pub struct IntoIter<A, D: Lengths> {
     source: Source<A, D>,
@@ -71,7 +71,8 @@ impl<A: Drop, D: Lengths> IntoIterator for Array<A, D> {
 impl<'a, A: Clone + Drop, D: Lengths> CowArray<'a, A, D> {
     /// The cells in row order: the array's own, moved out of it, where it owns them, else clones of them.
     ///
-    /// The error is want of memory, for the clones; this array is then gone, and what it borrowed stays.
+    /// The error is allocation failure, for the clones; this array is then gone, and what it borrowed
+    /// stays.
     ///
     /// ```
     /// let source = [1, 2];

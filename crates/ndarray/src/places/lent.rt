@@ -1,4 +1,4 @@
-//! The cells of a view to write in, lent one after another, each at most once.
+//! The cells of a view to write in, borrowed one after another, each at most once.
 
 ghost use Rattle.std.specs.Prelude.{◌≡◌, length, zip};
 ghost use Rattle.std.specs.Iterator.{YieldsFirstBy};

@@ -28,8 +28,9 @@ pub trait PlaceSequence: Drop {
         ensures { IsTrue result ↔ passed self.now place };
 }
 
-/// A clause sees it as the elements that are still to come. It takes no memory and has no mark of what was moved out: the
-/// way tells. Its end drops each element that was not moved out, also those that the way never reaches.
+/// A clause sees it as the elements that are still to come. It allocates nothing and has no mark of what was moved out:
+/// the sequence of places knows. Its end drops each element that was not moved out, also those that the way never
+/// reaches.
 pub struct MoveOut<A, W: PlaceSequence> {
     left: PartlyMovedVec<A>,
     way: W,

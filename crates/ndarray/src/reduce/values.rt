@@ -20,7 +20,7 @@ pub trait Valued: Copy {
     // Whether a value is in range, as for an integer type each from its least to its greatest.
     ghost InRange: { Carrier → Type 0 };
 
-    /// Tells that the value of an element in hand is in range.
+    /// Proves that the value of an element is in range.
     fn tell_range(self)
         ensures { InRange (meaning self) };
 

@@ -19,7 +19,7 @@ use std::marker::Model;
 
 /// The items along an axis that are still to come: views with that axis taken out.
 ///
-/// An iterator takes no memory, and each item is made by arithmetic on the one axis.
+/// An iterator allocates nothing, and each item is made by arithmetic on the one axis.
 #[derive(Drop)]
 pub struct AxisIter<'a, A, D: Lengths> {
     pub(crate) items: PiecesIter<'a, A, Ix1, D>,
@@ -38,7 +38,7 @@ impl<S: Data, D: RemoveAxis> ArrayBase<S, D> {
     /// The items along an axis, from the first to the last: item i is the array with i put in at
     /// that axis.
     ///
-    /// The caller owes an axis below the number of axes; the test is `axis_ok`.
+    /// Requires an axis below the number of axes; check with `axis_ok`.
     ///
     /// ```
     /// let view = ArrayView::from_shape((2, 3), &[1, 2, 3, 4, 5, 6])?;
@@ -56,7 +56,7 @@ impl<S: Data, D: RemoveAxis> ArrayBase<S, D> {
 
     /// The items along axis 0.
     ///
-    /// The caller owes at least one axis; the test is `axis_ok(Axis(0))`.
+    /// Requires at least one axis; check with `axis_ok(Axis(0))`.
     pub fn outer_iter(&self) -> AxisIter<'_, S::Elem, D::Smaller>
         requires { 0 < length self.now.lengths }
         ensures items { result ≡ axis_items self.now 0 }
@@ -84,9 +84,9 @@ impl<S: Data, D: RemoveAxis> ArrayBase<S, D> {
 }
 
 impl<'a, A, D: Lengths> AxisIter<'a, A, D> {
-    /// The first `index` items still to come, and the rest. Nothing is gone over.
+    /// The first `index` items still to come, and the rest. O(1).
     ///
-    /// The caller owes an index that is at most `len()`.
+    /// Requires an index that is at most `len()`.
     pub fn split_at(self, index: usize) -> (Self, Self)
         requires { index ≤ length self }
         ensures first { result.0 ≡ take index self.entry }
@@ -97,7 +97,7 @@ impl<'a, A, D: Lengths> AxisIter<'a, A, D> {
         (AxisIter { items: first }, AxisIter { items })
     }
 
-    /// Leaves out the next `n` items and takes the one after them. Nothing is gone over.
+    /// Leaves out the next `n` items and takes the one after them. O(1).
     pub fn nth(&mut self, n: usize) -> Option<ArrayView<'a, A, D>>
         ensures taken { result ≡ slice_get self.old n }
         ensures rest { self.new ≡ drop (n + 1) self.old }

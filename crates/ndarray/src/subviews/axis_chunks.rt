@@ -17,7 +17,7 @@ use std::marker::Model;
 
 /// The chunks along an axis that are still to come, from the first to the last.
 ///
-/// An iterator takes no memory, and each chunk is made by arithmetic on the one axis.
+/// An iterator allocates nothing, and each chunk is made by arithmetic on the one axis.
 #[derive(Drop)]
 pub struct AxisChunksIter<'a, A, D: Lengths> {
     view: ArrayView<'a, A, D>,
@@ -50,8 +50,7 @@ impl<S: Data, D: Lengths> ArrayBase<S, D> {
     /// The chunks of a size along an axis, from the first to the last. All have that length on the
     /// axis, but the last one has what is left.
     ///
-    /// The caller owes an axis below the number of axes and a size of at least 1; the test is
-    /// `chunk_ok`.
+    /// Requires an axis below the number of axes and a size of at least 1; check with `chunk_ok`.
     ///
     /// ```
     /// let view = ArrayView::from_shape(5, &[1, 2, 3, 4, 5])?;
@@ -105,9 +104,9 @@ impl<'a, A, D: Lengths> AxisChunksIter<'a, A, D> {
         }
     }
 
-    /// The first `index` chunks still to come, and the rest. Nothing is gone over.
+    /// The first `index` chunks still to come, and the rest. O(1).
     ///
-    /// The caller owes an index that is at most `len()`.
+    /// Requires an index that is at most `len()`.
     pub fn split_at(self, index: usize) -> (Self, Self)
         requires { index ≤ length self }
         ensures first { result.0 ≡ take index self.entry }
@@ -118,7 +117,7 @@ impl<'a, A, D: Lengths> AxisChunksIter<'a, A, D> {
         (first, rest)
     }
 
-    /// Leaves out the next `n` chunks and takes the one after them. Nothing is gone over.
+    /// Leaves out the next `n` chunks and takes the one after them. O(1).
     pub fn nth(&mut self, n: usize) -> Option<ArrayView<'a, A, D>>
         ensures taken { result ≡ slice_get self.old n }
         ensures rest { self.new ≡ drop (n + 1) self.old }

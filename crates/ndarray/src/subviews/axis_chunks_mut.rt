@@ -95,7 +95,7 @@ impl<D: Lengths> PieceLayoutsFromEnds for ChunkLayouts<D> {
 /// The chunks along an axis that are still to come, from the first to the last, to write in. No two
 /// of them share a cell.
 ///
-/// An iterator takes no memory, and each chunk is made by arithmetic on the one axis.
+/// An iterator allocates nothing, and each chunk is made by arithmetic on the one axis.
 #[derive(Drop)]
 pub struct AxisChunksIterMut<'a, A, D: Lengths> {
     items: PiecesIterMut<'a, A, ChunkLayouts<D>>,
@@ -114,8 +114,7 @@ impl<S: DataMut, D: Lengths> ArrayBase<S, D> {
     /// The chunks of a size along an axis, from the first to the last, to write in. All have that
     /// length on the axis, but the last one has what is left.
     ///
-    /// The caller owes an axis below the number of axes and a size of at least 1; the test is
-    /// `chunk_ok`.
+    /// Requires an axis below the number of axes and a size of at least 1; check with `chunk_ok`.
     ///
     /// ```
     /// for mut chunk in array.axis_chunks_iter_mut(Axis(0), 2) {
@@ -166,9 +165,9 @@ fn chunks<'a, A, D: Lengths>(
 }
 
 impl<'a, A, D: Lengths> AxisChunksIterMut<'a, A, D> {
-    /// The first `index` chunks still to come, and the rest. Nothing is gone over.
+    /// The first `index` chunks still to come, and the rest. O(1).
     ///
-    /// The caller owes an index that is at most `len()`.
+    /// Requires an index that is at most `len()`.
     pub fn split_at(self, index: usize) -> (Self, Self)
         requires { index ≤ length self }
         ensures first { result.0 ≡ take index self.entry }

@@ -21,7 +21,7 @@ use std::marker::{Model, PhantomData};
 /// The items along an axis that are still to come, to write in: views with that axis taken out. No
 /// two of them share a cell.
 ///
-/// An iterator takes no memory, and each item is made by arithmetic on the one axis.
+/// An iterator allocates nothing, and each item is made by arithmetic on the one axis.
 #[derive(Drop)]
 pub struct AxisIterMut<'a, A, D: Lengths> {
     items: PiecesIterMut<'a, A, EqualPieceLayouts<Ix1, D>>,
@@ -40,7 +40,7 @@ impl<S: DataMut, D: RemoveAxis> ArrayBase<S, D> {
     /// The items along an axis, from the first to the last, to write in: item i is the array with i
     /// put in at that axis.
     ///
-    /// The caller owes an axis below the number of axes; the test is `axis_ok`.
+    /// Requires an axis below the number of axes; check with `axis_ok`.
     ///
     /// ```
     /// for mut row in array.axis_iter_mut(Axis(0)) {
@@ -61,7 +61,7 @@ impl<S: DataMut, D: RemoveAxis> ArrayBase<S, D> {
 
     /// The items along axis 0, to write in.
     ///
-    /// The caller owes at least one axis; the test is `axis_ok(Axis(0))`.
+    /// Requires at least one axis; check with `axis_ok(Axis(0))`.
     pub fn outer_iter_mut(&mut self) -> AxisIterMut<'_, S::Elem, D::Smaller>
         requires { 0 < length self.old.lengths }
         ensures items { result ≡ axis_items self.old 0 }
@@ -102,9 +102,9 @@ impl<'a, A, D: Lengths> AxisIterMut<'a, A, D> {
         Ix1(self.items.layouts.bounded_len())
     }
 
-    /// The first `index` items still to come, and the rest. Nothing is gone over.
+    /// The first `index` items still to come, and the rest. O(1).
     ///
-    /// The caller owes an index that is at most `len()`.
+    /// Requires an index that is at most `len()`.
     pub fn split_at(self, index: usize) -> (Self, Self)
         requires { index ≤ length self }
         ensures first { result.0 ≡ take index self.entry }

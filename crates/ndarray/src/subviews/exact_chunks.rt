@@ -9,8 +9,8 @@ use crate::base::array::{ArrayBase, ArrayView};
 use crate::base::dimension::{Dimension, Lengths};
 use crate::base::into_dimension::IntoDimension;
 use crate::base::storage::Data;
-use crate::subviews::positions::are_positive;
 use crate::subviews::pieces::{Pieces, PiecesIter};
+use crate::subviews::positions::are_positive;
 use std::alloc::AllocError;
 use std::marker::Model;
 
@@ -39,8 +39,7 @@ impl<S: Data, D: Dimension> ArrayBase<S, D> {
     /// The whole chunks of an array: on each axis their number is the length divided by the chunk's,
     /// rounded down, and the rest of the axis is left out.
     ///
-    /// The caller owes as many chunk lengths as there are axes, each at least 1; the test is
-    /// `chunks_ok`.
+    /// Requires as many chunk lengths as there are axes, each at least 1; check with `chunks_ok`.
     ///
     /// ```
     /// // of the rows 1..=5, 6..=10 and 11..=15: [[1, 2], [6, 7]] and [[3, 4], [8, 9]]

@@ -10,8 +10,8 @@ use crate::base::dimension::{Dimension, Lengths};
 use crate::base::into_dimension::IntoDimension;
 use crate::base::storage::DataMut;
 use crate::subviews::piece_layouts::PiecesIterMut;
-use crate::subviews::positions::window_positions;
 use crate::subviews::pieces_mut::{EqualPieceLayouts, PiecesMut};
+use crate::subviews::positions::window_positions;
 use std::marker::{Model, PhantomData};
 
 /// The whole chunks of an array, to write in, in row order of their positions. No two of them share
@@ -33,8 +33,7 @@ impl<S: DataMut, D: Dimension> ArrayBase<S, D> {
     /// The whole chunks of an array, to write in: on each axis their number is the length divided by
     /// the chunk's, rounded down, and the rest of the axis is left out.
     ///
-    /// The caller owes as many chunk lengths as there are axes, each at least 1; the test is
-    /// `chunks_ok`.
+    /// Requires as many chunk lengths as there are axes, each at least 1; check with `chunks_ok`.
     ///
     /// ```
     /// for mut chunk in array.exact_chunks_mut((2, 2)) {

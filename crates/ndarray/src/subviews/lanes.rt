@@ -42,7 +42,7 @@ impl<S: Data, D: Dimension> ArrayBase<S, D> {
     /// The lanes along an axis, one for each index list of the other axes. An array of no axes has
     /// one lane of length 1, whichever axis is named.
     ///
-    /// The caller owes an axis below the number of axes, or no axes at all; the test is `lanes_ok`.
+    /// Requires an axis below the number of axes, or no axes at all; check with `lanes_ok`.
     ///
     /// ```
     /// let view = ArrayView::from_shape((2, 3), &[1, 2, 3, 4, 5, 6])?;

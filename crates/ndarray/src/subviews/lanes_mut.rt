@@ -34,7 +34,7 @@ impl<S: DataMut, D: Dimension> ArrayBase<S, D> {
     /// The lanes along an axis, one for each index list of the other axes, to write in. An array of
     /// no axes has one lane of length 1, whichever axis is named.
     ///
-    /// The caller owes an axis below the number of axes, or no axes at all; the test is `lanes_ok`.
+    /// Requires an axis below the number of axes, or no axes at all; check with `lanes_ok`.
     ///
     /// ```
     /// for mut lane in array.lanes_mut(Axis(0)) {

@@ -10,8 +10,8 @@ use crate::base::axis::Axis;
 use crate::base::dimension::{Dimension, Lengths};
 use crate::base::into_dimension::IntoDimension;
 use crate::base::storage::Data;
-use crate::subviews::positions::{are_positive, ones};
 use crate::subviews::pieces::{Pieces, PiecesIter};
+use crate::subviews::positions::{are_positive, ones};
 use std::alloc::AllocError;
 use std::marker::Model;
 
@@ -59,8 +59,8 @@ impl<S: Data, D: Dimension> ArrayBase<S, D> {
 
     /// The windows of these lengths, one at each position where a whole window begins.
     ///
-    /// The caller owes as many window lengths as there are axes, each at least 1; the test is
-    /// `windows_ok`, with steps of 1.
+    /// Requires as many window lengths as there are axes, each at least 1; check with `windows_ok`,
+    /// with steps of 1.
     pub fn windows<E: IntoDimension<Dim = D>>(&self, window: E) -> Windows<'_, S::Elem, D>
         requires { ArePositive self.now.lengths (E.written_numbers window) }
         ensures { result ≡ windows_of self.now (E.written_numbers window) (replicate (length self.now.lengths) 1) }
@@ -73,8 +73,8 @@ impl<S: Data, D: Dimension> ArrayBase<S, D> {
     /// The windows of these lengths, with positions so many steps apart on each axis: window i of an
     /// axis starts at i times the step.
     ///
-    /// The caller owes as many window lengths and as many steps as there are axes, all at least 1;
-    /// the test is `windows_ok`.
+    /// Requires as many window lengths and as many steps as there are axes, all at least 1; check
+    /// with `windows_ok`.
     pub fn windows_with_stride<E: IntoDimension<Dim = D>>(
         &self,
         window: E,
@@ -93,8 +93,8 @@ impl<S: Data, D: Dimension> ArrayBase<S, D> {
 impl<S: Data, D: Lengths> ArrayBase<S, D> {
     /// The windows of a length along one axis; on the other axes they have the whole length.
     ///
-    /// The caller owes an axis below the number of axes and a window length of at least 1; the test
-    /// is `chunk_ok(axis, window)`.
+    /// Requires an axis below the number of axes and a window length of at least 1; check with
+    /// `chunk_ok(axis, window)`.
     pub fn axis_windows(&self, axis: Axis, window: usize) -> AxisWindows<'_, S::Elem, D>
         requires axis { axis.0 < length self.now.lengths }
         requires window { 1 ≤ window }
@@ -105,8 +105,8 @@ impl<S: Data, D: Lengths> ArrayBase<S, D> {
 
     /// The same with positions a step apart: window i starts at i times the step.
     ///
-    /// The caller owes an axis below the number of axes, and a window length and a step of at least
-    /// 1; the tests are `chunk_ok(axis, window)` and `chunk_ok(axis, step)`.
+    /// Requires an axis below the number of axes, and a window length and a step of at least 1;
+    /// check with `chunk_ok(axis, window)` and `chunk_ok(axis, step)`.
     pub fn axis_windows_with_stride(
         &self,
         axis: Axis,

@@ -249,7 +249,10 @@ impl<X, Y, Z, N: NdProducer<Item = ((X, Y), Z), Dim = D>, D: Lengths> Zip<Parts<
     }
 }
 
-impl<X, Y, Z, U, N: NdProducer<Item = (((X, Y), Z), U), Dim = D>, D: Lengths> Zip<Parts<N, Four>, D> {
+impl<X, Y, Z, U, N: NdProducer<Item = (((X, Y), Z), U), Dim = D>, D: Lengths> Zip<
+    Parts<N, Four>,
+    D,
+> {
     /// Calls `f` once at the items of each index list.
     pub fn for_each<F: FnMut(X, Y, Z, U)>(self, f: F)
         requires callable { (o : Order) → MayVisit (N.yields_at self.nested) (call_gives4 F.FnMut) (can_call4 F.FnMut) (box_in o (N.lengths self.nested)) f }

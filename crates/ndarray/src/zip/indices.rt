@@ -15,7 +15,7 @@ use std::marker::Model;
 
 /// The patterns of index lists that are still to come.
 ///
-/// An iterator takes no memory, and neither does any of its steps.
+/// An iterator allocates nothing, and neither does any of its steps.
 #[derive(Drop)]
 pub struct Patterns<D: Lengths> {
     lists: Indices<D>,

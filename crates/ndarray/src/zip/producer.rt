@@ -20,16 +20,16 @@ pub trait Shaped {
 
 /// A producer: lengths, and an item at each index list of their box.
 pub trait NdProducer: Shaped + Drop + Sized {
-    /// What it hands out.
+    /// What it yields.
     type Item: Drop;
 
     /// The dimension of its lengths.
     type Dim: Lengths;
 
-    /// The items in an order, handed out one after another.
+    /// The items in an order, yielded one after another.
     type Run: Iterator<Item = Self::Item> + Drop;
 
-    // Whether an item may be handed out at an index list.
+    // Whether an item may be yielded at an index list.
     ghost yields_at: { Self → List ℕ → Self.Item → Type 0 };
 
     /// The lengths.
@@ -40,7 +40,7 @@ pub trait NdProducer: Shaped + Drop + Sized {
     /// The items whose index on the axis is below `index`, and the rest with that index counted from
     /// `index`.
     ///
-    /// The caller owes an axis below the number of axes, and an index that is at most its length.
+    /// Requires an axis below the number of axes, and an index that is at most its length.
     fn split_at(self, axis: Axis, index: usize) -> (Self, Self)
         requires axis_below { axis.0 < length (Self.lengths self) }
         requires index_at_most { index ≤ slice_index (Self.lengths self) axis.0 }
@@ -116,7 +116,7 @@ pub trait IntoBroadcast<D: Lengths> {
 
 /// What becomes a producer: every producer itself, and references to arrays.
 pub trait IntoNdProducer {
-    /// What the producer hands out.
+    /// What the producer yields.
     type Item: Drop;
 
     /// The dimension of its lengths.

@@ -77,7 +77,10 @@ impl<'a, A, D: Lengths> NdProducer for ExactChunks<'a, A, D> {
 
     fn split_at(self, axis: Axis, index: usize) -> (Self, Self) {
         let (first, second) = self.pieces.split_at(axis, index);
-        (ExactChunks { pieces: first }, ExactChunks { pieces: second })
+        (
+            ExactChunks { pieces: first },
+            ExactChunks { pieces: second },
+        )
     }
 
     fn run(self, order: Order) -> ExactChunksIter<'a, A, D> {
@@ -165,7 +168,10 @@ impl<'a, A, D: Lengths> NdProducer for AxisWindows<'a, A, D> {
         let AxisWindows { axis, pieces } = self;
         let (first, second) = pieces.split_at(Axis(axis), index);
         (
-            AxisWindows { axis, pieces: first },
+            AxisWindows {
+                axis,
+                pieces: first,
+            },
             AxisWindows {
                 axis,
                 pieces: second,

@@ -1,4 +1,4 @@
-//! Views to write in, and what is handed out to write in, as producers.
+//! Views to write in, and what is yielded to write in, as producers.
 
 ghost use Rattle.std.specs.Prelude.{◌≡◌, [], ◌∷◌, length, Some};
 ghost use Rattle.ndarray.specs.Grid.{cell, one_axis, IsGrid};
