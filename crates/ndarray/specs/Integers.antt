@@ -1,11 +1,16 @@
--- The whole numbers with plus, and the sums of the positive and of the negative ones of a list.
-use Rattle.std.specs.Prelude.{ℤ, pos, negsuc, ◌+ℤ◌, List, [], ◌∷◌}
-use Rattle.std.proofs.Math.IntN.{+ℤ_assoc, +ℤ_comm, +ℤ_idl}
-use Rattle.ndarray.specs.Sums.{CommutativeMonoid}
+-- The whole numbers with addition and with multiplication, and the sums of the positive and of the negative ones of a list.
+use Rattle.std.specs.Prelude.{ℤ, pos, negsuc, ◌+ℤ◌, ◌*ℤ◌, List, [], ◌∷◌}
+use Rattle.std.proofs.Math.IntN.{+ℤ_assoc, +ℤ_comm, +ℤ_idl, *ℤ_comm}
+use Rattle.ndarray.specs.Algebra.{CommutativeMonoid}
+use Rattle.ndarray.specs.IntegerProducts.{times-associates, one-times}
 
--- plus, with zero
+-- addition, with zero
 abbrev pub int_sums : CommutativeMonoid ℤ
 int_sums = record { unit = pos 0; op = ◌+ℤ◌; associates = +ℤ_assoc; commutes = +ℤ_comm; unit_op = +ℤ_idl }
+
+-- multiplication, with one
+abbrev pub int_products : CommutativeMonoid ℤ
+int_products = record { unit = pos 1; op = ◌*ℤ◌; associates = times-associates; commutes = *ℤ_comm; unit_op = one-times }
 
 -- the positive numbers of a list, added up
 abbrev pub positive_sum : List ℤ → ℤ

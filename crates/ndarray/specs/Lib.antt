@@ -1,3 +1,4 @@
+pub mod Algebra
 pub mod Broadcast
 pub mod Calls
 pub mod Collected
@@ -7,6 +8,8 @@ pub mod FixedAxes
 pub mod FoldWhiles
 pub mod Grid
 pub mod Index
+pub mod IntegerProducts
+pub mod Integers
 pub mod Limits
 pub mod Orders
 pub mod Producers
@@ -16,7 +19,6 @@ pub mod Subviews
 pub mod Sums
 pub mod Updates
 pub mod Views
-pub mod Integers
 pub mod Writes
 pub mod base
 pub mod order

@@ -1,13 +1,6 @@
 -- Sums of lists of values, and the lists of which every selection has its sum in range.
-use Rattle.std.specs.Prelude.{◌≡◌, ℕ, suc, Bool, if◌then◌else◌, List, [], ◌∷◌}
-
--- a commutative monoid: an operation that associates and commutes, with a neutral value
-pub record CommutativeMonoid (C : Type 0) : Type 0 where
-  pub unit : C
-  pub op : C → C → C
-  pub associates : (a b c : C) → op (op a b) c ≡ op a (op b c)
-  pub commutes : (a b : C) → op a b ≡ op b a
-  pub unit_op : (a : C) → op unit a ≡ a
+use Rattle.std.specs.Prelude.{ℕ, suc, Bool, if◌then◌else◌, List, [], ◌∷◌}
+use Rattle.ndarray.specs.Algebra.{CommutativeMonoid}
 
 -- the sum of the values of elements: the neutral value for the empty list, else the first element's value plus the sum of the rest
 abbrev pub total_by : {A C : Type 0} → CommutativeMonoid C → (A → C) → List A → C

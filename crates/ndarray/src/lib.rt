@@ -9,6 +9,7 @@
 #![tactic(auto)]
 
 pub mod base;
+pub mod elements;
 pub mod iter;
 pub mod order;
 pub mod owning;
@@ -31,5 +32,5 @@ pub use crate::base::into_dimension::IntoDimension;
 pub use crate::base::shape::{Shape, ShapeBuilder};
 pub use crate::base::slice::Slice;
 pub use crate::base::storage::{CowRepr, Data, DataMut, DataOwned, OwnedRepr, ViewRepr};
-pub use crate::reduce::values::{SumElem, Valued};
+pub use crate::elements::{LinalgScalar, ProductElem, ScalarOperand, SumElem, Valued};
 pub use crate::zip::{FoldWhile, IntoBroadcast, IntoNdProducer, NdProducer, Shaped, Zip};

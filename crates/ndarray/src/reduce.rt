@@ -4,12 +4,10 @@ ghost use Rattle.std.specs.Prelude.{◌≡◌, ◌↔◌, IsTrue, map};
 ghost use Rattle.ndarray.specs.Sums.{IsSummableBy, total_by};
 ghost use Rattle.ndarray.specs.Integers.{int_sums, negative_sum, positive_sum};
 
-pub mod values;
-
 use crate::base::array::ArrayBase;
 use crate::base::dimension::Lengths;
 use crate::base::storage::Data;
-use crate::reduce::values::SumElem;
+use crate::elements::SumElem;
 use num_traits::{PrimInt, Zero};
 
 impl<A: SumElem, S: Data<Elem = A>, D: Lengths> ArrayBase<S, D> {

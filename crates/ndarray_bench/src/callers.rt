@@ -4,8 +4,11 @@
 ghost use Rattle.std.specs.Prelude.{◌≡◌, max, nat_lt, IfOk};
 ghost use Rattle.std.specs.List.{fold, list_all, list_any};
 ghost use Rattle.ndarray.specs.Grid.{arranged};
+ghost use Rattle.ndarray.specs.Sums.{total_by};
 ghost use Rattle.ndarray_bench.specs.Callers.{half_at};
+ghost use Rattle.ndarray_bench.specs.Residue.{modulus, modulus_pos, residue_sums};
 
+use crate::residue::Residue;
 use ndarray::{Array, ArrayBase, Data, Dimension, Zip};
 use std::alloc::{AllocError, Global};
 
@@ -38,4 +41,13 @@ pub fn greatest<S: Data<Elem = u64>, D: Dimension>(a: &ArrayBase<S, D>) -> u64
     ensures { result ≡ fold max 0 a.now.cells }
 {
     Zip::from(a.view()).fold(0, |most, x| most.max(*x))
+}
+
+/// The sum of residues, which never leaves the range.
+pub fn residue_sum<const M: u32, S: Data<Elem = Residue<M>>, D: Dimension>(
+    a: &ArrayBase<S, D>,
+) -> Residue<M>
+    ensures { result ≡ total_by (residue_sums (modulus M) (modulus_pos M)) (λ x. x) a.now.cells }
+{
+    a.sum()
 }

@@ -7,6 +7,7 @@
 
 pub mod callers;
 pub mod refusing;
+pub mod residue;
 mod rows;
 #[cfg(test)]
 mod tests;

@@ -6,7 +6,8 @@ use Rattle.std.proofs.lemmas.List.Sorted.{IsPermutation-keeps, IsPermutation-map
 use Rattle.ndarray.specs.Index.{row_order}
 use Rattle.ndarray.specs.Grid.{Grid, IsGrid, cell}
 use Rattle.ndarray.specs.Orders.{IsListOfCells}
-use Rattle.ndarray.specs.Sums.{CommutativeMonoid, total, select, IsSummable}
+use Rattle.ndarray.specs.Algebra.{CommutativeMonoid}
+use Rattle.ndarray.specs.Sums.{total, select, IsSummable}
 use Rattle.ndarray.specs.declared.base.shape.Order.TheVariants.{RowMajor}
 use Rattle.ndarray.proofs.cells.Cells.{cells_in-HasInOrder}
 use Rattle.ndarray.proofs.boxes.Orders.{box_in-is}

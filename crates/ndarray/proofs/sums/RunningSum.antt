@@ -1,6 +1,7 @@
 -- The values of a summable list, added one after the other.
 use Rattle.std.proofs.Common.{◌≡◌, List, [], ◌∷◌, sym, ap, ◌∙◌, subst}
-use Rattle.ndarray.specs.Sums.{CommutativeMonoid, total, IsSummable}
+use Rattle.ndarray.specs.Algebra.{CommutativeMonoid}
+use Rattle.ndarray.specs.Sums.{total, IsSummable}
 use Rattle.ndarray.proofs.sums.Selections.{op_unit, IsSummable-head, IsSummable-unit, IsSummable-joined}
 
 -- sum is what the values of whole before rest add up to, and it may be added to each selection of rest

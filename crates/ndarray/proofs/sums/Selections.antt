@@ -1,6 +1,7 @@
 -- Selections of a list, and what they tell of a summable one.
 use Rattle.std.proofs.Common.{◌≡◌, ℕ, zero, suc, Bool, true, false, cond, List, [], ◌∷◌, refl, sym, ap, ◌∙◌, subst, map, ◌↔◌}
-use Rattle.ndarray.specs.Sums.{CommutativeMonoid, total, total_by, select, IsSummable, IsSummableBy}
+use Rattle.ndarray.specs.Algebra.{CommutativeMonoid}
+use Rattle.ndarray.specs.Sums.{total, total_by, select, IsSummable, IsSummableBy}
 
 -- the mask b, and then keep
 abbrev pub at_front : Bool → (ℕ → Bool) → ℕ → Bool
