@@ -1,4 +1,4 @@
--- Producers: lengths, and the items that may be handed out at each index list.
+-- Producers: lengths, and the items that may be yielded at each index list.
 use Rattle.std.specs.Prelude.{◌≡◌, ◌↔◌, ℕ, ◌+◌, ◌-◌, List, [], ◌∷◌, Option, Some, None, MatchOption, ◌⊎◌, slice_index, slice_set}
 use Rattle.ndarray.specs.Index.{InBox}
 

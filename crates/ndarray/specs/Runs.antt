@@ -7,7 +7,7 @@ use Rattle.ndarray.specs.declared.base.shape.Order.{Order}
 use Rattle.ndarray.specs.declared.zip.fold_while.FoldWhile.{FoldWhile}
 use Rattle.ndarray.specs.declared.zip.fold_while.FoldWhile.TheVariants.{Continue, Done}
 
--- Below, `yields_at i x` says that x may be handed out at i. `call_gives f x r h` says that a call of the closure f at the items x may answer r and
+-- Below, `yields_at i x` says that x may be yielded at i. `call_gives f x r h` says that a call of the closure f at the items x may answer r and
 -- leave the closure as h, and `can_call f x` that f may be called there; of a fold both have the total before the items.
 
 -- whatever the turns before did, a turn may be taken at each of the places, from p on

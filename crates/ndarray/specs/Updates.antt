@@ -7,6 +7,6 @@ use Rattle.ndarray.specs.Producers.{both}
 abbrev pub is_cell : {A : Type 0} → Grid A → List ℕ → A → Type 0
 is_cell g i x = cell g i ≡ Some x
 
--- the same, and an item that may be handed out there
+-- the same, and an item that may be yielded there
 abbrev pub is_cell_beside : {A X : Type 0} → Grid A → (List ℕ → X → Type 0) → List ℕ → A × X → Type 0
 is_cell_beside g yields_at = both (is_cell g) yields_at

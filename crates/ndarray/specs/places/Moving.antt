@@ -1,4 +1,4 @@
--- Elements that are moved out along a way of places.
+-- Elements that are moved out along a sequence of places.
 use Rattle.std.specs.Prelude.{◌≡◌, ℕ, ◌<◌, List, length, filter_map, All, Option, None, get_or}
 use Rattle.ndarray.specs.base.Slots.{IsFilled}
 
