@@ -3,7 +3,10 @@ pub mod AlongAxis
 pub mod Assignments
 pub mod Cells
 pub mod CellsInOrder
+pub mod CollectedCells
+pub mod Elementwise
 pub mod IndexedCells
 pub mod Overwriting
+pub mod UpdatedCells
 pub mod Updates
 pub mod Writes

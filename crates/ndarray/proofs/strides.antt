@@ -15,4 +15,4 @@ pub mod OtherElements
 pub mod Reach
 pub mod Rows
 pub mod Strides
-pub mod Totals
+pub mod SumsOverAxes

@@ -1,7 +1,9 @@
 -- Views by index equations.
+pub mod BroadcastLengths
 pub mod Broadcasting
 pub mod Cuts
 pub mod Images
 pub mod Items
+pub mod OwnLengths
 pub mod Slices
 pub mod Swaps

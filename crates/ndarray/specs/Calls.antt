@@ -1,6 +1,8 @@
 -- A call of a closure at one to six items, and whether it may be made, as relations to the items as nested pairs. A fold's closure takes
--- the total before them.
+-- the total before them. A call by reference is one at references to the items.
+use Rattle.std.specs.Prelude.{◌≡◌}
 use Rattle.std.specs.Fn.{Mut, Called}
+use denote.Ref.{Bor}
 
 module _ {F X R : Type 0} (g : Mut F (X × Unit {0}) R) where
   abbrev pub can_call1 : F → X → Type 0
@@ -85,3 +87,10 @@ module _ {F X Y Z U V W B R : Type 0} (g : Mut F (B × (X × (Y × (Z × (U × (
 
   abbrev pub call_gives_fold6 : F → B → (((((X × Y) × Z) × U) × V) × W) → R → F → Type 0
   call_gives_fold6 f b t r h = Called g f (b, (t.0.0.0.0.0, (t.0.0.0.0.1, (t.0.0.0.1, (t.0.0.1, (t.0.1, (t.1, tt))))))) r h
+
+module _ {F X Y R : Type 0} (g : Mut F (Bor X × (Bor Y × Unit {0})) R) where
+  abbrev pub can_call_by_ref2 : F → (X × Y) → Type 0
+  can_call_by_ref2 f t = (x : Bor X) (y : Bor Y) → x.now ≡ t.0 → y.now ≡ t.1 → g.pre f (x, (y, tt))
+
+  abbrev pub call_gives_by_ref2 : F → (X × Y) → R → F → Type 0
+  call_gives_by_ref2 f t r h = (x : Bor X) × (y : Bor Y) × (x.now ≡ t.0) × (y.now ≡ t.1) × Called g f (x, (y, tt)) r h

@@ -3,6 +3,7 @@ pub mod Broadcast
 pub mod Calls
 pub mod Collected
 pub mod Dimensions
+pub mod Elementwise
 pub mod Errors
 pub mod FixedAxes
 pub mod FoldWhiles

@@ -11,6 +11,7 @@
 pub mod base;
 pub mod elements;
 pub mod iter;
+mod ops;
 pub mod order;
 pub mod owning;
 pub(crate) mod places;
@@ -33,4 +34,5 @@ pub use crate::base::shape::{Shape, ShapeBuilder};
 pub use crate::base::slice::Slice;
 pub use crate::base::storage::{CowRepr, Data, DataMut, DataOwned, OwnedRepr, ViewRepr};
 pub use crate::elements::{LinalgScalar, ProductElem, ScalarOperand, SumElem, Valued};
+pub use crate::ops::scalar_left;
 pub use crate::zip::{FoldWhile, IntoBroadcast, IntoNdProducer, NdProducer, Shaped, Zip};

@@ -1,5 +1,5 @@
 -- What the functions of src/callers compute.
-use Rattle.std.specs.Prelude.{ℕ, ◌/◌, Bool, false, List, Option, Some, None}
+use Rattle.std.specs.Prelude.{ℕ, ℤ, pos, ◌+ℤ◌, ◌/◌, Bool, false, List, Option, Some, None, drop}
 use Rattle.ndarray.specs.Grid.{Grid, cell}
 use Rattle.ndarray_bench.specs.PairedProducts.{number}
 
@@ -11,3 +11,16 @@ half_at g is = number (cell g is) / 2
 abbrev pub passes : {A : Type 0} → (A → Bool) → Option A → Bool
 passes test None = false
 passes test (Some x) = test x
+
+-- the whole number at an index list, and 0 outside the box
+abbrev pub whole_number : Option ℤ → ℤ
+whole_number None = pos 0
+whole_number (Some x) = x
+
+-- the sum of the cells of two arrays at an index list
+abbrev pub sum_at : Grid ℤ → Grid ℤ → List ℕ → ℤ
+sum_at g h is = whole_number (cell g is) +ℤ whole_number (cell h is)
+
+-- the sum of the cell of a table at an index list, and of the cell of a row at the list's other indices
+abbrev pub sum_below : Grid ℤ → Grid ℤ → List ℕ → ℤ
+sum_below table row is = whole_number (cell table is) +ℤ whole_number (cell row (drop 1 is))

@@ -3,12 +3,14 @@
 use std::hint::black_box;
 use std::time::Instant;
 
-const NAMES: [&str; 25] = [
+const NAMES: [&str; 34] = [
     "sum", "iter", "iter_transposed", "iter_stepped", "iter_mut", "indexed_iter", "indexed_iter_mut",
     "to_owned", "to_owned_column_major", "into_iter_of_a_copy", "windows_3x3", "axis_iter", "columns", "zip_one_fold", "zip_one_for_each", "zip_two_fold",
     "zip_three_fold", "zip_two_for_each", "zip_two_map_collect", "zip_two_map_assign_into",
     "zip_two_map_assign_into_view", "zip_two_for_each_mixed",
     "zip_two_fold_column_major", "zip_two_fold_mixed", "zip_two_map_collect_mixed",
+    "ref_add_ref", "ref_add_ref_mixed", "ref_add_row", "ref_add_scalar", "owned_add_ref", "owned_add_scalar", "add_assign",
+    "add_assign_mixed", "add_assign_row",
 ];
 
 fn main() {
@@ -50,7 +52,7 @@ fn walk(name: &str, n: usize, a: &mut [i64], b: &[i64], c: &[i64]) -> i64 {
                 }
             }
         }
-        "iter_mut" | "zip_one_for_each" => {
+        "iter_mut" | "zip_one_for_each" | "owned_add_scalar" => {
             for x in a.iter_mut() {
                 *x = x.wrapping_add(1);
             }
@@ -111,13 +113,13 @@ fn walk(name: &str, n: usize, a: &mut [i64], b: &[i64], c: &[i64]) -> i64 {
                 sum = sum.wrapping_add(x.wrapping_mul(*y)).wrapping_add(*z);
             }
         }
-        "zip_two_for_each" => {
+        "zip_two_for_each" | "owned_add_ref" | "add_assign" => {
             for (x, y) in a.iter_mut().zip(b) {
                 *x = x.wrapping_add(*y);
             }
             return 1;
         }
-        "zip_two_map_collect" => {
+        "zip_two_map_collect" | "ref_add_ref" => {
             let made: Vec<i64> = a.iter().zip(b).map(|(x, y)| x.wrapping_add(*y)).collect();
             return made[n + 1];
         }
@@ -134,7 +136,7 @@ fn walk(name: &str, n: usize, a: &mut [i64], b: &[i64], c: &[i64]) -> i64 {
                 }
             }
         }
-        "zip_two_for_each_mixed" => {
+        "zip_two_for_each_mixed" | "add_assign_mixed" => {
             for i in 0..n {
                 for j in 0..n {
                     a[i * n + j] = a[i * n + j].wrapping_add(b[j * n + i]);
@@ -142,7 +144,28 @@ fn walk(name: &str, n: usize, a: &mut [i64], b: &[i64], c: &[i64]) -> i64 {
             }
             return 1;
         }
-        "zip_two_map_collect_mixed" => {
+        "ref_add_scalar" => {
+            let made: Vec<i64> = a.iter().map(|x| x.wrapping_add(1)).collect();
+            return made[n + 1];
+        }
+        "ref_add_row" => {
+            let row = &b[..n];
+            let mut made = Vec::with_capacity(n * n);
+            for cells in a.chunks(n) {
+                made.extend(cells.iter().zip(row).map(|(x, y)| x.wrapping_add(*y)));
+            }
+            return made[n + 1];
+        }
+        "add_assign_row" => {
+            let row = &b[..n];
+            for cells in a.chunks_mut(n) {
+                for (x, y) in cells.iter_mut().zip(row) {
+                    *x = x.wrapping_add(*y);
+                }
+            }
+            return 1;
+        }
+        "zip_two_map_collect_mixed" | "ref_add_ref_mixed" => {
             let mut made = Vec::with_capacity(n * n);
             for i in 0..n {
                 for j in 0..n {

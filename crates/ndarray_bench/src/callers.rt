@@ -1,15 +1,17 @@
 //! Functions that a user would write over the library, each with what it computes as its contract. docs/CALLING.md
 //! goes through them.
 
-ghost use Rattle.std.specs.Prelude.{◌≡◌, max, nat_lt, IfOk};
+ghost use Rattle.std.specs.Prelude.{◌≡◌, ◌∷◌, ◌+ℤ◌, ℕ, ℤ, List, Some, max, nat_lt, IfOk, FitsSigned};
+ghost use Rattle.std.specs.Int.{w64};
 ghost use Rattle.std.specs.List.{fold, list_all, list_any};
-ghost use Rattle.ndarray.specs.Grid.{arranged};
+ghost use Rattle.ndarray.specs.Elementwise.{CanCombine, Combines};
+ghost use Rattle.ndarray.specs.Grid.{arranged, cell};
 ghost use Rattle.ndarray.specs.Sums.{total_by};
-ghost use Rattle.ndarray_bench.specs.Callers.{half_at};
+ghost use Rattle.ndarray_bench.specs.Callers.{half_at, sum_at, sum_below};
 ghost use Rattle.ndarray_bench.specs.Residue.{modulus, modulus_pos, residue_sums};
 
 use crate::residue::Residue;
-use ndarray::{Array, ArrayBase, Data, Dimension, Zip};
+use ndarray::{Array, ArrayBase, Data, DimMax, Dimension, Ix1, Ix2, Zip};
 use std::alloc::{AllocError, Global};
 
 /// Half of each cell, rounded down, whatever keeps the cells and however they lie.
@@ -50,4 +52,37 @@ pub fn residue_sum<const M: u32, S: Data<Elem = Residue<M>>, D: Dimension>(
     ensures { result ≡ total_by (residue_sums (modulus M) (modulus_pos M)) (λ x. x) a.now.cells }
 {
     a.sum()
+}
+
+/// The table whose cells are the sums of the cells of two tables of one shape.
+pub fn table_sums(a: &Array<i64, Ix2>, b: &Array<i64, Ix2>) -> Result<Array<i64, Ix2>, AllocError>
+    requires same { a.now.lengths ≡ b.now.lengths }
+    requires fits { (is : List ℕ) (x y : ℤ) → cell a.now is ≡ Some x → cell b.now is ≡ Some y → FitsSigned w64 (x +ℤ y) }
+    ensures { IfOk result (λ c. c ≡ arranged a.now.lengths (sum_at a.now b.now)) }
+{
+    let _lengths = (a.raw_dim(), b.raw_dim());
+    a + b
+}
+
+/// The array of the sums of the cells of two arrays broadcast together, whatever keeps the cells and however they lie.
+pub fn cell_sums<S: Data<Elem = i64>, T: Data<Elem = i64>, D: Dimension + DimMax<D>>(
+    alloc: Global,
+    a: &ArrayBase<S, D>,
+    b: &ArrayBase<T, D>,
+) -> Result<Array<i64, <D as DimMax<D>>::Output>, AllocError>
+    requires { CanCombine a.now b.now (λ x y. FitsSigned w64 (x +ℤ y)) }
+    ensures { IfOk result (Combines a.now b.now (λ x y z. z ≡ x +ℤ y)) }
+{
+    let copy = a.to_owned(alloc)?;
+    copy + b
+}
+
+/// Adds a row to each row of a table.
+pub fn add_row(table: &mut Array<i64, Ix2>, row: &Array<i64, Ix1>)
+    requires as_long { (n : ℕ) × (table.old.lengths ≡ n ∷ row.now.lengths) }
+    requires fits { (i : ℕ) (js : List ℕ) (x y : ℤ) → cell table.old (i ∷ js) ≡ Some x → cell row.now js ≡ Some y → FitsSigned w64 (x +ℤ y) }
+    ensures { table.new ≡ arranged table.old.lengths (sum_below table.old row.now) }
+{
+    let _length = row.raw_dim();
+    *table += row;
 }

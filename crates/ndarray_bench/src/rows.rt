@@ -5,6 +5,7 @@ mod calls;
 mod items;
 mod layouts;
 mod lists;
+mod operators;
 mod owned;
 mod reading;
 mod shown;
@@ -12,6 +13,7 @@ mod spelling;
 mod stepping;
 mod steps;
 mod values;
+mod wrapped;
 mod writing;
 
 use crate::rows::answer::answer;

@@ -7,6 +7,7 @@ mod generic;
 mod iter;
 mod iter_mut;
 mod layouts;
+mod ops;
 mod order;
 mod owned;
 mod refusing;

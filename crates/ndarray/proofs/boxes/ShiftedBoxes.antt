@@ -29,14 +29,6 @@ shifted_index-length [] is = refl
 shifted_index-length (s ∷ ss) [] = refl
 shifted_index-length (s ∷ ss) (i ∷ is) = ap (λ n. suc n) (shifted_index-length ss is)
 
--- an axis that is not counted yet
-pub shifted_index-next : (ss is : List ℕ) (k : ℕ) → get_or (shifted_index (take k ss) is) k 0 ≡ get_or is k 0
-unfolding shifted_index
-shifted_index-next ss is zero = refl
-shifted_index-next [] is (suc k) = refl
-shifted_index-next (s ∷ ss) [] (suc k) = refl
-shifted_index-next (s ∷ ss) (i ∷ is) (suc k) = shifted_index-next ss is k
-
 -- it counted too
 pub shifted_index-more : (ss is : List ℕ) (k : ℕ) → k < length ss → set (shifted_index (take k ss) is) k (get_or ss k 0 + get_or is k 0) ≡ shifted_index (take (suc k) ss) is
 unfolding shifted_index

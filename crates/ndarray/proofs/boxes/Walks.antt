@@ -21,10 +21,6 @@ pub block_in-none : (o : Order) (ns : List ℕ) → block_in o ns 0 ≡ 1
 block_in-none RowMajor ns = ap size (drop_all (length ns - 0) ns (omega arith))
 block_in-none ColumnMajor ns = refl
 
-pub block_in-all : (o : Order) (ns : List ℕ) → block_in o ns (length ns) ≡ size ns
-block_in-all RowMajor ns = let e : length ns - length ns ≡ 0 = omega arith in ap (λ x. size (drop x ns)) e
-block_in-all ColumnMajor ns = ap size (take_all (length ns) ns (omega arith))
-
 pub block_in-more : (o : Order) (ns : List ℕ) (p : ℕ) → p < length ns → block_in o ns (p + 1) ≡ get_or ns (axis_in o (length ns) p) 0 * block_in o ns p
 block_in-more RowMajor ns p h =
     let e : length ns - (p + 1) ≡ length ns - 1 - p = omega arith in

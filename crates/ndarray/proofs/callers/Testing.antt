@@ -1,57 +1,48 @@
 -- `all` and `any` with a closure that computes a test of the index list.
-use Rattle.std.proofs.Common.{◌≡◌, ℕ, List, [], ◌∷◌, ◌++◌, Bool, true, false, refl, sym, subst, ap, ◌∙◌, inl, inr}
-use Rattle.std.specs.List.{FoldsTo, AllByRecursion, list_all, list_any}
+use Rattle.std.proofs.Common.{◌≡◌, ℕ, List, [], ◌∷◌, ◌++◌, Bool, true, false, refl, sym, subst, ap, ◌∙◌, inl, inr, append-nil}
+use Rattle.std.proofs.Math.Bool.{not}
+use Rattle.std.specs.List.{FoldsTo, list_all, list_any}
 use Rattle.ndarray.specs.Runs.{RunsUntil}
 
-list_all-passed : {X : Type 0} (t : X → Bool) (xs : List X) → AllByRecursion (λ x. t x ≡ true) xs → list_all t xs ≡ true
-list_all-passed t [] h = refl
-list_all-passed t (x ∷ xs) h = rw h.0 (list_all-passed t xs h.1)
+-- for true whether all elements pass the test, and for false whether any does
+abbrev pub all_or_any : {X : Type 0} → Bool → (X → Bool) → List X → Bool
+all_or_any true = list_all
+all_or_any false = list_any
 
-list_any-passed : {X : Type 0} (t : X → Bool) (xs : List X) → AllByRecursion (λ x. t x ≡ false) xs → list_any t xs ≡ false
-list_any-passed t [] h = refl
-list_any-passed t (x ∷ xs) h = rw h.0 (list_any-passed t xs h.1)
+module _ {X : Type 0} (t : X → Bool) (x : X) (xs : List X) where
+  all_or_any-later : (on : Bool) → t x ≡ on → all_or_any on t (x ∷ xs) ≡ all_or_any on t xs
+  all_or_any-later true e = rw e refl
+  all_or_any-later false e = rw e refl
 
--- a list whose beginning passes, up to an element that does not
-list_all-stopped : {X : Type 0} (t : X → Bool) (xs : List X) (i : X) (ys : List X) → AllByRecursion (λ x. t x ≡ true) xs → t i ≡ false → list_all t (xs ++ (i ∷ ys)) ≡ false
-list_all-stopped t [] i ys h e = rw e refl
-list_all-stopped t (x ∷ xs) i ys h e = rw h.0 (list_all-stopped t xs i ys h.1 e)
+  all_or_any-here : (on : Bool) → t x ≡ not on → all_or_any on t (x ∷ xs) ≡ not on
+  all_or_any-here true e = rw e refl
+  all_or_any-here false e = rw e refl
 
-list_any-stopped : {X : Type 0} (t : X → Bool) (xs : List X) (i : X) (ys : List X) → AllByRecursion (λ x. t x ≡ false) xs → t i ≡ true → list_any t (xs ++ (i ∷ ys)) ≡ true
-list_any-stopped t [] i ys h e = rw e refl
-list_any-stopped t (x ∷ xs) i ys h e = rw h.0 (list_any-stopped t xs i ys h.1 e)
+all_or_any-none : {X : Type 0} (t : X → Bool) (on : Bool) → all_or_any on t [] ≡ on
+all_or_any-none t true = refl
+all_or_any-none t false = refl
 
 -- Turns that go on, and those that stop, each leave the closure f as it was, and tell what the test t answers there.
-module _ {F : Type 0} (goes : F → List ℕ → F → Type 0) (stops : F → List ℕ → Type 0) (ended : F → Type 0) (f : F) (is : List (List ℕ)) (t : List ℕ → Bool) where
-  passed : (on : Bool) (stays : (i : List ℕ) (k : F) → goes f i k → (k ≡ f) × (t i ≡ on)) (xs : List (List ℕ)) (p q : F) → p ≡ f → FoldsTo goes p xs q → AllByRecursion (λ i. t i ≡ on) xs × (q ≡ f)
-  passed on stays [] p q e c = (tt, sym c ∙ e)
-  passed on stays (i ∷ xs) p q e c =
+module _ {F : Type 0} (goes : F → List ℕ → F → Type 0) (stops : F → List ℕ → Type 0) (ended : F → Type 0) (f : F) (is : List (List ℕ)) (t : List ℕ → Bool) (on : Bool)
+    (stays : (i : List ℕ) (k : F) → goes f i k → (k ≡ f) × (t i ≡ on)) where
+  -- turns that go on leave the answer to the rest
+  passed : (xs ys : List (List ℕ)) (p q : F) → p ≡ f → FoldsTo goes p xs q → (all_or_any on t (xs ++ ys) ≡ all_or_any on t ys) × (q ≡ f)
+  passed [] ys p q e c = (refl, sym c ∙ e)
+  passed (i ∷ xs) ys p q e c =
       let (m, turn, rest) = c in
       let u = stays i m (subst (λ g. goes g i m) e turn) in
-      let r = passed on stays xs m q u.0 rest in
-      ((u.1, r.0), r.1)
+      let r = passed xs ys m q u.0 rest in
+      (all_or_any-later t i (xs ++ ys) on u.1 ∙ r.0, r.1)
 
-  -- what `all` answers
-  pub all-follows : (r : Bool) → ((i : List ℕ) (k : F) → goes f i k → (k ≡ f) × (t i ≡ true)) → ((i : List ℕ) → stops f i → (r ≡ false) × (t i ≡ false)) → (ended f → r ≡ true)
-      → RunsUntil goes stops ended f is → r ≡ list_all t is
-  all-follows r stays stop end c =
+  -- what `all` answers where it goes on at true, and `any` where it goes on at false
+  pub test-follows : (r : Bool) → ((i : List ℕ) → stops f i → (r ≡ not on) × (t i ≡ not on)) → (ended f → r ≡ on) → RunsUntil goes stops ended f is → r ≡ all_or_any on t is
+  test-follows r stop end c =
       let (done, q, turns, last) = c in
-      let p = passed true stays done f q refl turns in
       elim last [
-        | inl h ↦ end (subst ended p.1 h.1) ∙ sym (list_all-passed t done p.0) ∙ ap (list_all t) h.0
+        | inl h ↦ let p = passed done [] f q refl turns in
+            end (subst ended p.1 h.1) ∙ sym (p.0 ∙ all_or_any-none t on) ∙ ap (all_or_any on t) (append-nil done ∙ h.0)
         | inr h ↦ let (i, rest, parts, at) = h in
+            let p = passed done (i ∷ rest) f q refl turns in
             let u = stop i (subst (λ g. stops g i) p.1 at) in
-            u.0 ∙ sym (list_all-stopped t done i rest p.0 u.1) ∙ ap (list_all t) parts
-      ]
-
-  -- what `any` answers
-  pub any-follows : (r : Bool) → ((i : List ℕ) (k : F) → goes f i k → (k ≡ f) × (t i ≡ false)) → ((i : List ℕ) → stops f i → (r ≡ true) × (t i ≡ true)) → (ended f → r ≡ false)
-      → RunsUntil goes stops ended f is → r ≡ list_any t is
-  any-follows r stays stop end c =
-      let (done, q, turns, last) = c in
-      let p = passed false stays done f q refl turns in
-      elim last [
-        | inl h ↦ end (subst ended p.1 h.1) ∙ sym (list_any-passed t done p.0) ∙ ap (list_any t) h.0
-        | inr h ↦ let (i, rest, parts, at) = h in
-            let u = stop i (subst (λ g. stops g i) p.1 at) in
-            u.0 ∙ sym (list_any-stopped t done i rest p.0 u.1) ∙ ap (list_any t) parts
+            u.0 ∙ sym (p.0 ∙ all_or_any-here t i rest on u.1) ∙ ap (all_or_any on t) parts
       ]

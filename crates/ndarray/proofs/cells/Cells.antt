@@ -1,19 +1,19 @@
 -- The cells of an array, and along a list of index lists.
 use Rattle.std.proofs.Common.{◌≡◌, ℕ, List, [], ◌∷◌, ◌++◌, length, map, take, drop, replicate, get_or, Option, Some, None, refl, sym, ◌∙◌, ap, arith, subst}
 use Rattle.std.specs.Prelude.{filter_map, slice_get, All}
-use Rattle.std.proofs.lemmas.List.Elements.{All-same, All-replicate, filter_map-append, All-head, All-tail, All-take, All-drop}
+use Rattle.std.proofs.lemmas.List.Elements.{All-same, All-replicate, filter_map-append, All-head, All-tail}
 use Rattle.std.specs.Option.{option_map}
 use Rattle.std.proofs.lemmas.Option.{slice_get-get_or, slice_get-map, get_or_from_slice_get}
-use Rattle.std.proofs.lemmas.List.{get_or_append_left, length-append, length-map}
+use Rattle.std.proofs.lemmas.List.{length-map}
 use Rattle.ndarray.specs.Index.{InBox, row_order, size, IsBefore}
 use Rattle.ndarray.specs.Grid.{Grid, grid, beside, cell, IsGrid, HasCells, tabulate, tabulated, IsKnownByCells, arranged}
 use Rattle.ndarray.specs.order.Ranks.{rank, rank_in}
-use Rattle.ndarray.proofs.lists.Elements.{same_from_slice_get, length-filter_map_all, slice_get-filter_map_all, slice_get-Some, filter_map-same, filter_map-full, map-from_filter_map, get_or-append-last, map-same, filter_map-take_all, filter_map-drop_all, replicate-is}
+use Rattle.ndarray.proofs.lists.Elements.{same_from_slice_get, length-filter_map_all, slice_get-filter_map_all, slice_get-Some, filter_map-same, filter_map-full, map-from_filter_map, map-same, filter_map-take_all, filter_map-drop_all, replicate-is}
 use Rattle.ndarray.proofs.boxes.Orders.{length-row_order, row_order-is, row_order-at, row_order-back, rank-lt, rank_in-lt, box_in-at, box_in-is, box_in-within, length-box_in, IsBefore-not_itself}
 use Rattle.ndarray.specs.Orders.{box_in, cells_in, HasInOrder}
 use Rattle.ndarray.specs.declared.base.shape.Order.{Order}
 use Rattle.ndarray.proofs.boxes.UniqueOrder.{box_in-unique}
-use Rattle.ndarray.proofs.lists.CellLookup.{beside-at, beside-none}
+use Rattle.ndarray.proofs.lists.CellLookup.{beside-at, beside-contains, beside-none}
 
 module _ {A : Type 0} (g : Grid A) (whole : IsGrid g) where
   pub cell-within : (is : List ℕ) → InBox g.lengths is → cell g is ≡ slice_get g.cells (rank g.lengths is)
@@ -53,6 +53,11 @@ pub cell-outside : {A : Type 0} (g : Grid A) (is : List ℕ) → (InBox g.length
 unfolding cell
 cell-outside g is h = beside-none (row_order g.lengths) g.cells is (λ c. h (subst (InBox g.lengths) c.2 ((row_order-is g.lengths).within c.0 is c.1)))
 
+-- so a cell is in the box
+pub cell-inside : {A : Type 0} (g : Grid A) (is : List ℕ) (x : A) → cell g is ≡ Some x → InBox g.lengths is
+unfolding cell
+cell-inside g is x e = let c = beside-contains (row_order g.lengths) g.cells is x e in subst (InBox g.lengths) c.2 ((row_order-is g.lengths).within c.0 is c.1)
+
 -- the first, and the last, of what is to come
 pub along-first : {A : Type 0} (g : Grid A) (ys rest : List (List ℕ)) (is : List ℕ) (x : A) → ys ≡ is ∷ rest → cell g is ≡ Some x → filter_map (cell g) ys ≡ x ∷ filter_map (cell g) rest
 along-first g ys rest is x e s = rw (e, s) refl
@@ -65,14 +70,6 @@ pub HasCells-first : {A : Type 0} (g : Grid A) (ys rest : List (List ℕ)) (is :
 HasCells-first g ys rest is e h =
     let w : All (InBox g.lengths) (is ∷ rest) = subst (All (InBox g.lengths)) e h.within in
     (All-head (InBox g.lengths) is rest w, record { whole = h.whole; within = All-tail (InBox g.lengths) is rest w })
-
-pub HasCells-last : {A : Type 0} (g : Grid A) (ys rest : List (List ℕ)) (is : List ℕ) → ys ≡ rest ++ is ∷ [] → HasCells g ys → InBox g.lengths is × HasCells g rest
-HasCells-last g ys rest is e h =
-    let w : All (InBox g.lengths) (rest ++ is ∷ []) = subst (All (InBox g.lengths)) e h.within in
-    let P : List ℕ → Type 0 = InBox g.lengths in (
-      subst P (get_or-append-last rest is []) (w (length rest) [] (let l = length-append rest (is ∷ []) in omega arith)),
-      record { whole = h.whole; within = λ k d lt. subst P (get_or_append_left rest (is ∷ []) d k lt) (w k d (let l = length-append rest (is ∷ []) in omega arith)) },
-    )
 
 pub HasCells-row_order : {A : Type 0} (g : Grid A) → IsGrid g → HasCells g (row_order g.lengths)
 HasCells-row_order g w = record { whole = w; within = (row_order-is g.lengths).within }
@@ -144,12 +141,6 @@ along-take g ys n h = filter_map-take_all (cell g) ys n (all-cells g h.whole ys 
 
 pub along-drop : {A : Type 0} (g : Grid A) (ys : List (List ℕ)) (n : ℕ) → HasCells g ys → filter_map (cell g) (drop n ys) ≡ drop n (filter_map (cell g) ys)
 along-drop g ys n h = filter_map-drop_all (cell g) ys n (all-cells g h.whole ys h.within)
-
-pub HasCells-take : {A : Type 0} (g : Grid A) (ys : List (List ℕ)) (n : ℕ) → HasCells g ys → HasCells g (take n ys)
-HasCells-take g ys n h = record { whole = h.whole; within = All-take (InBox g.lengths) n ys h.within }
-
-pub HasCells-drop : {A : Type 0} (g : Grid A) (ys : List (List ℕ)) (n : ℕ) → HasCells g ys → HasCells g (drop n ys)
-HasCells-drop g ys n h = record { whole = h.whole; within = All-drop (InBox g.lengths) n ys h.within }
 
 -- arrays of the same lengths and cells by their functions
 pub tabulate-same : {A : Type 0} (ns ms : List ℕ) (f h : List ℕ → Option A) → ns ≡ ms → ((is : List ℕ) → InBox ns is → f is ≡ h is) → tabulate ns f ≡ tabulate ms h

@@ -47,11 +47,11 @@ module _ {A : Type 0} (xs : List A) where
 
   module _ (ys : List A) (k : ℕ) (same : drop k ys ≡ drop k xs) where
     -- the element at k is not yet overwritten
-    pub element_at : (x : A) → x ≡ get_or ys k x → k < length xs → element_step k (Some x) (k + 1)
-    element_at x is lt =
+    pub element_at : (x : A) → k < length xs → element_step k (Some (get_or ys k x)) (k + 1)
+    element_at x lt =
         let zero : k ≡ k + 0 = omega arith in
         let at : (zs : List A) → get_or zs k x ≡ get_or (drop k zs) 0 x = λ zs. ap (λ j. get_or zs j x) zero ∙ sym (get_or-drop k zs 0 x) in
-        (slice_get-get_or xs k x lt ∙ ap (λ z. Some z) (at xs ∙ (ap (λ l. get_or l 0 x) (sym same) ∙ (sym (at ys) ∙ sym is))), refl)
+        (slice_get-get_or xs k x lt ∙ ap (λ z. Some z) (at xs ∙ (ap (λ l. get_or l 0 x) (sym same) ∙ sym (at ys))), refl)
 
     -- and those behind it stay as they are
     pub rest_kept : (r : A) → drop (k + 1) (set ys k r) ≡ drop (k + 1) xs

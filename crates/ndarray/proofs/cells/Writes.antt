@@ -4,7 +4,7 @@ use Rattle.std.specs.Prelude.{IsTrue, Contains}
 use Rattle.std.specs.Option.{is_some}
 use Rattle.std.proofs.lemmas.Bool.{cases_Bool, cases_eq}
 use Rattle.ndarray.specs.Index.{InBox, row_order}
-use Rattle.ndarray.specs.Grid.{Grid, same_index, beside, cell, IsGrid}
+use Rattle.ndarray.specs.Grid.{Grid, grid, same_index, beside, cell, IsGrid}
 use Rattle.ndarray.specs.Writes.{put_beside, with_cell}
 use Rattle.ndarray.specs.base.Places.{place, Reaches, grid_at}
 use Rattle.ndarray.proofs.lists.Pairs.{Contains-cases}
@@ -48,6 +48,15 @@ module _ {A : Type 0} where
         ]
       ]
 
+  put_beside-own : (jss : List (List ℕ)) (xs : List A) (is : List ℕ) (w : A) → beside jss xs is ≡ Some w → put_beside jss xs is w ≡ xs
+  put_beside-own [] xs is w e = cc
+  put_beside-own (js ∷ jss) [] is w e = refl
+  put_beside-own (js ∷ jss) (x ∷ xs) is w e =
+      elim (cases_Bool (same_index js is)) [
+        | inl t ↦ (let there : Some x ≡ Some w = rw t at e in let own : x ≡ w = cc in rw t (ap (λ v. v ∷ xs) (sym own)))
+        | inr f ↦ rw f (ap (λ l. x ∷ l) (put_beside-own jss xs is w (rw f at e)))
+      ]
+
   -- an array with another cell is whole, has that cell, and has all others as before
   pub with_cell-whole : (g : Grid A) (is : List ℕ) (w : A) → IsGrid g → IsGrid (with_cell g is w)
   with_cell-whole g is w whole = length-put_beside (row_order g.lengths) g.cells is w ∙ whole
@@ -59,6 +68,11 @@ module _ {A : Type 0} where
   pub with_cell-elsewhere : (g : Grid A) (is js : List ℕ) (w : A) → js ≢ is → cell (with_cell g is w) js ≡ cell g js
   unfolding cell
   with_cell-elsewhere g is js w other = beside-put_elsewhere (row_order g.lengths) g.cells is js w other
+
+  -- with a cell that it has, it is itself
+  pub with_cell-own : (g : Grid A) (is : List ℕ) (w : A) → cell g is ≡ Some w → with_cell g is w ≡ g
+  unfolding cell
+  with_cell-own g is w e = ap (grid g.lengths) (put_beside-own (row_order g.lengths) g.cells is w e)
 
 -- the storage has w at the place of an index list, and all else as before
 module _ {A one : Type 0} (at after : ℕ → Option A) (ns : List ℕ) (start : ℕ) (bs : List ℕ) (h : Reaches one at ns start bs) (it : one) (is : List ℕ) (box : InBox ns is) (w : A) (here : after (place start bs is) ≡ Some w) (others : (p : ℕ) → p ≢ place start bs is → after p ≡ at p) where

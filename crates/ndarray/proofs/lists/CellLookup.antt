@@ -3,6 +3,7 @@ use Rattle.std.proofs.Common.{◌≡◌, ℕ, ◌<◌, ◌≢◌, suc, zero, Lis
 use Rattle.std.specs.Prelude.{AllPairs, Contains, slice_get, nat_eq}
 use Rattle.std.proofs.lemmas.Bool.{eq-eqb, eqb-true, and_from, and_parts, cases_Bool, false_from_ne_true}
 use Rattle.std.proofs.lemmas.List.Elements.{Contains-get_or}
+use Rattle.std.proofs.lemmas.Option.{none-some}
 use Rattle.ndarray.specs.Grid.{same_index, beside}
 use Rattle.ndarray.proofs.lists.Pairs.{Contains-cases, Contains-later, AllPairs-head, AllPairs-tail}
 
@@ -60,4 +61,14 @@ module _ {A : Type 0} where
           | inl e ↦ (x, rw e)
           | inr e ↦ (let r = beside-some jss xs is (omega arith) later in (r.0, rw e r.1))
         ]
+      ]
+
+  -- what is beside an index list is beside one of the first list
+  pub beside-contains : (jss : List (List ℕ)) (xs : List A) (is : List ℕ) (x : A) → beside jss xs is ≡ Some x → Contains jss is
+  beside-contains [] xs is x e = absurd (none-some x e)
+  beside-contains (js ∷ jss) [] is x e = absurd (none-some x e)
+  beside-contains (js ∷ jss) (y ∷ xs) is x e =
+      elim (cases_Bool (same_index js is)) [
+        | inl s ↦ (0, omega arith, same_index-true js is s)
+        | inr s ↦ Contains-later js jss is (beside-contains jss xs is x (rw s at e))
       ]

@@ -1,5 +1,5 @@
 -- A list that is cloned one element after another.
-use Rattle.std.proofs.Common.{◌≡◌, ◌<◌, List, [], ◌∷◌, ◌++◌, length, refl, sym, ◌∙◌, ap, arith, subst}
+use Rattle.std.proofs.Common.{◌≡◌, ◌<◌, List, [], ◌∷◌, ◌++◌, length, sym, ◌∙◌, ap, arith, subst}
 use Rattle.std.specs.List.{AllZip}
 use Rattle.std.proofs.lemmas.List.{append_assoc, append-nil, length-append}
 use Rattle.std.proofs.lemmas.List.Elements.{AllZip-push, length_all_zip}
@@ -11,9 +11,6 @@ pub record IsClonedTo {X : Type 0} (clones : X → X → Type 0) (all rest ys : 
   pub each : AllZip clones gone ys
 
 module _ {X : Type 0} (clones : X → X → Type 0) where
-  pub IsClonedTo-none : (all : List X) → IsClonedTo clones all all []
-  IsClonedTo-none all = record { gone = []; split = refl; each = tt }
-
   pub IsClonedTo-more : (all rest later ys : List X) (x y : X) → IsClonedTo clones all rest ys → rest ≡ x ∷ later → clones x y → IsClonedTo clones all later (ys ++ y ∷ [])
   IsClonedTo-more all rest later ys x y h e c = record {
     gone = h.gone ++ x ∷ [];

@@ -12,12 +12,11 @@ use Rattle.ndarray.specs.base.Places.{Reaches, Rearranges, grid_at}
 use Rattle.ndarray.specs.base.Masks.{Shares, grids_at}
 use Rattle.ndarray.specs.base.CellLayouts.{CellLayout}
 use Rattle.ndarray.proofs.pieces.Chunks.{chunk-begins}
-use Rattle.ndarray.proofs.views.Cuts.{IsCut-part, rearranges-cut, cuts-apart}
+use Rattle.ndarray.proofs.views.Cuts.{rearranges-part, cuts-apart}
 use Rattle.ndarray.proofs.views.Images.{grid-seen}
 use Rattle.ndarray.proofs.lists.Elements.{map-same}
 use Rattle.ndarray.proofs.boxes.Orders.{row_order-is, IsBefore-not_itself}
 use Rattle.ndarray.proofs.regions.Masks.{Shares-images}
-use Rattle.ndarray.proofs.boxes.Sizes.{length-fits}
 
 -- the number of a chunk is told by any index in it
 chunks-differ : (n s c d i j : ℕ) → i < chunk_len n s c → j < chunk_len n s d → c * s + i ≡ d * s + j → c ≡ d
@@ -36,8 +35,7 @@ module _ {A : Type 0} (at : ℕ → Option A) (ns : List ℕ) (start : ℕ) (bs 
       let n : ℕ = get_or ns k 0 in
       let c : ℕ = get_or p 0 0 in
       let begins = chunk-begins n s c some (position-one (div_ceil n s) p b).0 in
-      rearranges-cut ⊤ at ns start bs h k lt (c * s) (chunk_len n s c) 1 (λ i. c * s + i)
-      (IsCut-part n (c * s) (chunk_len n s c) (omega arith) (length-fits ns k lt h.limit))
+      rearranges-part ⊤ at ns start bs h k lt (c * s) (chunk_len n s c) (omega arith)
 
   pub chunks-share : Shares at (chunk_layouts ns start bs k s (row_order (div_ceil (get_or ns k 0) s ∷ [])))
   chunks-share =

@@ -8,7 +8,7 @@ use Rattle.std.proofs.lemmas.Nat.{div-mul-add}
 use Rattle.std.proofs.lemmas.List.Edits.{get_or-insert_at, length-remove}
 use Rattle.ndarray.specs.Index.{InBox, row_order, IsBefore}
 use Rattle.ndarray.specs.Subviews.{ArePositive, window_index, window_counts}
-use Rattle.ndarray.specs.base.Nested.{AreNested, magnitude, reach, reach_within, total}
+use Rattle.ndarray.specs.base.Nested.{AreNested, magnitude, reach, reach_within, sum_over_axes}
 use Rattle.ndarray.specs.base.Places.{Reaches}
 use Rattle.ndarray.specs.base.Pieces.{AreStepsOf, SharePieces, piece_layout}
 use Rattle.ndarray.proofs.boxes.Boxes.{InBox-length}
@@ -19,7 +19,7 @@ use Rattle.ndarray.proofs.boxes.Orders.{row_order-is, IsBefore-not_itself}
 use Rattle.ndarray.proofs.pieces.Pieces.{AreImages, AreOfLane, items-images, lanes-images, lanes-images_none, remove-none}
 use Rattle.ndarray.proofs.regions.Masks.{Shares-images}
 use Rattle.ndarray.proofs.pieces.Windows.{length-window_counts, window-fits, windows-images}
-use Rattle.ndarray.proofs.strides.Totals.{total-one, total-shorter}
+use Rattle.ndarray.proofs.strides.SumsOverAxes.{sum_over_axes-one, sum_over_axes-shorter}
 
 -- where the piece at each position is the array's image by a function, nested strides stay nested, and pieces at two
 -- positions have no index list of the array in common
@@ -70,11 +70,11 @@ items-apart at ns start bs k h lt = record {
 
 -- one axis alone has nested strides where it had them among others
 nested-alone : (ns bs : List ℕ) (k : ℕ) → length bs ≡ length ns → k < length ns → AreNested ns bs → AreNested (get_or ns k 0 ∷ []) (get_or bs k 0 ∷ [])
-unfolding total
+unfolding sum_over_axes
 nested-alone ns bs k l lt h =
     nested-fewer ns bs (get_or ns k 0 ∷ []) (get_or bs k 0 ∷ []) l refl
-    (let t = total-one reach ns bs k l lt in omega (arith, t))
-    (λ m. let t = total-one (reach_within m) ns bs k l lt in omega (arith, t))
+    (let t = sum_over_axes-one reach ns bs k l lt in omega (arith, t))
+    (λ m. let t = sum_over_axes-one (reach_within m) ns bs k l lt in omega (arith, t))
     (λ j lj _. (k, lt, first-alone ns j k lj, first-alone bs j k lj))
     h
   where
@@ -103,7 +103,7 @@ lanes-apart at ns start bs k h lt = record {
 
 -- the one lane of an array of no axes
 pub lanes-apart_none : {A one : Type 0} (at : ℕ → Option A) (start stride : ℕ) → Reaches one at [] start [] → AreApartImages [] start [] [] [] (1 ∷ []) (stride ∷ []) (λ p is. [])
-unfolding total
+unfolding sum_over_axes
 lanes-apart_none at start stride h = record {
   images = lanes-images_none at start stride h;
   nested = λ p b n. record { each = λ k lt long. absurd (short k lt long); near = omega arith };
@@ -155,14 +155,14 @@ nested-shorter ns bs ws lb lw le h = record {
       let rw' = length-remove ws k lt in
       let rb = length-remove bs k (omega arith) in
       let t =
-      total-shorter (reach_within m) (remove ws k) (remove ns k) (remove bs k) (omega arith) (omega arith)
+      sum_over_axes-shorter (reach_within m) (remove ws k) (remove ns k) (remove bs k) (omega arith) (omega arith)
       (λ j lj.
       let r = remove-at k j in
       let a = r.1 ns (omega arith) (omega arith) in
       let b = r.1 ws lt (omega arith) in
       within-shorter m _ _ _ (let c = le r.0 a.0 in omega (arith, a.1, b.1, c))) in
       omega (arith, e, t);
-  near = let n = h.near in let t = total-shorter reach ws ns bs lb lw (λ k lt. reach-shorter _ _ _ (le k lt)) in omega (arith, n, t);
+  near = let n = h.near in let t = sum_over_axes-shorter reach ws ns bs lb lw (λ k lt. reach-shorter _ _ _ (le k lt)) in omega (arith, n, t);
 }
 
 -- positions and indices of whole chunks tell the position

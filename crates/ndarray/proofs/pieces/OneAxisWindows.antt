@@ -3,15 +3,17 @@ use Rattle.std.proofs.Common.{◌≡◌, ℕ, ◌+◌, ◌-◌, ◌*◌, ◌/◌
 use Rattle.std.specs.Prelude.{All, flat_map}
 use Rattle.std.specs.List.{range_with_len}
 use Rattle.std.proofs.lemmas.Simd.{map-map}
-use Rattle.std.proofs.lemmas.List.{append-nil, length-set}
+use Rattle.std.proofs.lemmas.List.{append-nil, length-replicate, length-set}
 use Rattle.std.proofs.lemmas.List.FromFn.{length-map-range_with_len}
-use Rattle.std.proofs.lemmas.List.Elements.{All-head, All-tail}
+use Rattle.std.proofs.lemmas.Grind.{common_steps}
+use Rattle.std.proofs.lemmas.List.Elements.{All-head, All-tail, All-set, All-replicate}
 use Rattle.std.proofs.Math.Nat.{div-eq-sub-div, div-eq_of_lt}
 use Rattle.std.proofs.lemmas.Bool.{cases_lt}
 use Rattle.ndarray.specs.Index.{row_order}
 use Rattle.ndarray.specs.Grid.{Grid, cell, one_axis, grid}
 use Rattle.ndarray.specs.Views.{axis_part}
 use Rattle.ndarray.specs.Subviews.{ArePositive, axis_windows_of, chunk_counts, exact_chunks_of, window_index, window, window_count, window_counts, windows_of}
+use Rattle.ndarray.specs.base.Pieces.{AreWindowsOf}
 use Rattle.ndarray.proofs.boxes.Boxes.{InBox-length}
 use Rattle.ndarray.proofs.cells.Cells.{tabulate-same, arranged-same}
 use Rattle.ndarray.proofs.lists.Elements.{map-same}
@@ -39,6 +41,17 @@ pub exact_chunks-windows : {A : Type 0} (g : Grid A) (cs : List ℕ) → ArePosi
 exact_chunks-windows g cs h = arranged-same (window_counts g.lengths cs cs) (chunk_counts g.lengths cs) (window g cs cs) (window g cs cs) (window_counts-chunks g.lengths cs h.as_many h.positive) (λ is b. refl)
 
 -- ---- one axis
+
+-- windows are whole on the others
+pub AreWindowsOf-set : (ns : List ℕ) (k w : ℕ) → 1 ≤ w → AreWindowsOf ns (set ns k w)
+AreWindowsOf-set ns k w h = record { as_many = length-set ns k w; none = λ j lt z. grind (arith, common_steps) }
+
+-- and one step apart
+pub ArePositive-set : (ns : List ℕ) (k s : ℕ) → 1 ≤ s → ArePositive ns (set (replicate (length ns) 1) k s)
+ArePositive-set ns k s h = record {
+  as_many = length-set (replicate (length ns) 1) k s ∙ length-replicate (length ns) 1;
+  positive = All-set (λ c. 1 ≤ c) (replicate (length ns) 1) k s h (All-replicate (λ c. 1 ≤ c) (length ns) 1 (omega arith));
+}
 
 window_counts-whole : (ns : List ℕ) → window_counts ns ns (replicate (length ns) 1) ≡ replicate (length ns) 1
 window_counts-whole [] = refl

@@ -16,11 +16,10 @@ use Rattle.ndarray.specs.declared.base.shape.Order.{Order}
 use Rattle.ndarray.specs.declared.base.shape.Order.TheVariants.{RowMajor, ColumnMajor}
 use Rattle.ndarray.specs.order.Ranks.{rank}
 use Rattle.ndarray.proofs.cells.Cells.{arranged-cell}
-use Rattle.ndarray.proofs.views.Cuts.{IsCut-part, rearranges-cut}
+use Rattle.ndarray.proofs.views.Cuts.{rearranges-part}
 use Rattle.ndarray.proofs.lists.Elements.{filter_map-from_map, map-same}
 use Rattle.ndarray.proofs.boxes.Orders.{length-row_order, row_order-is, row_order-at, rank-lt, column_order-is, box_in-within, IsBefore-not_itself}
 use Rattle.ndarray.proofs.pieces.Pieces.{positions-reach}
-use Rattle.ndarray.proofs.boxes.Sizes.{length-fits}
 use Rattle.ndarray.proofs.regions.Masks.{SharesBoth, apart-back, apart-moved}
 
 differ-from : {before : List ℕ → List ℕ → Type 0} (never : (is : List ℕ) → before is is → ⊥) (ps : List ℕ) (xs : List (List ℕ)) → IsOrderOf before ps xs → AllPairs (λ p q. p ≡ q → ⊥) xs
@@ -130,7 +129,7 @@ pub positions-cut : (ps : List ℕ) (start : ℕ) (steps : List ℕ) → length 
     → (ps' : List ℕ) (start' : ℕ) (steps' : List ℕ) → ps' ≡ set ps k len → start' ≡ (start + (from * get_or steps k 0) % 2 ^ 64) % 2 ^ 64 → steps' ≡ set steps k ((get_or steps k 0 * 1) % 2 ^ 64)
     → Rearranges ⊥ ps start steps ps' start' steps' (λ js. set js k (from + get_or js k 0))
 positions-cut ps start steps l limit k lt from len le ps' start' steps' ep es et =
-    let r = rearranges-cut ⊥ _ ps start steps (positions-reach ps start steps l limit) k lt from len 1 (λ i. from + i) (IsCut-part (get_or ps k 0) from len le (length-fits ps k lt limit)) in
+    let r = rearranges-part ⊥ _ ps start steps (positions-reach ps start steps l limit) k lt from len le in
     let image = λ (js : List ℕ). set js k (from + get_or js k 0) in
     subst (λ ms. Rearranges ⊥ ps start steps ms start' steps' image) (sym ep)
     (subst (λ x. Rearranges ⊥ ps start steps (set ps k len) x steps' image) (sym es)

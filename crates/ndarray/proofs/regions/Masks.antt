@@ -3,7 +3,7 @@ use Rattle.std.proofs.Common.{◌≡◌, ℕ, ◌+◌, ◌<◌, zero, suc, Bool,
 use Rattle.std.specs.Prelude.{All, AllPairs, IsTrue, nat_eq, ⊤}
 use Rattle.std.specs.Option.{is_some}
 use Rattle.std.proofs.lemmas.Bool.{eq-eqb, eqb-true}
-use Rattle.std.proofs.lemmas.List.{get_or_append_left, get_or-append-add, get_or_default, get_or-map, length-map, take-append-drop}
+use Rattle.std.proofs.lemmas.List.{get_or_append_left, get_or-append-add, get_or_default, get_or-map, length-map, take-append-drop, map-append}
 use Rattle.std.proofs.lemmas.List.Folds.{list_any_at, list_any_none}
 use Rattle.ndarray.specs.Index.{InBox, row_order}
 use Rattle.ndarray.specs.Grid.{grid}
@@ -196,21 +196,48 @@ SharesBoth-parts at xs ys h =
       between = λ i d li j e lj. apart-moved _ _ _ _ (left i d li) (right j d ∙ get_or_default ys j d e lj) (h.apart i (length xs + j) d (omega arith) (omega arith));
     }
 
+-- the first of them, and the others
+pub SharesBoth-first : {A : Type 0} (at : ℕ → Option A) (s : CellLayout) (ss ys : List CellLayout) → ss ≡ s ∷ ys → Shares at ss → SharesBoth at (s ∷ []) ys
+SharesBoth-first at s ss ys e h = SharesBoth-parts at (s ∷ []) ys (subst (Shares at) e h)
+
+-- the last of them, and the others
+pub SharesBoth-last : {A : Type 0} (at : ℕ → Option A) (s : CellLayout) (ss ys : List CellLayout) → ss ≡ ys ++ s ∷ [] → Shares at ss → SharesBoth at (s ∷ []) ys
+SharesBoth-last at s ss ys e h = SharesBoth-back at ys (s ∷ []) (SharesBoth-parts at ys (s ∷ []) (subst (Shares at) e h))
+
+-- of one and others, that one, and that the others are apart from it
+module _ {A : Type 0} (at : ℕ → Option A) (s : CellLayout) (ys : List CellLayout) (h : SharesBoth at (s ∷ []) ys) where
+  pub one-of : Reaches ⊤ at s.lengths s.start s.strides
+  one-of = h.first.each 0 s (omega arith)
+
+  pub apart-of : All (AreApart s) ys
+  apart-of = h.between 0 s (omega arith)
+
 -- the first n of them, and the rest
 pub SharesBoth-take : {A : Type 0} (at : ℕ → Option A) (ss : List CellLayout) (n : ℕ) → Shares at ss → SharesBoth at (take n ss) (drop n ss)
 SharesBoth-take at ss n h = SharesBoth-parts at (take n ss) (drop n ss) (subst (Shares at) (sym (take-append-drop n ss)) h)
 
+-- the arrays where the last lies behind the others
+pub grids_at-last : {A : Type 0} (at : ℕ → Option A) (s : CellLayout) (ss ys : List CellLayout) → ss ≡ ys ++ s ∷ [] → grids_at at ss ≡ grids_at at ys ++ grid_at at s.lengths s.start s.strides ∷ []
+grids_at-last at s ss ys e = ap (grids_at at) e ∙ map-append (λ (x : CellLayout). grid_at at x.lengths x.start x.strides) ys (s ∷ [])
+
 -- ---- sub-views of one array
+
+first-alone : (P : CellLayout → Type 0) (x : CellLayout) → P x → All P (x ∷ [])
+first-alone P x p zero d lt = p
+first-alone P x p (suc i) d lt = absurd (omega arith)
+
+pub Shares-none : {A : Type 0} (at : ℕ → Option A) → Shares at []
+Shares-none at = record { each = λ i d lt. absurd (omega arith); apart = λ i j d lt lj. absurd (omega arith) }
 
 pub Shares-one : {A : Type 0} (at : ℕ → Option A) (s : CellLayout) → Reaches ⊤ at s.lengths s.start s.strides → Shares at (s ∷ [])
 Shares-one at s h = record {
-  each = λ i d lt. first-alone (λ x. Reaches ⊤ at x.lengths x.start x.strides) s h i d lt;
+  each = first-alone (λ x. Reaches ⊤ at x.lengths x.start x.strides) s h;
   apart = λ i j d lt lj. absurd (omega arith);
 }
-  where
-    first-alone : (P : CellLayout → Type 0) (x : CellLayout) → P x → All P (x ∷ [])
-    first-alone P x p zero d lt = p
-    first-alone P x p (suc i) d lt = absurd (omega arith)
+
+-- one beside others that are apart from it
+pub SharesBoth-one : {A : Type 0} (at : ℕ → Option A) (s : CellLayout) (ys : List CellLayout) → Reaches ⊤ at s.lengths s.start s.strides → Shares at ys → All (AreApart s) ys → SharesBoth at (s ∷ []) ys
+SharesBoth-one at s ys h others apart = record { first = Shares-one at s h; second = others; between = first-alone (λ x. All (AreApart x) ys) s apart }
 
 module _ {A : Type 0} (at : ℕ → Option A) (ns : List ℕ) (start : ℕ) (bs : List ℕ) (h : Reaches ⊤ at ns start bs) where
   -- sub-views whose images have no index list in common have no place in common

@@ -1,5 +1,5 @@
 -- What producers give: the items of two together, and those of a list.
-use Rattle.std.proofs.Common.{◌≡◌, ℕ, ◌+◌, ◌-◌, ap, List, [], ◌∷◌, Option, Some, None, refl, sym, subst, ◌∙◌, inl, inr, Iter, Bor, MutBor}
+use Rattle.std.proofs.Common.{◌≡◌, ℕ, ◌+◌, ◌-◌, ap, arith, length, List, [], ◌∷◌, Option, Some, None, refl, sym, subst, ◌∙◌, inl, inr, Iter, Bor, MutBor}
 use Rattle.std.specs.Iterator.{YieldsFirstBy}
 use Rattle.std.specs.declared.slice.IterMut.{IterMut}
 use Rattle.std.specs.Slice.Iter.{iter_steps, iter_mut_steps, iter_mut_rest}
@@ -118,3 +118,16 @@ YieldsInTurn-slice_mut {A} g o s whole e =
     first : (t : IterMut A) (r : Option (MutBor A)) (u : IterMut A) → iter_mut_steps t r u → YieldsFirstBy (λ x. x.now) iter_mut_rest t r u
     first t None u st = (nil_from_length (iter_mut_rest t) st.0, nil_from_length (iter_mut_rest u) st.1)
     first t (Some x) u st = st
+
+-- a run that counts down gives an item at as many index lists, where any item may stand at any of them
+module _ {S A : Type 0} (next : S → Option A → S → Type 0) (yields_at : List ℕ → A → Type 0) (count : S → ℕ)
+    (ends : (s t : S) → next s None t → count s ≡ 0) (goes : (s : S) (x : A) (t : S) → next s (Some x) t → count t + 1 ≡ count s) (anywhere : (i : List ℕ) (x : A) → yields_at i x) where
+  counted : (is : List (List ℕ)) (s : S) → count s ≡ length is → YieldsInTurnFrom next yields_at s is
+  counted [] s e = λ x t st. (let less = goes s x t st in omega arith)
+  counted (i ∷ is) s e = (
+    (λ t st. let none = ends s t st in omega arith),
+    (λ x t st. let less = goes s x t st in (anywhere i x, counted is t (omega arith))),
+  )
+
+  pub YieldsInTurn-counted : {is : List (List ℕ)} {s : S} → count s ≡ length is → YieldsInTurn next yields_at s is
+  YieldsInTurn-counted {is} {s} e = record { from = counted is s e }

@@ -5,7 +5,7 @@ use Rattle.std.proofs.lemmas.Bool.{cases_eq}
 use Rattle.std.proofs.lemmas.Bool.Decides.{nat_tests}
 use Rattle.ndarray.specs.Index.{InBox}
 use Rattle.ndarray.specs.base.Places.{dot}
-use Rattle.ndarray.specs.base.Nested.{magnitude, reach, total, forward_index, below_first}
+use Rattle.ndarray.specs.base.Nested.{magnitude, reach, sum_over_axes, forward_index, below_first}
 use Rattle.ndarray.proofs.strides.NestedLifts.{lift}
 
 -- ---- one axis
@@ -122,8 +122,8 @@ turned_list-at (n ∷ ns) (b ∷ bs) (i ∷ is) zero l h lt = refl
 turned_list-at (n ∷ ns) (b ∷ bs) (i ∷ is) (suc k) l h lt = turned_list-at ns bs is k (omega arith) h.1 (omega arith)
 
 -- how far an index list lies above the lowest place of the box
-pub turned_list-far : (ns bs is : List ℕ) → length bs ≡ length ns → InBox ns is → (q : ℕ) × (dot bs is + total below_first ns bs ≡ lift (turned_list ns bs is) bs + 2 ^ 64 * q)
-unfolding turned_list dot total
+pub turned_list-far : (ns bs is : List ℕ) → length bs ≡ length ns → InBox ns is → (q : ℕ) × (dot bs is + sum_over_axes below_first ns bs ≡ lift (turned_list ns bs is) bs + 2 ^ 64 * q)
+unfolding turned_list dot sum_over_axes
 turned_list-far [] [] [] l h = (0, refl)
 turned_list-far [] [] (i ∷ is) l h = absurd h
 turned_list-far [] (b ∷ bs) is l h = absurd (omega arith)

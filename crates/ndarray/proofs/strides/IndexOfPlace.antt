@@ -5,13 +5,13 @@ use Rattle.std.proofs.lemmas.List.{ext_get_or, length-set, set-get_or, get_or-se
 use Rattle.std.proofs.lemmas.Nat.{div-mul-add}
 use Rattle.ndarray.specs.Index.{InBox}
 use Rattle.ndarray.specs.base.Places.{dot, place}
-use Rattle.ndarray.specs.base.Nested.{magnitude, reach, reach_within, total, forward_index, below_first, AreNested}
+use Rattle.ndarray.specs.base.Nested.{magnitude, reach, reach_within, sum_over_axes, forward_index, below_first, AreNested}
 use Rattle.ndarray.proofs.boxes.Boxes.{InBox-length, InBox-get, InBox-set_both}
 use Rattle.ndarray.proofs.strides.Magnitudes.{reach-short, within-near}
 use Rattle.ndarray.proofs.strides.Nesting.{nested-each}
 use Rattle.ndarray.proofs.strides.NestedCuts.{nested-set}
 use Rattle.ndarray.proofs.strides.NestedLifts.{lift, lift-le}
-use Rattle.ndarray.proofs.strides.Totals.{total-set, total-le}
+use Rattle.ndarray.proofs.strides.SumsOverAxes.{sum_over_axes-set, sum_over_axes-le}
 use Rattle.ndarray.proofs.strides.ForwardAxes.{forward_index-again, turned_list, turned_list-within, turned_list-at, turned_list-far}
 
 -- what the search for the index list `is` has: of an axis that ms has as long as ns the index is not known yet; of
@@ -26,10 +26,6 @@ pub record Sought (ns bs ms : List ℕ) (rest : ℕ) (index is : List ℕ) : Typ
 
 -- an axis whose place is all that is left
 module _ (ms bs : List ℕ) (k : ℕ) (l : length bs ≡ length ms) (lt : k < length ms) (long : 1 < get_or ms k 0) (h : AreNested ms bs) where
-  -- the stride of an axis longer than 1 is not 0
-  pub stride-some : 0 < magnitude (get_or bs k 0)
-  stride-some = let e = h.each k lt long in omega (arith, e)
-
   -- strides stay nested where the axis is known
   pub nested-known : AreNested (set ms k 1) bs
   nested-known =
@@ -37,18 +33,18 @@ module _ (ms bs : List ℕ) (k : ℕ) (l : length bs ≡ length ms) (lt : k < le
       (nested-set ms bs l k lt 1 (get_or bs k 0) (omega (arith, long)) (λ lo. absurd (omega (arith, lo))) h)
 
   -- where no axis longer than 1 has a larger stride, the others reach less far than one stride
-  others-less : ((j : ℕ) → j < length ms → 1 < get_or ms j 0 → magnitude (get_or bs j 0) ≤ magnitude (get_or bs k 0)) → total reach (set ms k 1) bs < magnitude (get_or bs k 0)
+  others-less : ((j : ℕ) → j < length ms → 1 < get_or ms j 0 → magnitude (get_or bs j 0) ≤ magnitude (get_or bs k 0)) → sum_over_axes reach (set ms k 1) bs < magnitude (get_or bs k 0)
   others-less most =
       let m : ℕ = magnitude (get_or bs k 0) in
       let e = nested-each ms bs l h k lt long in
-      let t = total-le reach (reach_within m) ms bs l
+      let t = sum_over_axes-le reach (reach_within m) ms bs l
       (λ j lj.
       elim (cases_lt 1 (get_or ms j 0)) [
         | inl longer ↦ (let w = within-near m (get_or ms j 0) (get_or bs j 0) (most j lj longer) in omega (arith, w))
         | inr short ↦ (let r = reach-short (get_or ms j 0) (get_or bs j 0) short in omega (arith, r))
       ]) in
-      let s = total-set reach ms bs k 1 (get_or bs k 0) l lt in
-      let same : total reach (set ms k 1) (set bs k (get_or bs k 0)) ≡ total reach (set ms k 1) bs = ap (total reach (set ms k 1)) (set-get_or bs k 0) in
+      let s = sum_over_axes-set reach ms bs k 1 (get_or bs k 0) l lt in
+      let same : sum_over_axes reach (set ms k 1) (set bs k (get_or bs k 0)) ≡ sum_over_axes reach (set ms k 1) bs = ap (sum_over_axes reach (set ms k 1)) (set-get_or bs k 0) in
       omega (arith, e, t, s, same)
 
   -- an index list of the box: its index of the axis, and how far the others lie
@@ -59,7 +55,7 @@ module _ (ms bs : List ℕ) (k : ℕ) (l : length bs ≡ length ms) (lt : k < le
       let lu = InBox-length ms up b in
       let b0 = InBox-set_both ms up k 1 0 b (omega arith) in
       let le = lift-le (set ms k 1) bs (set up k 0) (let x = length-set ms k 1 in omega (arith, x, l)) b0 in
-      let s = total-set (λ i b. i * magnitude b) up bs k 0 (get_or bs k 0) (omega (arith, l, lu)) (omega (arith, lt, lu)) in
+      let s = sum_over_axes-set (λ i b. i * magnitude b) up bs k 0 (get_or bs k 0) (omega (arith, l, lu)) (omega (arith, lt, lu)) in
       let same : lift (set up k 0) (set bs k (get_or bs k 0)) ≡ lift (set up k 0) bs = ap (lift (set up k 0)) (set-get_or bs k 0) in
       let sum : lift up bs ≡ get_or up k 0 * m + lift (set up k 0) bs = omega (arith, s, same) in
       let below : lift (set up k 0) bs < m = omega (arith, o, le) in
@@ -72,7 +68,7 @@ above_lowest : (start at d low x q : ℕ) → start < 2 ^ 64 → (start + d) % 2
 above_lowest start at d low x q ls ea e lx = omega arith
 
 -- at first no index is known
-pub sought-first : (ns bs index is : List ℕ) (start at : ℕ) → length bs ≡ length ns → AreNested ns bs → start < 2 ^ 64 → InBox ns is → place start bs is ≡ at → ((k : ℕ) → k < length ns → get_or index k 0 ≡ 0) → Sought ns bs ns (((at + (2 ^ 64 - start)) % 2 ^ 64 + total below_first ns bs) % 2 ^ 64) index is
+pub sought-first : (ns bs index is : List ℕ) (start at : ℕ) → length bs ≡ length ns → AreNested ns bs → start < 2 ^ 64 → InBox ns is → place start bs is ≡ at → ((k : ℕ) → k < length ns → get_or index k 0 ≡ 0) → Sought ns bs ns (((at + (2 ^ 64 - start)) % 2 ^ 64 + sum_over_axes below_first ns bs) % 2 ^ 64) index is
 unfolding place
 sought-first ns bs index is start at l h ls b e zeros =
     let up : List ℕ = turned_list ns bs is in
@@ -83,7 +79,7 @@ sought-first ns bs index is start at l h ls b e zeros =
     record {
       up = up;
       within = w;
-      far = above_lowest start at (dot bs is) (total below_first ns bs) (lift up bs) f.0 ls e f.1 (omega (arith, le, near));
+      far = above_lowest start at (dot bs is) (sum_over_axes below_first ns bs) (lift up bs) f.0 ls e f.1 (omega (arith, le, near));
       not_yet = λ k lt long. (refl, turned_list-at ns bs is k l b lt);
       known = λ k lt short. let i = InBox-get ns is k b lt in let z = zeros k lt in omega (arith, i, z, short);
     }

@@ -4,30 +4,30 @@ use Rattle.std.proofs.Math.Nat.{mul-le-mul_right}
 use Rattle.std.proofs.lemmas.List.{length-reverse, get_or-reverse, reverse-reverse}
 use Rattle.ndarray.specs.Index.{size}
 use Rattle.ndarray.specs.Limits.{nonzero_size}
-use Rattle.ndarray.specs.base.Nested.{magnitude, reach, reach_within, reached_within, total, AreNested}
+use Rattle.ndarray.specs.base.Nested.{magnitude, reach, reach_within, reached_within, sum_over_axes, AreNested}
 use Rattle.ndarray.specs.base.Strides.{AreStridesOf}
 use Rattle.ndarray.specs.declared.base.shape.Order.{Order}
 use Rattle.ndarray.specs.declared.base.shape.Order.TheVariants.{RowMajor, ColumnMajor}
 use Rattle.ndarray.proofs.boxes.Sizes.{size-le, size-reverse, size-drop_reverse}
-use Rattle.ndarray.proofs.strides.Totals.{total-one, total-le}
+use Rattle.ndarray.proofs.strides.SumsOverAxes.{sum_over_axes-one, sum_over_axes-le}
 use Rattle.ndarray.proofs.strides.Magnitudes.{magnitude-small, reach-long, within-far, within-le}
 use Rattle.ndarray.proofs.strides.Nesting.{nested-each, nested-from_each}
 use Rattle.ndarray.proofs.strides.NestedMoves.{nested-reversed}
 
 -- an axis before all others whose stride is larger than their reach
-module _ (n b : ℕ) (ns bs : List ℕ) (l : length bs ≡ length ns) (larger : total reach ns bs < magnitude b) (near : reach n b + total reach ns bs < 2 ^ 63) (h : AreNested ns bs) where
+module _ (n b : ℕ) (ns bs : List ℕ) (l : length bs ≡ length ns) (larger : sum_over_axes reach ns bs < magnitude b) (near : reach n b + sum_over_axes reach ns bs < 2 ^ 63) (h : AreNested ns bs) where
   -- the others do not notice it
   unseen : (k : ℕ) → k < length ns → 1 < get_or ns k 0 → reach_within (magnitude (get_or bs k 0)) n b ≡ 0
   unseen k lt long =
-      let one = total-one reach ns bs k l lt in
+      let one = sum_over_axes-one reach ns bs k l lt in
       let r = reach-long (get_or ns k 0) (get_or bs k 0) long in
       within-far (magnitude (get_or bs k 0)) n b (omega (arith, one, r, larger))
 
   -- each axis, as the lists have it
   first-each : (k : ℕ) → k < length (n ∷ ns) → 1 < get_or (n ∷ ns) k 0 → reached_within (magnitude (get_or (b ∷ bs) k 0)) (n ∷ ns) (b ∷ bs) < reach (get_or (n ∷ ns) k 0) (get_or (b ∷ bs) k 0) + magnitude (get_or (b ∷ bs) k 0)
-  unfolding total
+  unfolding sum_over_axes
   first-each zero lt long =
-      let t = total-le (reach_within (magnitude b)) reach ns bs l (λ k _. within-le (magnitude b) (get_or ns k 0) (get_or bs k 0)) in
+      let t = sum_over_axes-le (reach_within (magnitude b)) reach ns bs l (λ k _. within-le (magnitude b) (get_or ns k 0) (get_or bs k 0)) in
       let w = within-le (magnitude b) n b in
       omega (arith, t, w, larger)
   first-each (suc k) lt long =
@@ -36,7 +36,7 @@ module _ (n b : ℕ) (ns bs : List ℕ) (l : length bs ≡ length ns) (larger : 
       omega (arith, u, e)
 
   nested-first : AreNested (n ∷ ns) (b ∷ bs)
-  unfolding total
+  unfolding sum_over_axes
   nested-first = nested-from_each (n ∷ ns) (b ∷ bs) (omega arith) near first-each
 
 -- factors of a product that is not 0
@@ -46,8 +46,8 @@ some-of_product (suc n) zero h = absurd (omega arith)
 some-of_product (suc n) (suc m) h = (omega arith, omega arith)
 
 -- row order: the stride of an axis is the size of the box of the later ones, which reach to the last place of it
-nested-row : (ns bs : List ℕ) → length bs ≡ length ns → ((k : ℕ) → k < length ns → get_or bs k 0 ≡ size (drop (suc k) ns)) → 0 < size ns → size ns < 2 ^ 63 → AreNested ns bs × (total reach ns bs + 1 ≡ size ns)
-unfolding total
+nested-row : (ns bs : List ℕ) → length bs ≡ length ns → ((k : ℕ) → k < length ns → get_or bs k 0 ≡ size (drop (suc k) ns)) → 0 < size ns → size ns < 2 ^ 63 → AreNested ns bs × (sum_over_axes reach ns bs + 1 ≡ size ns)
+unfolding sum_over_axes
 nested-row [] bs l h some limit = (record { near = omega arith; each = λ k lt. absurd (omega arith) }, refl)
 nested-row (n ∷ ns) [] l h some limit = absurd (omega arith)
 nested-row (n ∷ ns) (b ∷ bs) l h some limit =

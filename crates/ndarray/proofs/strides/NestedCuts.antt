@@ -3,8 +3,8 @@ use Rattle.std.proofs.Common.{◌≡◌, ◌≢◌, ℕ, ◌+◌, ◌-◌, ◌*�
 use Rattle.std.proofs.Math.Nat.{mul-le-mul_left, mul-le-mul_right}
 use Rattle.std.proofs.lemmas.Bool.{cases_lt, cases_eq}
 use Rattle.std.proofs.lemmas.List.{length-set, get_or-set_same, get_or-set_other}
-use Rattle.ndarray.specs.base.Nested.{magnitude, reach, reach_within, reached_within, total, AreNested}
-use Rattle.ndarray.proofs.strides.Totals.{total-one, total-set, total-le}
+use Rattle.ndarray.specs.base.Nested.{magnitude, reach, reach_within, reached_within, sum_over_axes, AreNested}
+use Rattle.ndarray.proofs.strides.SumsOverAxes.{sum_over_axes-one, sum_over_axes-set, sum_over_axes-le}
 use Rattle.ndarray.proofs.strides.Magnitudes.{magnitude-times, reach-short, reach-long, within-near, within-far, within-le, within-short}
 use Rattle.ndarray.proofs.strides.Nesting.{nested-each, nested-from_each, nested-two}
 
@@ -17,8 +17,8 @@ module _ (ns bs : List ℕ) (l : length bs ≡ length ns) (k : ℕ) (lt : k < le
         | inr short ↦ (let e = reach-short n b short in omega (arith, e))
       ]
 
-  set-near : total reach (set ns k n) (set bs k b) < 2 ^ 63
-  set-near = let s = total-set reach ns bs k n b l lt in let f = h.near in let r = no_farther in omega (arith, s, f, r)
+  set-near : sum_over_axes reach (set ns k n) (set bs k b) < 2 ^ 63
+  set-near = let s = sum_over_axes-set reach ns bs k n b l lt in let f = h.near in let r = no_farther in omega (arith, s, f, r)
 
   -- no axis longer than 1 has a stride between the old one and the new
   none_between : 1 < n → (j : ℕ) → j < length ns → reach_within (magnitude b) (get_or ns j 0) (get_or bs j 0) ≤ reach_within (magnitude (get_or bs k 0)) (get_or ns j 0) (get_or bs j 0)
@@ -44,8 +44,8 @@ module _ (ns bs : List ℕ) (l : length bs ≡ length ns) (k : ℕ) (lt : k < le
   set-here : 1 < n → reached_within (magnitude b) (set ns k n) (set bs k b) < reach n b + magnitude b
   set-here long =
       let a = apart long in
-      let s = total-set (reach_within (magnitude b)) ns bs k n b l lt in
-      let t = total-le (reach_within (magnitude b)) (reach_within (magnitude (get_or bs k 0))) ns bs l (none_between long) in
+      let s = sum_over_axes-set (reach_within (magnitude b)) ns bs k n b l lt in
+      let t = sum_over_axes-le (reach_within (magnitude b)) (reach_within (magnitude (get_or bs k 0))) ns bs l (none_between long) in
       let e = nested-each ns bs l h k lt (omega (arith, long, fewer)) in
       let w = within-near (magnitude b) (get_or ns k 0) (get_or bs k 0) a.0 in
       let v = within-le (magnitude b) n b in
@@ -69,7 +69,7 @@ module _ (ns bs : List ℕ) (l : length bs ≡ length ns) (k : ℕ) (lt : k < le
   -- another axis
   set-other : (j : ℕ) → j < length ns → 1 < get_or ns j 0 → reached_within (magnitude (get_or bs j 0)) (set ns k n) (set bs k b) < reach (get_or ns j 0) (get_or bs j 0) + magnitude (get_or bs j 0)
   set-other j lj long =
-      let s = total-set (reach_within (magnitude (get_or bs j 0))) ns bs k n b l lt in
+      let s = sum_over_axes-set (reach_within (magnitude (get_or bs j 0))) ns bs k n b l lt in
       let e = nested-each ns bs l h j lj long in
       let v = less (magnitude (get_or bs j 0)) in
       omega (arith, s, e, v)
@@ -107,7 +107,7 @@ nested-cut ns bs k len step l lt fewer near some h =
     nested-set ns bs l k lt len ((get_or bs k 0 * step) % 2 ^ 64) fewer
     (λ long.
     let s = scaled len (get_or ns k 0) (magnitude (get_or bs k 0)) (magnitude step) long (some long) near in
-    let one = total-one reach ns bs k l lt in
+    let one = sum_over_axes-one reach ns bs k l lt in
     let all = h.near in
     let e = magnitude-times (get_or bs k 0) step (omega (arith, s, one, all)) in
     (omega (arith, s, e), let r = ap (λ x. (len - 1) * x) e in omega (arith, s, r)))

@@ -6,12 +6,12 @@ use Rattle.std.proofs.lemmas.Bool.{cases_lt}
 use Rattle.std.proofs.lemmas.List.Edits.{length-remove}
 use Rattle.std.proofs.lemmas.Nat.{div-mul-add}
 use Rattle.ndarray.specs.Index.{InBox}
-use Rattle.ndarray.specs.base.Nested.{magnitude, reach, reach_within, total, AreNested}
+use Rattle.ndarray.specs.base.Nested.{magnitude, reach, reach_within, sum_over_axes, AreNested}
 use Rattle.ndarray.proofs.boxes.Boxes.{InBox-length, InBox-get, InBox-removed}
 use Rattle.ndarray.proofs.lists.Elements.{insert-remove}
 use Rattle.ndarray.proofs.strides.Magnitudes.{within-near}
 use Rattle.ndarray.proofs.strides.NestedMoves.{remove-at, nested-removed}
-use Rattle.ndarray.proofs.strides.Totals.{total-remove, total-le}
+use Rattle.ndarray.proofs.strides.SumsOverAxes.{sum_over_axes-remove, sum_over_axes-le}
 
 -- an axis of the largest stride
 largest : (bs : List ℕ) → 0 < length bs → (k : ℕ) × (k < length bs) × ((j : ℕ) → j < length bs → magnitude (get_or bs j 0) ≤ magnitude (get_or bs k 0))
@@ -30,11 +30,11 @@ largest (b ∷ c ∷ bs) some =
 
 -- how far an index list lies from the first, by the strides without their signs
 abbrev pub lift : List ℕ → List ℕ → ℕ
-lift = total (λ i b. i * magnitude b)
+lift = sum_over_axes (λ i b. i * magnitude b)
 
 -- an index list of the box lies no farther than all axes reach
-pub lift-le : (ns bs is : List ℕ) → length bs ≡ length ns → InBox ns is → lift is bs ≤ total reach ns bs
-unfolding total
+pub lift-le : (ns bs is : List ℕ) → length bs ≡ length ns → InBox ns is → lift is bs ≤ sum_over_axes reach ns bs
+unfolding sum_over_axes
 lift-le [] bs [] l h = omega arith
 lift-le [] bs (i ∷ is) l h = absurd h
 lift-le (n ∷ ns) bs [] l h = absurd h
@@ -54,13 +54,13 @@ same_parts m i j r s lr ls e =
     (same, omega (arith, e, p))
 
 -- what the axes other than that of the largest stride reach together
-others-below : (ns bs : List ℕ) (k : ℕ) → length bs ≡ length ns → k < length ns → ((j : ℕ) → j < length bs → magnitude (get_or bs j 0) ≤ magnitude (get_or bs k 0)) → AreNested ns bs → 1 < get_or ns k 0 → total reach (remove ns k) (remove bs k) < magnitude (get_or bs k 0)
+others-below : (ns bs : List ℕ) (k : ℕ) → length bs ≡ length ns → k < length ns → ((j : ℕ) → j < length bs → magnitude (get_or bs j 0) ≤ magnitude (get_or bs k 0)) → AreNested ns bs → 1 < get_or ns k 0 → sum_over_axes reach (remove ns k) (remove bs k) < magnitude (get_or bs k 0)
 others-below ns bs k l lt big h long =
     let m : ℕ = magnitude (get_or bs k 0) in
     let ln = length-remove ns k lt in
     let lb = length-remove bs k (omega arith) in
     let e = h.each k lt long in
-    let t = total-le reach (reach_within m) (remove ns k) (remove bs k) (omega arith)
+    let t = sum_over_axes-le reach (reach_within m) (remove ns k) (remove bs k) (omega arith)
     (λ j lj.
     let r = remove-at k j in
     let a = r.1 bs (omega arith) (omega arith) in
@@ -88,8 +88,8 @@ lift-apart (suc count) ns bs is js ec l h bi bj e =
     let lj = InBox-length ns js bj in
     let ln = length-remove ns k (omega arith) in
     let lb = length-remove bs k (omega arith) in
-    let ri = total-remove (λ i b. i * magnitude b) is bs k (omega arith) (omega arith) in
-    let rj = total-remove (λ i b. i * magnitude b) js bs k (omega arith) (omega arith) in
+    let ri = sum_over_axes-remove (λ i b. i * magnitude b) is bs k (omega arith) (omega arith) in
+    let rj = sum_over_axes-remove (λ i b. i * magnitude b) js bs k (omega arith) (omega arith) in
     let bi2 = InBox-removed ns is k (omega arith) bi in
     let bj2 = InBox-removed ns js k (omega arith) bj in
     let gi = InBox-get ns is k bi (omega arith) in

@@ -7,7 +7,7 @@ use Rattle.std.proofs.lemmas.List.Edits.{swap_is, length-swap, length-remove, le
 use Rattle.ndarray.specs.base.Nested.{reach, reach_within, AreNested}
 use Rattle.ndarray.proofs.strides.Magnitudes.{reach-short, within-short}
 use Rattle.ndarray.proofs.strides.Nesting.{nested-fewer}
-use Rattle.ndarray.proofs.strides.Totals.{total-remove, total-insert, total-reverse, total-swap}
+use Rattle.ndarray.proofs.strides.SumsOverAxes.{sum_over_axes-remove, sum_over_axes-insert, sum_over_axes-reverse, sum_over_axes-swap}
 
 -- ---- which axis stands where
 
@@ -39,8 +39,8 @@ nested-swapped ns bs i j l hi hj h =
     let ln = length-swap ns i j in
     let lb = length-swap bs i j in
     nested-fewer ns bs (swap ns i j) (swap bs i j) l (omega arith)
-    (let t = total-swap reach ns bs i j l hi hj in omega (arith, t))
-    (λ m. let t = total-swap (reach_within m) ns bs i j l hi hj in omega (arith, t))
+    (let t = sum_over_axes-swap reach ns bs i j l hi hj in omega (arith, t))
+    (λ m. let t = sum_over_axes-swap (reach_within m) ns bs i j l hi hj in omega (arith, t))
     (λ k lk _.
     let s = swap-at i j k in
     let a = s.1 ns hi hj (omega arith) in
@@ -54,8 +54,8 @@ nested-reversed ns bs l h =
     let ln = length-reverse ns in
     let lb = length-reverse bs in
     nested-fewer ns bs (reverse ns) (reverse bs) l (omega arith)
-    (let t = total-reverse reach ns bs l in omega (arith, t))
-    (λ m. let t = total-reverse (reach_within m) ns bs l in omega (arith, t))
+    (let t = sum_over_axes-reverse reach ns bs l in omega (arith, t))
+    (λ m. let t = sum_over_axes-reverse (reach_within m) ns bs l in omega (arith, t))
     (λ k lt _. (length ns - 1 - k, omega arith, get_or-reverse ns k 0 (omega arith), get_or-reverse bs k 0 (omega arith) ∙ ap (λ n. get_or bs (n - 1 - k) 0) l))
     h
 
@@ -65,8 +65,8 @@ nested-removed ns bs k l lt h =
     let ln = length-remove ns k lt in
     let lb = length-remove bs k (omega arith) in
     nested-fewer ns bs (remove ns k) (remove bs k) l (omega arith)
-    (let t = total-remove reach ns bs k l lt in omega (arith, t))
-    (λ m. let t = total-remove (reach_within m) ns bs k l lt in omega (arith, t))
+    (let t = sum_over_axes-remove reach ns bs k l lt in omega (arith, t))
+    (λ m. let t = sum_over_axes-remove (reach_within m) ns bs k l lt in omega (arith, t))
     (λ j lj _.
     let r = remove-at k j in
     let a = r.1 ns lt lj in
@@ -80,8 +80,8 @@ nested-inserted ns bs k b l le h =
     let ln = length-insert ns k 1 le in
     let lb = length-insert bs k b (omega arith) in
     nested-fewer ns bs (insert ns k 1) (insert bs k b) l (omega arith)
-    (let t = total-insert reach ns bs k 1 b l le in let r = reach-short 1 b (omega arith) in omega (arith, t, r))
-    (λ m. let t = total-insert (reach_within m) ns bs k 1 b l le in let r = within-short m 1 b (omega arith) in omega (arith, t, r))
+    (let t = sum_over_axes-insert reach ns bs k 1 b l le in let r = reach-short 1 b (omega arith) in omega (arith, t, r))
+    (λ m. let t = sum_over_axes-insert (reach_within m) ns bs k 1 b l le in let r = within-short m 1 b (omega arith) in omega (arith, t, r))
     (λ j lj long.
     elim (cases_lt j k) [
       | inl below ↦ (j, omega arith, get_or-insert_below ns k 1 0 j below le, get_or-insert_below bs k b 0 j below (omega arith))

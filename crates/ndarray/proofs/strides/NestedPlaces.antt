@@ -2,7 +2,7 @@
 use Rattle.std.proofs.Common.{◌≡◌, ℕ, ◌+◌, ◌*◌, ◌%◌, ◌<◌, ◌^◌, List, length, refl, sym, ◌∙◌, ap, arith, Option}
 use Rattle.ndarray.specs.Index.{InBox}
 use Rattle.ndarray.specs.base.Places.{dot, place, Reaches}
-use Rattle.ndarray.specs.base.Nested.{total, below_first, AreNested}
+use Rattle.ndarray.specs.base.Nested.{sum_over_axes, below_first, AreNested}
 use Rattle.ndarray.proofs.boxes.Boxes.{InBox-some}
 use Rattle.ndarray.proofs.strides.NestedLifts.{lift, lift-le, lift-apart}
 use Rattle.ndarray.proofs.strides.ForwardAxes.{turned_list, turned_list-within, turned_list-again, turned_list-far}
@@ -22,7 +22,7 @@ nested-distinct ns start bs is js l h bi bj e =
     let near = h.near in
     let li = lift-le ns bs (turned_list ns bs is) l wi in
     let lj = lift-le ns bs (turned_list ns bs js) l wj in
-    let x = same_round start (dot bs is) (dot bs js) (total below_first ns bs) (lift (turned_list ns bs is) bs) (lift (turned_list ns bs js) bs) si.0 sj.0 si.1 sj.1 (omega (arith, near, li)) (omega (arith, near, lj)) e in
+    let x = same_round start (dot bs is) (dot bs js) (sum_over_axes below_first ns bs) (lift (turned_list ns bs is) bs) (lift (turned_list ns bs js) bs) si.0 sj.0 si.1 sj.1 (omega (arith, near, li)) (omega (arith, near, lj)) e in
     let same = lift-apart (length ns) ns bs (turned_list ns bs is) (turned_list ns bs js) refl l h wi wj x in
     sym (turned_list-again ns bs is bi) ∙ (ap (turned_list ns bs) same ∙ turned_list-again ns bs js bj)
 

@@ -222,7 +222,3 @@ module _ {A : Type 0} (g : Grid A) (ys zs : List (List ℕ)) (is : List ℕ) (ax
 
   pub row-count : count + length zs ≡ length ys
   row-count = let e = ap length parts in let a = length-append (row_from is axis count) zs in let r = length-row_from is axis count in omega arith
-
-  -- the next of them is the first of the row
-  pub row-next : (row rest : List A) (x : A) → row ≡ filter_map (cell g) (row_from is axis count) → row ≡ x ∷ rest → filter_map (cell g) ys ≡ x ∷ (rest ++ filter_map (cell g) zs)
-  row-next row rest x e f = row-split ∙ ap (λ l. l ++ filter_map (cell g) zs) (sym e ∙ f)

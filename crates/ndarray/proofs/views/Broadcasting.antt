@@ -6,16 +6,10 @@ use Rattle.std.proofs.lemmas.List.{length-drop, get_or-drop}
 use Rattle.std.specs.Prelude.{◌==◌}
 use Rattle.ndarray.specs.Index.{InBox}
 use Rattle.ndarray.specs.Limits.{nonzero_size}
-use Rattle.ndarray.specs.Broadcast.{BroadcastsTo, zero_on_unit_axes, broadcast_index}
+use Rattle.ndarray.specs.Broadcast.{zero_on_unit_axes, broadcast_index}
 use Rattle.ndarray.specs.base.Places.{dot, place, Reaches, Rearranges}
 use Rattle.ndarray.specs.base.Strides.{StretchedBy}
 use Rattle.ndarray.proofs.boxes.Boxes.{InBox-length, InBox-drop}
-
-pub broadcasts : (ns ms bs cs : List ℕ) → StretchedBy ns ms bs cs → BroadcastsTo ns ms
-broadcasts ns ms bs cs h = record {
-  fewer = h.fewer;
-  agree = λ k lt. elim (h.each k lt) [ inl p ↦ inl p.0 | inr p ↦ inr p.0 ];
-}
 
 dot-missing : (k : ℕ) (cs js : List ℕ) → length cs ≡ length js → ((j : ℕ) → j < k → get_or cs j 0 ≡ 0) → dot cs js ≡ dot (drop k cs) (drop k js)
 unfolding dot

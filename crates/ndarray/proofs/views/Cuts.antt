@@ -9,7 +9,7 @@ use Rattle.ndarray.specs.base.Places.{dot, place, Reaches, Rearranges}
 use Rattle.ndarray.proofs.boxes.Boxes.{InBox-length, InBox-get, InBox-set_both}
 use Rattle.ndarray.proofs.strides.NestedCuts.{nested-cut}
 use Rattle.ndarray.proofs.strides.Reach.{dot-set, mod_twice}
-use Rattle.ndarray.proofs.boxes.Sizes.{nonzero-set_le}
+use Rattle.ndarray.proofs.boxes.Sizes.{length-fits, nonzero-set_le}
 
 -- of an axis of length n, the `len` places that `at` names: from `from` on by `step`, which is not 0, modulo 2 ^ 64
 pub record IsCut (n from len step : ℕ) (at : ℕ → ℕ) : Type 0 where
@@ -20,7 +20,7 @@ pub record IsCut (n from len step : ℕ) (at : ℕ → ℕ) : Type 0 where
   pub moves : 1 < len → 0 < magnitude step
 
 -- those of a part side by side
-pub IsCut-part : (n from len : ℕ) → from + len ≤ n → n < 2 ^ 63 → IsCut n from len 1 (λ i. from + i)
+IsCut-part : (n from len : ℕ) → from + len ≤ n → n < 2 ^ 63 → IsCut n from len 1 (λ i. from + i)
 IsCut-part n from len le fits = record {
   fewer = omega arith;
   within = λ i lt. omega arith;
@@ -91,6 +91,11 @@ module _ {A one : Type 0} (two : Type 0) (held : ℕ → Option A) (ns : List �
     same = cut-same;
     nested = λ _. nested-cut ns bs k len step h.as_many lt cut.fewer cut.near cut.moves;
   }
+
+-- the array that keeps `len` places side by side
+pub rearranges-part : {A one : Type 0} (two : Type 0) (held : ℕ → Option A) (ns : List ℕ) (start : ℕ) (bs : List ℕ) → Reaches one held ns start bs → (k : ℕ) → k < length ns → (from len : ℕ) → from + len ≤ get_or ns k 0
+    → Rearranges two ns start bs (set ns k len) ((start + (from * get_or bs k 0) % 2 ^ 64) % 2 ^ 64) (set bs k ((get_or bs k 0 * 1) % 2 ^ 64)) (λ js. set js k (from + get_or js k 0))
+rearranges-part two held ns start bs h k lt from len le = rearranges-cut two held ns start bs h k lt from len 1 (λ i. from + i) (IsCut-part (get_or ns k 0) from len le (length-fits ns k lt h.limit))
 
 -- of two cuts that keep different places of the axis, no index lists are one
 pub cuts-apart : (ns : List ℕ) (k : ℕ) → k < length ns → (len len' : ℕ) (at at' : ℕ → ℕ) → ((i j : ℕ) → i < len → j < len' → at i ≡ at' j → ⊥) → (is js : List ℕ) → InBox (set ns k len) is → InBox (set ns k len') js → set is k (at (get_or is k 0)) ≡ set js k (at' (get_or js k 0)) → ⊥

@@ -18,10 +18,10 @@ unfoldable pub below_first : ℕ → ℕ → ℕ
 below_first n b = cond (nat_eq (magnitude b) (b % 2 ^ 64)) 0 (reach n b)
 
 -- what each axis counts by its length and its stride, added up
-unfoldable pub total : (ℕ → ℕ → ℕ) → List ℕ → List ℕ → ℕ
-total count [] bs = 0
-total count (n ∷ ns) [] = 0
-total count (n ∷ ns) (b ∷ bs) = count n b + total count ns bs
+unfoldable pub sum_over_axes : (ℕ → ℕ → ℕ) → List ℕ → List ℕ → ℕ
+sum_over_axes count [] bs = 0
+sum_over_axes count (n ∷ ns) [] = 0
+sum_over_axes count (n ∷ ns) (b ∷ bs) = count n b + sum_over_axes count ns bs
 
 -- the reach of an axis whose stride is of size m at most, and 0 of any other
 abbrev pub reach_within : ℕ → ℕ → ℕ → ℕ
@@ -29,11 +29,11 @@ reach_within m n b = cond (nat_lt m (magnitude b)) 0 (reach n b)
 
 -- how far all axes together reach whose strides are of size m at most
 abbrev pub reached_within : ℕ → List ℕ → List ℕ → ℕ
-reached_within m ns bs = total (reach_within m) ns bs
+reached_within m ns bs = sum_over_axes (reach_within m) ns bs
 
 -- the stride of each axis longer than 1 is larger than the reach of all other axes together whose strides are not
 -- larger (so no two of these axes have strides of one size). And all axes together reach less than 2 ^ 63 far: places
 -- count modulo 2 ^ 64, and none comes round to another
 pub record AreNested (ns bs : List ℕ) : Type 0 where
   pub each : (k : ℕ) → k < length ns → 1 < slice_index ns k → reached_within (magnitude (slice_index bs k)) (remove ns k) (remove bs k) < magnitude (slice_index bs k)
-  pub near : total reach ns bs < 2 ^ 63
+  pub near : sum_over_axes reach ns bs < 2 ^ 63

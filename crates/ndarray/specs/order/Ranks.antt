@@ -48,12 +48,12 @@ row_from is axis zero = []
 row_from is axis (suc n) = is ∷ row_from (slice_set is axis (slice_index is axis + 1)) axis n
 
 -- the indices of a row are numbers of a word
-abbrev pub HasRoom : List ℕ → ℕ → ℕ → Type 0
-HasRoom first axis count = slice_index first axis + count < 2 ^ 64
+abbrev pub FitsOnAxis : List ℕ → ℕ → ℕ → Type 0
+FitsOnAxis first axis count = slice_index first axis + count < 2 ^ 64
 
 -- the first `count` of the index lists are a row, and the others stay
 pub record TakesRow (old new : List (List ℕ)) (first : List ℕ) (axis count : ℕ) : Type 0 where
   pub some : 0 < count
-  pub room : HasRoom first axis count
+  pub room : FitsOnAxis first axis count
   pub row : take count old ≡ row_from first axis count
   pub rest : new ≡ drop count old

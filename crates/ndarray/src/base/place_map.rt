@@ -5,7 +5,7 @@ ghost use Rattle.ndarray.specs.Grid.{cell, IsGrid};
 ghost use Rattle.ndarray.specs.Index.{InBox, size};
 ghost use Rattle.ndarray.specs.Limits.{IsWithinLimit};
 ghost use Rattle.ndarray.specs.base.Places.{place};
-ghost use Rattle.ndarray.specs.base.Nested.{magnitude, reach, total, forward_index, below_first, AreNested};
+ghost use Rattle.ndarray.specs.base.Nested.{magnitude, reach, sum_over_axes, forward_index, below_first, AreNested};
 ghost use Rattle.ndarray.specs.base.CellLayouts.{place_in};
 ghost use Rattle.ndarray.specs.base.Slots.{held_at};
 
@@ -68,7 +68,7 @@ impl<D: Lengths> Layout<D> {
         requires as_many { length (D.numbers self.now.strides) ≡ length (D.numbers self.now.dim) }
         requires some { 0 < size (D.numbers self.now.dim) }
         requires nested { AreNested (D.numbers self.now.dim) (D.numbers self.now.strides) }
-        ensures { result ≡ total below_first (D.numbers self.now.dim) (D.numbers self.now.strides) }
+        ensures { result ≡ sum_over_axes below_first (D.numbers self.now.dim) (D.numbers self.now.strides) }
     {
         let mut below_start = 0;
         for k in 0..self.dim.ndim() {

@@ -64,12 +64,12 @@ pub trait DataMut: Data {
 
     /// Has a writer write all cells of an array as one slice, where they are one in row order; else the
     /// writer comes back.
-    fn write_cells<D: Lengths, W: CellWriter<Self::Elem>>(
+    fn write_cells<D: Lengths, R, W: CellWriter<Self::Elem, R>>(
         array: &mut ArrayBase<Self, D>,
         writer: W,
-    ) -> Result<(), W>
+    ) -> Result<R, W>
         requires { W.can_write writer array.old.cells }
-        ensures done { IfOk result (λ _. (array.new.lengths ≡ array.old.lengths) × W.writes writer array.old.cells array.new.cells × IsGrid array.new) }
+        ensures done { IfOk result (λ r. (array.new.lengths ≡ array.old.lengths) × W.writes writer array.old.cells r array.new.cells × IsGrid array.new) }
         ensures back { IfErr result (λ w. (w ≡ writer) × (array.new ≡ array.old)) }
     {
         Err(writer)
@@ -85,18 +85,18 @@ pub trait DataMut: Data {
     ghost is_apart: { (s : Self) → Self.apart s };
 }
 
-/// What writes all elements of a slice.
-pub trait CellWriter<A>: Drop {
+/// What writes the elements of a slice, and answers an `R`.
+pub trait CellWriter<A, R>: Drop {
     // Whether it may write to a slice of these elements.
     ghost can_write: { Self → List A → Type 0 };
 
-    // Whether it may leave the second elements where the first were.
-    ghost writes: { Self → List A → List A → Type 0 };
+    // Whether it may give this answer and leave the second elements where the first were.
+    ghost writes: { Self → List A → R → List A → Type 0 };
 
     /// Writes them.
-    fn write(self, slice: &mut [A])
+    fn write(self, slice: &mut [A]) -> R
         requires { can_write self slice.old }
-        ensures { writes self slice.old slice.new };
+        ensures { writes self slice.old result slice.new };
 }
 
 /// What owns its elements.
@@ -224,10 +224,10 @@ impl<A: Drop> DataMut for OwnedRepr<A> {
         array.parts_mut().into_view()
     }
 
-    fn write_cells<D: Lengths, W: CellWriter<A>>(
+    fn write_cells<D: Lengths, R, W: CellWriter<A, R>>(
         array: &mut ArrayBase<Self, D>,
         writer: W,
-    ) -> Result<(), W> {
+    ) -> Result<R, W> {
         array.write_slice(writer)
     }
 

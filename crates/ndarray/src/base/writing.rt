@@ -41,9 +41,9 @@ impl<A: Drop, D: Lengths> Array<A, D> {
 
     /// Has a writer write all cells as one slice, where they lie side by side in row order; else the writer
     /// comes back.
-    pub(crate) fn write_slice<W: CellWriter<A>>(&mut self, writer: W) -> Result<(), W>
+    pub(crate) fn write_slice<R, W: CellWriter<A, R>>(&mut self, writer: W) -> Result<R, W>
         requires { W.can_write writer self.old.cells }
-        ensures done { IfOk result (λ _. (self.new.lengths ≡ self.old.lengths) × W.writes writer self.old.cells self.new.cells × IsGrid self.new) }
+        ensures done { IfOk result (λ r. (self.new.lengths ≡ self.old.lengths) × W.writes writer self.old.cells r self.new.cells × IsGrid self.new) }
         ensures back { IfErr result (λ w. (w ≡ writer) × (self.new ≡ self.old)) }
     {
         let len = self.layout.dim.size();
@@ -51,31 +51,30 @@ impl<A: Drop, D: Lengths> Array<A, D> {
             return Err(writer);
         }
         let items = self.storage.items.as_mut_slice();
-        write_part(items, self.layout.start, len, writer);
-        Ok(())
+        Ok(write_part(items, self.layout.start, len, writer))
     }
 }
 
 /// Has a writer write the `len` elements from `from` on.
-fn write_part<A, W: CellWriter<A>>(slice: &mut [A], from: usize, len: usize, writer: W)
+fn write_part<A, R, W: CellWriter<A, R>>(slice: &mut [A], from: usize, len: usize, writer: W) -> R
     requires within { from + len ≤ length slice.old }
     requires can { W.can_write writer (take len (drop from slice.old)) }
-    ensures { W.writes writer (take len (drop from slice.old)) (take len (drop from slice.new)) }
+    ensures { W.writes writer (take len (drop from slice.old)) result (take len (drop from slice.new)) }
 {
     let end = from + len;
-    writer.write(&mut slice[from..end]);
+    writer.write(&mut slice[from..end])
 }
 
 impl<S: DataMut, D: Lengths> ArrayBase<S, D> {
     /// Has a writer write all cells in an order as one slice, where they are one; else the writer comes back.
-    pub(crate) fn write_cells_in<W: CellWriter<S::Elem>>(
+    pub(crate) fn write_cells_in<R, W: CellWriter<S::Elem, R>>(
         &mut self,
         order: Order,
         writer: W,
-    ) -> Result<(), W>
+    ) -> Result<R, W>
         requires whole { IsGrid self.old }
         requires can { W.can_write writer (cells_in order self.old) }
-        ensures done { IfOk result (λ _. (self.new.lengths ≡ self.old.lengths) × W.writes writer (cells_in order self.old) (cells_in order self.new) × IsGrid self.new) }
+        ensures done { IfOk result (λ r. (self.new.lengths ≡ self.old.lengths) × W.writes writer (cells_in order self.old) r (cells_in order self.new) × IsGrid self.new) }
         ensures back { IfErr result (λ w. (w ≡ writer) × (self.new ≡ self.old)) }
     {
         match order {

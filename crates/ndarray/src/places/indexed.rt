@@ -6,7 +6,7 @@ ghost use Rattle.std.specs.Iterator.{YieldsFirstBy};
 ghost use Rattle.ndarray.specs.Limits.{IsWithinLimit};
 ghost use Rattle.ndarray.specs.Orders.{box_in};
 ghost use Rattle.ndarray.specs.base.Strided.{places_from};
-ghost use Rattle.ndarray.specs.order.Ranks.{row_from, HasRoom};
+ghost use Rattle.ndarray.specs.order.Ranks.{row_from, FitsOnAxis};
 ghost use Rattle.ndarray.specs.places.Lent.{with_places};
 
 use crate::base::dimension::Lengths;
@@ -43,7 +43,7 @@ impl<D: Lengths> IndexedRow<D> {
     /// The index lists of a row, the first of which lies at a place, and each other a stride after the one before.
     #[inline(always)]
     fn new(row: &Row<D>, place: usize, stride: usize) -> Self
-        requires { HasRoom (D.numbers row.now.first) row.now.axis row.now.count }
+        requires { FitsOnAxis (D.numbers row.now.first) row.now.axis row.now.count }
         ensures { result ≡ zip (row_from (D.numbers row.now.first) row.now.axis row.now.count) (places_from place stride row.now.count) }
     {
         let axis = row.axis;

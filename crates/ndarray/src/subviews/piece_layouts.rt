@@ -1,10 +1,13 @@
 //! Inside `subviews`: sub-views to write in that are still to come, taken out of one region one after
 //! another.
 
-ghost use Rattle.std.specs.Prelude.{◌≡◌, ◌≤◌, ◌++◌, List, [], ◌∷◌, length, take, drop, MatchOption, IfSome};
+ghost use Rattle.std.specs.Prelude.{◌≡◌, ◌≤◌, ◌++◌, List, [], ◌∷◌, length, take, drop, All, MatchOption, IfSome, ⊤};
 ghost use Rattle.std.specs.Iterator.{UpTo, YieldsFirst, YieldsLast, item_count};
 ghost use Rattle.std.specs.Iterator.SizeHint.{IsExactHint, IsWithinCount};
 ghost use Rattle.ndarray.specs.base.CellLayouts.{CellLayout, cell_layout};
+ghost use Rattle.ndarray.specs.base.Masks.{AreApart, Shares, grids_at};
+ghost use Rattle.ndarray.specs.base.Places.{Reaches, grid_at};
+ghost use Rattle.ndarray.specs.base.Slots.{held_at};
 
 use crate::base::array::{ArrayBase, ArrayViewMut};
 use crate::base::dimension::Lengths;
@@ -67,6 +70,22 @@ impl<'a, A, T: PieceLayouts> Model for PiecesIterMut<'a, A, T> {
     ghost invariant = { λ s. Shares (held_at s.region.slots) (T.layouts s.layouts) };
 }
 
+/// Takes the array that lies at `layout` out of a region: sub-views apart from it stay as they are.
+#[inline(always)]
+fn take_array<'a, A: 'a, D: Lengths>(
+    region: &mut RegionRepr<Life<'a>, A>,
+    layout: Layout<D>,
+) -> ArrayViewMut<'a, A, D>
+    requires { Reaches ⊤ (held_at region.old.slots) (D.numbers layout.dim) layout.start (D.numbers layout.strides) }
+    ensures value { result ≡ grid_at (held_at region.old.slots) (D.numbers layout.dim) layout.start (D.numbers layout.strides) }
+    ensures others { (rest : List CellLayout) → Shares (held_at region.old.slots) rest → All (AreApart (cell_layout (D.numbers layout.dim) layout.start (D.numbers layout.strides))) rest → Shares (held_at region.new.slots) rest × (grids_at (held_at region.new.slots) rest ≡ grids_at (held_at region.old.slots) rest) }
+{
+    let whole = replace(region, RegionRepr::of(&mut []));
+    let (storage, others) = whole.split(&layout);
+    *region = others;
+    ArrayBase { storage, layout }
+}
+
 impl<'a, A, T: PieceLayouts> Iterator for PiecesIterMut<'a, A, T> {
     type Item = ArrayViewMut<'a, A, T::Dim>;
 
@@ -79,10 +98,7 @@ impl<'a, A, T: PieceLayouts> Iterator for PiecesIterMut<'a, A, T> {
         let Some(layout) = self.layouts.next() else {
             return None;
         };
-        let whole = replace(&mut self.region, RegionRepr::of(&mut []));
-        let (storage, others) = whole.split(&layout);
-        self.region = others;
-        Some(ArrayBase { storage, layout })
+        Some(take_array(&mut self.region, layout))
     }
 
     fn size_hint(&self) -> (usize, Option<usize>)
@@ -108,10 +124,7 @@ impl<'a, A, T: PieceLayoutsFromEnds> DoubleEndedIterator for PiecesIterMut<'a, A
         let Some(layout) = self.layouts.next_back() else {
             return None;
         };
-        let whole = replace(&mut self.region, RegionRepr::of(&mut []));
-        let (storage, rest) = whole.split(&layout);
-        self.region = rest;
-        Some(ArrayBase { storage, layout })
+        Some(take_array(&mut self.region, layout))
     }
 }
 

@@ -96,11 +96,11 @@ struct Answers<P, F, C> {
     producer: PhantomData<P>,
 }
 
-impl<P: NdProducer, R: Drop, C: ItemCall<P::Item, Out = R>> CellWriter<R>
+impl<P: NdProducer, R: Drop, C: ItemCall<P::Item, Out = R>> CellWriter<R, ()>
     for Answers<P, P::Flat, C> {
     ghost can_write = { λ w xs. (p : P) × ((o : Order) × (P.flat_form p o w.flat × MayGather (P.yields_at p) C.call_gives C.can_call (box_in o (P.lengths p)) w.f × (size (P.lengths p) ≡ length xs))) };
 
-    ghost writes = { λ w xs ys. (p : P) (o : Order) → P.flat_form p o w.flat → Gathers (P.yields_at p) C.call_gives (box_in o (P.lengths p)) w.f ys };
+    ghost writes = { λ w xs _ ys. (p : P) (o : Order) → P.flat_form p o w.flat → Gathers (P.yields_at p) C.call_gives (box_in o (P.lengths p)) w.f ys };
 
     fn write(self, slice: &mut [R]) {
         let Answers {

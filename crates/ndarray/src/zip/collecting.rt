@@ -1,10 +1,11 @@
 //! Arrays of what a closure answers at the items of a producer.
 
-ghost use Rattle.std.specs.Prelude.{◌≡◌, IfOk, IsOk, length};
+ghost use Rattle.std.specs.Prelude.{◌≡◌, IfOk, IsOk, length, MatchResult};
 ghost use Rattle.ndarray.specs.Grid.{IsGrid};
 ghost use Rattle.ndarray.specs.Index.{size};
 ghost use Rattle.ndarray.specs.Orders.{box_in};
 ghost use Rattle.ndarray.specs.Runs.{MayGather, Collects};
+ghost use Rattle.ndarray.specs.Updates.{answers};
 
 use crate::base::array::Array;
 use crate::base::builder::ArrayBuilder;
@@ -12,16 +13,32 @@ use crate::order::Order;
 use crate::zip::calls::ItemCall;
 use crate::zip::producer::NdProducer;
 use std::alloc::{AllocError, Global};
+use std::marker::Model;
 
 /// The array that has at each index list what a closure answers at the item there, filled in an order.
 pub(crate) fn collect_items<P: NdProducer, R: Drop, C: ItemCall<P::Item, Out = R>>(
     alloc: Global,
     p: P,
     order: Order,
-    mut f: C,
+    f: C,
 ) -> Result<Array<R, P::Dim>, AllocError>
     requires callable { MayGather (P.yields_at p) C.call_gives C.can_call (box_in order (P.lengths p)) f }
     ensures ran { IfOk result (λ g. Collects (P.yields_at p) C.call_gives order (P.lengths p) f g) }
+    ensures axes { IfOk result (λ g. P.Dim.has_axes (length g.lengths)) }
+    ensures whole { IfOk result IsGrid }
+    ensures empty { size (P.lengths p) ≡ 0 → IsOk result }
+{
+    try_collect_items(alloc, p, order, NeverRefused(f))
+}
+
+/// The same of a closure that may refuse: the array where it answers `Ok` at each item, else its first refusal.
+pub(crate) fn try_collect_items<
+    P: NdProducer,
+    R: Drop,
+    C: ItemCall<P::Item, Out = Result<R, AllocError>>,
+>(alloc: Global, p: P, order: Order, mut f: C) -> Result<Array<R, P::Dim>, AllocError>
+    requires callable { MayGather (P.yields_at p) (answers C.call_gives) C.can_call (box_in order (P.lengths p)) f }
+    ensures ran { IfOk result (λ g. Collects (P.yields_at p) (answers C.call_gives) order (P.lengths p) f g) }
     ensures axes { IfOk result (λ g. P.Dim.has_axes (length g.lengths)) }
     ensures whole { IfOk result IsGrid }
     ensures empty { size (P.lengths p) ≡ 0 → IsOk result }
@@ -31,7 +48,7 @@ pub(crate) fn collect_items<P: NdProducer, R: Drop, C: ItemCall<P::Item, Out = R
         Ok(flat) => {
             let mut run = P::run_flat(flat);
             while let Some(y) = run.next() {
-                let r = f.call(y);
+                let r = f.call(y)?;
                 builder.push(r);
             }
             Ok(builder.finish())
@@ -39,10 +56,32 @@ pub(crate) fn collect_items<P: NdProducer, R: Drop, C: ItemCall<P::Item, Out = R
         Err(p) => {
             let mut run = p.run(order);
             while let Some(x) = run.next() {
-                let r = f.call(x);
+                let r = f.call(x)?;
                 builder.push(r);
             }
             Ok(builder.finish())
         }
+    }
+}
+
+/// A call that is never refused, as one that may be.
+#[derive(Drop)]
+struct NeverRefused<C>(C);
+
+impl<C> Model for NeverRefused<C> {
+    ghost Value = { C };
+
+    ghost view = { λ c. c.0 };
+}
+
+impl<X, C: ItemCall<X>> ItemCall<X> for NeverRefused<C> {
+    type Out = Result<C::Out, AllocError>;
+
+    ghost can_call = { λ c t. C.can_call c t };
+
+    ghost call_gives = { λ c t r d. MatchResult r (λ a. C.call_gives c t a d) (λ _. ⊥) };
+
+    fn call(&mut self, item: X) -> Result<C::Out, AllocError> {
+        Ok(self.0.call(item))
     }
 }

@@ -1,7 +1,7 @@
 //! What a row gives.
 
 use crate::rows::layouts::{Layout, Table};
-use crate::rows::{owned, reading, spelling, writing};
+use crate::rows::{operators, owned, reading, spelling, writing};
 use std::alloc::{AllocError, Global};
 
 /// What the calls of a row give on a layout of its table: `TABLE | CALL | ..`.
@@ -75,7 +75,7 @@ fn called(
 }
 
 /// The table of these words; `None` where they spell none.
-fn spelled(alloc: Global, words: &[&str], layout: Layout) -> Result<Option<Table>, AllocError> {
+pub fn spelled(alloc: Global, words: &[&str], layout: Layout) -> Result<Option<Table>, AllocError> {
     let Some((shape, cells)) = words.split_first() else {
         return Ok(None);
     };
@@ -106,6 +106,9 @@ fn begun(
 
 /// What calls give on a view of a table.
 fn read(alloc: Global, table: &Table, calls: &[&str]) -> Result<String, AllocError> {
+    if let Some(text) = operators::answer(alloc, table, calls)? {
+        return Ok(text);
+    }
     match table.view() {
         Ok(view) => reading::answer(alloc, view, calls),
         Err(error) => reading::kind(alloc, &error),

@@ -69,7 +69,7 @@ impl Calls {
 }
 
 /// The calls that make views, up to the first other one.
-fn views_spelled(alloc: Global, calls: &[&str]) -> Result<Vec<ViewCall>, AllocError> {
+pub fn views_spelled(alloc: Global, calls: &[&str]) -> Result<Vec<ViewCall>, AllocError> {
     let mut views = Vec::new(alloc);
     for call in calls {
         match ViewCall::of_text(alloc, *call)? {

@@ -27,6 +27,13 @@ pub fn array(alloc: Global) -> Result<Array<i64, Ix2>, Fail>
     Ok(Array::from_shape_vec((2, 3), Vec::from_slice(alloc, ROWS)?)?)
 }
 
+/// An array of the rows 1, 2 and 3, 4.
+pub fn square(alloc: Global) -> Result<Array<i64, Ix2>, Fail>
+    ensures { IfOk result (λ array. array.lengths ≡ 2 ∷ 2 ∷ []) }
+{
+    Ok(Array::from_shape_vec((2, 2), Vec::from_slice(alloc, &ROWS[..4])?)?)
+}
+
 /// An array of the numbers 1 to 6 along one axis.
 pub fn array_of_six(alloc: Global) -> Result<Array<i64, Ix1>, Fail>
     ensures { IfOk result (λ array. array.lengths ≡ 6 ∷ []) }

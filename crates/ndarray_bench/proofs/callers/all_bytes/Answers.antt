@@ -2,7 +2,7 @@ use Rattle.std.proofs.Common.{rules, ◌≡◌, ◌∙◌, ℕ, Bool, List, Some
 use Rattle.std.specs.List.{list_all}
 use Rattle.ndarray.specs.Grid.{cell, IsGrid}
 use Rattle.ndarray.specs.Orders.{box_in}
-use Rattle.ndarray.proofs.callers.Testing.{all-follows}
+use Rattle.ndarray.proofs.callers.Testing.{test-follows}
 use Rattle.ndarray.proofs.callers.RowOrder.{list_all-in_row_order, list_all-cells}
 use Rattle.ndarray_bench.specs.Callers.{passes}
 use Rattle.ndarray_bench.proofs.callers.all_bytes.Goals as goal
@@ -14,11 +14,12 @@ returns g c =
     let test : List ℕ → Bool = λ i. passes below (cell a i) in
     let first : c.from.result.nested ≡ a = c.from.ensures ∙ c.view.ensures.same in
     let (o, ran) = c.all.ensures.ran in
-    all-follows _ _ _ _ _ test c.all.result
+    test-follows _ _ _ _ _ test true
     (λ i k turn.
     let there : cell a i ≡ Some turn.0.now = rw first at turn.1 in
     let answer : true ≡ nat_lt turn.0.now 256 = search (rules, turn.2) in
     (search (rules, turn.2), ap (passes below) there ∙ sym answer))
+    c.all.result
     (λ i stop.
     let there : cell a i ≡ Some stop.0.now = rw first at stop.1 in
     let answer : false ≡ nat_lt stop.0.now 256 = search (rules, stop.2.1.1) in

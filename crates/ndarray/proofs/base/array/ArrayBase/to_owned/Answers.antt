@@ -33,7 +33,7 @@ returns-in_err-items-clause-empty g c = λ none.
 
 pub push-requires : goal.push-requires
 push-requires g c =
-    let all : c.into_iter-cell-iterator.result ≡ c.args.self.now.cells = cc in
+    let all : c.into_iter-cell-iterator.result ≡ c.args.self.now.cells = c.into_iter-cell-iterator.ensures.into_iter_gives ∙ (c.new-cell-items.ensures.cells ∙ ap (λ v. v.cells) c.view-2.ensures.same) in
     let room = IsClonedTo-room g.A.Clone.is_clone _ _ _ _ _ c.loop-cell.invariant.clones c.in-Some-cell.ensures.steps in
     let la = ap length all in
     let w = c.raw_dim-2.ensures.whole in
@@ -67,7 +67,7 @@ loop-cell-preserved g c =
 
 pub finish-requires : goal.finish-requires
 finish-requires g c =
-    let all : c.into_iter-cell-iterator.result ≡ c.args.self.now.cells = cc in
+    let all : c.into_iter-cell-iterator.result ≡ c.args.self.now.cells = c.into_iter-cell-iterator.ensures.into_iter_gives ∙ (c.new-cell-items.ensures.cells ∙ ap (λ v. v.cells) c.view-2.ensures.same) in
     let clones = IsClonedTo-all g.A.Clone.is_clone _ _ _ c.loop-cell.invariant.clones c.in-None.ensures.steps.0 in
     let l = length_all_zip g.A.Clone.is_clone _ _ clones in
     let la = ap length all in
@@ -78,7 +78,7 @@ finish-requires g c =
 
 pub returns-clause-cells : goal.returns-clause-cells
 returns-clause-cells g c =
-    let all : c.into_iter-cell-iterator.result ≡ c.args.self.now.cells = cc in
+    let all : c.into_iter-cell-iterator.result ≡ c.args.self.now.cells = c.into_iter-cell-iterator.ensures.into_iter_gives ∙ (c.new-cell-items.ensures.cells ∙ ap (λ v. v.cells) c.view-2.ensures.same) in
     let clones = IsClonedTo-all g.A.Clone.is_clone _ _ _ c.loop-cell.invariant.clones c.in-None.ensures.steps.0 in
     let order : c.loop-cell.builder.order ≡ RowMajor = c.loop-cell.invariant.order ∙ ap (λ f. f.order) c.in_ok-builder.ensures.room in
     let made : c.finish.result.cells ≡ c.loop-cell.builder.cells = sym (along-row_order c.finish.result c.finish.ensures.whole) ∙ (ap (λ o. cells_in o c.finish.result) (sym order) ∙ c.finish.ensures.list) in

@@ -1,9 +1,8 @@
 use Rattle.std.proofs.Common.{◌<◌, ◌≤◌, ◌+◌, arith, length, get_or, set, ap, refl, ◌∙◌}
 use Rattle.ndarray.specs.base.Places.{Rearranges}
 use Rattle.ndarray.specs.base.Storage.{seen_at}
-use Rattle.ndarray.proofs.views.Cuts.{IsCut-part, rearranges-cut}
+use Rattle.ndarray.proofs.views.Cuts.{rearranges-part}
 use Rattle.ndarray.proofs.strides.Reach.{length-cells_at}
-use Rattle.ndarray.proofs.boxes.Sizes.{length-fits}
 use Rattle.ndarray.proofs.views.Images.{Reaches-rearranged, grid-seen}
 use Rattle.ndarray.proofs.base.axes.ArrayView+A+D.part.Goals as goal
 
@@ -14,7 +13,7 @@ kept g c =
     let seen = ap (λ v. v.lengths) (c.part.view_is ∙ c.again-part.ensures.same) in
     let lt : c.args.axis < length ns = omega (arith, ap length seen, c.requires.axis) in
     let le : c.args.from + c.args.len ≤ get_or ns c.args.axis 0 = omega (arith, ap (λ ms. get_or ms c.args.axis 0) seen, c.requires.within) in
-    rw (c.cut.ensures.dim, c.cut.ensures.start, c.cut.ensures.strides) (rearranges-cut ⊥ _ ns a.start (g.D.Lengths.numbers a.strides) c.part.invariant c.args.axis lt c.args.from c.args.len 1 (λ i. c.args.from + i) (IsCut-part (get_or ns c.args.axis 0) c.args.from c.args.len le (length-fits ns c.args.axis lt c.part.invariant.limit)))
+    rw (c.cut.ensures.dim, c.cut.ensures.start, c.cut.ensures.strides) (rearranges-part ⊥ _ ns a.start (g.D.Lengths.numbers a.strides) c.part.invariant c.args.axis lt c.args.from c.args.len le)
 
 pub invariant_of-part : goal.invariant_of-part
 invariant_of-part g c = Reaches-rearranged (kept g c) _ (λ x. x) c.part.invariant

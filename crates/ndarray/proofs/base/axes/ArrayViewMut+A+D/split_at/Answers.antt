@@ -4,11 +4,10 @@ use Rattle.ndarray.specs.Index.{InBox}
 use Rattle.ndarray.specs.base.Places.{Rearranges}
 use Rattle.ndarray.specs.base.CellLayouts.{CellLayout, cell_layout}
 use Rattle.ndarray.specs.base.Slots.{held_at}
-use Rattle.ndarray.proofs.views.Cuts.{IsCut-part, rearranges-cut, cuts-apart}
+use Rattle.ndarray.proofs.views.Cuts.{rearranges-part, cuts-apart}
 use Rattle.ndarray.proofs.views.Images.{grid-seen}
 use Rattle.ndarray.proofs.strides.Reach.{length-cells_at}
 use Rattle.ndarray.proofs.regions.Masks.{SharesBoth, SharesBoth-images, one-reaches, one-seen, other-reaches, other-seen}
-use Rattle.ndarray.proofs.boxes.Sizes.{length-fits}
 use Rattle.ndarray.proofs.base.axes.ArrayViewMut+A+D.split_at.Goals as goal
 use Rattle.ndarray.proofs.base.axes.ArrayViewMut+A+D.split_at.Goals.{After-split-here}
 
@@ -19,9 +18,6 @@ module _ (g : _) (c : After-split-here g) where
 
   abbrev axis-len : ℕ
   axis-len = get_or (g.D.Lengths.numbers c.self.inside.layout.dim) c.args.axis.0 0
-
-  axis-fits : axis-len < 2 ^ 63
-  axis-fits = length-fits (g.D.Lengths.numbers c.self.inside.layout.dim) c.args.axis.0 axis-lt c.self.invariant.limit
 
   index-le : c.args.index ≤ axis-len
   index-le = omega (arith, ap (λ v. get_or v.lengths c.args.axis.0 0) c.self.view_is, c.requires.within)
@@ -36,13 +32,13 @@ module _ (g : _) (c : After-split-here g) where
   here-kept : Rearranges ⊤ (g.D.Lengths.numbers c.self.inside.layout.dim) c.self.inside.layout.start (g.D.Lengths.numbers c.self.inside.layout.strides) (g.D.Lengths.numbers c.cut.new.self.dim) c.cut.new.self.start (g.D.Lengths.numbers c.cut.new.self.strides) (λ js. set js c.args.axis.0 (0 + get_or js c.args.axis.0 0))
   here-kept =
       rw (c.cut.ensures.dim, c.cut.ensures.start, c.cut.ensures.strides, c.copied-first.ensures.dim, c.copied-first.ensures.start, c.copied-first.ensures.strides)
-      (rearranges-cut ⊤ (held_at c.self.inside.storage.slots) (g.D.Lengths.numbers c.self.inside.layout.dim) c.self.inside.layout.start (g.D.Lengths.numbers c.self.inside.layout.strides) c.self.invariant c.args.axis.0 axis-lt 0 c.args.index 1 (λ i. 0 + i) (IsCut-part axis-len 0 c.args.index (omega (arith, index-le)) axis-fits))
+      (rearranges-part ⊤ (held_at c.self.inside.storage.slots) (g.D.Lengths.numbers c.self.inside.layout.dim) c.self.inside.layout.start (g.D.Lengths.numbers c.self.inside.layout.strides) c.self.invariant c.args.axis.0 axis-lt 0 c.args.index (omega (arith, index-le)))
 
   rest-kept : Rearranges ⊤ (g.D.Lengths.numbers c.self.inside.layout.dim) c.self.inside.layout.start (g.D.Lengths.numbers c.self.inside.layout.strides) (g.D.Lengths.numbers c.cut-2.new.self.dim) c.cut-2.new.self.start (g.D.Lengths.numbers c.cut-2.new.self.strides) (λ js. set js c.args.axis.0 (c.args.index + get_or js c.args.axis.0 0))
   rest-kept =
       let l : c.axis-len.result - c.args.index ≡ axis-len - c.args.index = omega (arith, c.axis-len.ensures) in
       rw (c.cut-2.ensures.dim, c.cut-2.ensures.start, c.cut-2.ensures.strides, l)
-      (rearranges-cut ⊤ (held_at c.self.inside.storage.slots) (g.D.Lengths.numbers c.self.inside.layout.dim) c.self.inside.layout.start (g.D.Lengths.numbers c.self.inside.layout.strides) c.self.invariant c.args.axis.0 axis-lt c.args.index (axis-len - c.args.index) 1 (λ i. c.args.index + i) (IsCut-part axis-len c.args.index (axis-len - c.args.index) (omega (arith, index-le)) axis-fits))
+      (rearranges-part ⊤ (held_at c.self.inside.storage.slots) (g.D.Lengths.numbers c.self.inside.layout.dim) c.self.inside.layout.start (g.D.Lengths.numbers c.self.inside.layout.strides) c.self.invariant c.args.axis.0 axis-lt c.args.index (axis-len - c.args.index) (omega (arith, index-le)))
 
   differ : (is js : List ℕ) → InBox (g.D.Lengths.numbers c.cut.new.self.dim) is → InBox (g.D.Lengths.numbers c.cut-2.new.self.dim) js → set is c.args.axis.0 (0 + get_or is c.args.axis.0 0) ≡ set js c.args.axis.0 (c.args.index + get_or js c.args.axis.0 0) → ⊥
   differ =

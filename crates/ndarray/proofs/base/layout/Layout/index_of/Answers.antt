@@ -3,7 +3,7 @@ use Rattle.std.proofs.lemmas.List.{length-set, get_or-replicate, length-replicat
 use Rattle.std.proofs.lemmas.List.Sums.{sum_by-set}
 use Rattle.ndarray.specs.Index.{InBox}
 use Rattle.ndarray.specs.base.Places.{place}
-use Rattle.ndarray.specs.base.Nested.{magnitude, total, forward_index, below_first, AreNested}
+use Rattle.ndarray.specs.base.Nested.{magnitude, sum_over_axes, forward_index, below_first, AreNested}
 use Rattle.ndarray.proofs.boxes.Boxes.{InBox-some}
 use Rattle.ndarray.proofs.strides.IndexOfPlace.{Sought, nested-known, sought-first, sought-below, sought-next, sought-last}
 use Rattle.ndarray.proofs.base.layout.Layout.index_of.Goals as goal
@@ -28,7 +28,7 @@ loop-k-init g c =
       each = λ is b at.
           let s = sought-first ns bs (g.D.Lengths.numbers c.zeros-index.result) is c.args.self.now.start c.args.at c.requires.as_many nested (omega arith) b at
           (λ k lt. ap (λ xs. get_or xs k 0) c.zeros-index.ensures ∙ get_or-replicate c.ndim.result k 0 0 (omega (arith, lt, n, ln))) in
-          let d : ((c.args.at + (2 ^ 64 - c.args.self.now.start)) % 2 ^ 64 + total below_first ns bs) % 2 ^ 64 ≡ ((c.args.at + (2 ^ 64 - c.args.self.now.start)) % 2 ^ 64 + c.below_start.result) % 2 ^ 64 = ap (λ x. ((c.args.at + (2 ^ 64 - c.args.self.now.start)) % 2 ^ 64 + x) % 2 ^ 64) (sym c.below_start.ensures) in
+          let d : ((c.args.at + (2 ^ 64 - c.args.self.now.start)) % 2 ^ 64 + sum_over_axes below_first ns bs) % 2 ^ 64 ≡ ((c.args.at + (2 ^ 64 - c.args.self.now.start)) % 2 ^ 64 + c.below_start.result) % 2 ^ 64 = ap (λ x. ((c.args.at + (2 ^ 64 - c.args.self.now.start)) % 2 ^ 64 + x) % 2 ^ 64) (sym c.below_start.ensures) in
           subst (λ ms. Sought ns bs ms (((c.args.at + (2 ^ 64 - c.args.self.now.start)) % 2 ^ 64 + c.below_start.result) % 2 ^ 64) (g.D.Lengths.numbers c.zeros-index.result) is) (sym e)
           (subst (λ r. Sought ns bs ns r (g.D.Lengths.numbers c.zeros-index.result) is) d s);
     }

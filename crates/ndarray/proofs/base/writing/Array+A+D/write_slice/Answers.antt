@@ -64,4 +64,4 @@ returns-clause-done g c =
     slice-part ws start len k (omega arith) lt ∙ (slice_get-get_or ws (start + k) x.0 (omega arith) ∙ sym (refilled-at ws xs a.storage.items.len (start + k) x.0 a.storage.items.ok.0 x.1)) in
     let cells = side-cells after ns start (g.D.Lengths.numbers a.layout.strides) reaches beside (take len (drop start ws)) len c.size-len.ensures long each in
     let before : take len (drop start c.as_mut_slice-items.result.now) ≡ c.args.self.now.cells = rw c.as_mut_slice-items.ensures.value (part c.self.inside.storage.items.items _ _ _ c.self.invariant (c.if-not-is_row_major.ensures.places.0 refl) (omega (arith, c.size-len.ensures)) c.size-len.result c.size-len.ensures) ∙ ap (λ v. v.cells) c.self.view_is in
-    (ap (λ v. v.lengths) c.self.view_is, subst (g.W.CellWriter.writes c.args.writer c.args.self.now.cells) cells (subst (λ l. g.W.CellWriter.writes c.args.writer l (take len (drop start ws))) before c.write_part.ensures), length-cells_at _ _ _ _ reaches)
+    (ap (λ v. v.lengths) c.self.view_is, subst (g.W.CellWriter.writes c.args.writer c.args.self.now.cells c.write_part.result) cells (subst (λ l. g.W.CellWriter.writes c.args.writer l c.write_part.result (take len (drop start ws))) before c.write_part.ensures), length-cells_at _ _ _ _ reaches)

@@ -5,7 +5,7 @@ use Rattle.ndarray.proofs.cells.Cells.{HasCells-box_in, cells_in-HasInOrder, len
 use Rattle.ndarray.proofs.boxes.Orders.{box_in-within, length-box_in}
 use Rattle.ndarray.proofs.boxes.Sizes.{size-le}
 use Rattle.ndarray.proofs.iter.elements.ElementsBase.in_order.Goals as goal
-use Rattle.ndarray.proofs.iter.elements.ElementsBase.in_order.Goals.{After-new-walk, After-no_cells}
+use Rattle.ndarray.proofs.iter.elements.ElementsBase.in_order.Goals.{After-no_cells}
 
 walked : (g : _) (c : After-no_cells g) → c.new-walk.result ≡ box_in c.args.order c.args.v.lengths
 walked g c = c.new-walk.ensures.list ∙ ap (box_in c.args.order) c.raw_dim.ensures.lengths

@@ -1,33 +1,19 @@
-use Rattle.std.proofs.Common.{List, [], ◌∷◌, sym, ◌∙◌, ap, subst}
-use Rattle.std.proofs.lemmas.List.{map-append}
-use Rattle.ndarray.specs.base.Places.{grid_at}
-use Rattle.ndarray.specs.base.Masks.{Shares, grids_at}
-use Rattle.ndarray.specs.base.CellLayouts.{CellLayout, cell_layout}
+use Rattle.std.proofs.Common.{sym, ◌∙◌}
 use Rattle.ndarray.specs.base.Slots.{held_at}
-use Rattle.ndarray.proofs.regions.Masks.{SharesBoth, SharesBoth-back, SharesBoth-parts, Shares-slots_outside, one-reaches, one-seen, grids-slots_outside}
+use Rattle.ndarray.proofs.regions.Masks.{SharesBoth-last, grids_at-last, one-of, apart-of}
 use Rattle.ndarray.proofs.subviews.piece_layouts.PiecesIterMutDoubleEndedIterator.next_back.Goals as goal
 
-module _ (g : _) (c : goal.After-drop-self-inside g) where
-  -- where the last one lies, and the others
-  abbrev here : CellLayout
-  here = cell_layout (g.T.Dim.Lengths.numbers c.in-Some.layout.dim) c.in-Some.layout.start (g.T.Dim.Lengths.numbers c.in-Some.layout.strides)
-
-  abbrev rest : List CellLayout
-  rest = g.T.PieceLayouts.layouts c.next_back.new.self
-
-  both : SharesBoth (held_at c.self.inside.region.slots) (here ∷ []) rest
-  both = SharesBoth-back _ rest (here ∷ []) (SharesBoth-parts _ rest (here ∷ []) (subst (Shares (held_at c.self.inside.region.slots)) c.in-Some.ensures c.self.invariant))
-
-pub invariant_of-result : goal.invariant_of-result
-invariant_of-result g c = rw (c.split-storage.ensures.first, c.replace-whole.ensures.value) (one-reaches c.self.inside.region.slots (here g c) (rest g c) (both g c))
+pub take_array-requires : goal.take_array-requires
+take_array-requires g c = one-of _ _ _ (SharesBoth-last _ _ _ _ c.in-Some.ensures c.self.invariant)
 
 pub invariant_of-self-2 : goal.invariant_of-self-2
-invariant_of-self-2 g c = rw (c.split-storage.ensures.second, c.replace-whole.ensures.value) (Shares-slots_outside c.self.inside.region.slots (here g c ∷ []) (rest g c) (both g c))
+invariant_of-self-2 g c =
+    let both = SharesBoth-last _ _ _ _ c.in-Some.ensures c.self.invariant in
+    (c.take_array.ensures.others _ both.second (apart-of _ _ _ both)).0
 
 pub returns-clause-steps : goal.returns-clause-steps
 returns-clause-steps g c =
-    let a = one-seen c.self.inside.region.slots (here g c) (rest g c) (both g c) in
-    let b = grids-slots_outside c.self.inside.region.slots (here g c ∷ []) (rest g c) (both g c) in
-    let d = map-append (λ (s : CellLayout). grid_at (held_at c.self.inside.region.slots) s.lengths s.start s.strides) (rest g c) (here g c ∷ []) in
-    rw (c.split-storage.ensures.first, c.split-storage.ensures.second, c.replace-whole.ensures.value)
-    (sym c.self.view_is ∙ (ap (grids_at (held_at c.self.inside.region.slots)) c.in-Some.ensures ∙ (cc)))
+    let both = SharesBoth-last _ _ _ _ c.in-Some.ensures c.self.invariant in
+    let others = (c.take_array.ensures.others _ both.second (apart-of _ _ _ both)).1 in
+    let value = c.take_array.ensures.value in
+    sym c.self.view_is ∙ (grids_at-last (held_at c.self.inside.region.slots) _ _ _ c.in-Some.ensures ∙ (cc))

@@ -2,20 +2,18 @@ use Rattle.std.proofs.Common.{◌<◌, ◌≤◌, ◌+◌, arith, length, get_or
 use Rattle.ndarray.specs.base.Places.{Rearranges}
 use Rattle.ndarray.specs.base.Storage.{seen_at}
 use Rattle.ndarray.proofs.cells.Cells.{arranged-whole}
-use Rattle.ndarray.proofs.views.Cuts.{IsCut-part, rearranges-cut}
-use Rattle.ndarray.proofs.pieces.Pieces.{positions-reach, some-reach, some-seen}
-use Rattle.ndarray.proofs.boxes.Sizes.{length-fits}
+use Rattle.ndarray.proofs.pieces.Pieces.{some-reach, some-seen}
+use Rattle.ndarray.proofs.pieces.SomePieces.{positions-cut}
 use Rattle.ndarray.proofs.subviews.pieces.Pieces.part.Goals as goal
 
 kept : (g : _) (c : goal.After-cut g) → Rearranges ⊥ (g.P.Lengths.numbers c.part.inside.positions.dim) c.part.inside.positions.start (g.P.Lengths.numbers c.part.inside.positions.strides) (g.P.Lengths.numbers c.cut.new.self.dim) c.cut.new.self.start (g.P.Lengths.numbers c.cut.new.self.strides) (λ js. set js c.args.axis (c.args.from + get_or js c.args.axis 0))
 kept g c =
     let a = c.part.inside.positions in
     let ps = g.P.Lengths.numbers a.dim in
-    let steps = g.P.Lengths.numbers a.strides in
     let seen = ap (λ v. v.lengths) (c.part.view_is ∙ c.again-part.ensures) in
     let lt : c.args.axis < length ps = omega (arith, ap length seen, c.requires.axis) in
     let le : c.args.from + c.args.len ≤ get_or ps c.args.axis 0 = omega (arith, ap (λ ms. get_or ms c.args.axis 0) seen, c.requires.within) in
-    rw (c.cut.ensures.dim, c.cut.ensures.start, c.cut.ensures.strides) (rearranges-cut ⊥ _ ps a.start steps (positions-reach ps a.start steps c.part.invariant.as_many c.part.invariant.limit) c.args.axis lt c.args.from c.args.len 1 (λ i. c.args.from + i) (IsCut-part (get_or ps c.args.axis 0) c.args.from c.args.len le (length-fits ps c.args.axis lt c.part.invariant.limit)))
+    positions-cut ps a.start (g.P.Lengths.numbers a.strides) c.part.invariant.as_many c.part.invariant.limit c.args.axis lt c.args.from c.args.len le _ _ _ c.cut.ensures.dim c.cut.ensures.start c.cut.ensures.strides
 
 pub invariant_of-part : goal.invariant_of-part
 invariant_of-part g c = some-reach (kept g c) _ _ _ c.part.invariant

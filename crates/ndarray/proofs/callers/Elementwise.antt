@@ -1,0 +1,79 @@
+-- Operators between arrays of the same lengths, and between an array and a row.
+use Rattle.std.proofs.Common.{◌≡◌, ◌∙◌, ℕ, List, [], ◌∷◌, Some, ap, subst, sym}
+use Rattle.ndarray.specs.Broadcast.{BroadcastsTo, broadcast_lengths}
+use Rattle.ndarray.specs.Elementwise.{Assigns, CanAssign, CanCombine, Combines}
+use Rattle.ndarray.specs.Grid.{Grid, IsGrid, arranged, cell}
+use Rattle.ndarray.specs.Index.{InBox}
+use Rattle.ndarray.specs.Limits.{IsWithinLimit}
+use Rattle.ndarray.specs.Updates.{is_pair_of_cells}
+use Rattle.ndarray.specs.Views.{broadcast_to}
+use Rattle.ndarray.proofs.cells.Cells.{arranged-cell, arranged-whole, cell-inside, cell-Some, same_grid}
+use Rattle.ndarray.proofs.views.BroadcastLengths.{broadcasts-itself, lengths-stretched, together-stretched}
+use Rattle.ndarray.proofs.views.OwnLengths.{broadcast_to-own, broadcast_to-row, broadcasts-row}
+
+-- an array that has at each index list what a function answers there
+pub arranged-by : {C : Type 0} (r : Grid C) (ns : List ℕ) (f : List ℕ → C) → IsGrid r → r.lengths ≡ ns → ((is : List ℕ) (z : C) → cell r is ≡ Some z → z ≡ f is) → r ≡ arranged ns f
+arranged-by r ns f whole e at =
+    same_grid r (arranged ns f) whole (arranged-whole ns f) e
+    (λ is b.
+    let (z, there) = cell-Some r whole is b in
+    there ∙ (ap (λ v. Some v) (at is z there) ∙ sym (arranged-cell ns f is (subst (λ ms. InBox ms is) e b))))
+
+-- Two arrays of the same lengths.
+module _ {A B : Type 0} (g : Grid A) (h : Grid B) (left_whole : IsGrid g) (right_whole : IsGrid h) (same : g.lengths ≡ h.lengths) where
+  lengths-same : broadcast_lengths g.lengths h.lengths ≡ g.lengths
+  lengths-same = lengths-stretched g.lengths h.lengths (subst (λ ms. BroadcastsTo ms g.lengths) same (broadcasts-itself g.lengths))
+
+  left-own : (is : List ℕ) → cell (broadcast_to g (broadcast_lengths g.lengths h.lengths)) is ≡ cell g is
+  left-own is = ap (λ ms. cell (broadcast_to g ms) is) lengths-same ∙ ap (λ v. cell v is) (broadcast_to-own g left_whole)
+
+  right-own : (is : List ℕ) → cell (broadcast_to h (broadcast_lengths g.lengths h.lengths)) is ≡ cell h is
+  right-own is = ap (λ ms. cell (broadcast_to h ms) is) (lengths-same ∙ same) ∙ ap (λ v. cell v is) (broadcast_to-own h right_whole)
+
+  -- what an operator requires, of an operation that is defined on the two cells at each index list
+  pub can-combine : (can : A → B → Type 0) → IsWithinLimit g.lengths → ((is : List ℕ) (x : A) (y : B) → cell g is ≡ Some x → cell h is ≡ Some y → can x y) → CanCombine g h can
+  can-combine can limit each = record {
+    shapes = together-stretched g.lengths h.lengths (subst (λ ms. BroadcastsTo ms g.lengths) same (broadcasts-itself g.lengths)) limit;
+    defined = λ is x y there. each is x y (sym (left-own is) ∙ there.left) (sym (right-own is) ∙ there.right);
+  }
+
+  -- the array that an operator returns has these lengths, and at each index list what a function answers that the operation computes
+  pub combined : {C : Type 0} (gives : A → B → C → Type 0) (r : Grid C) (f : List ℕ → C) → ((is : List ℕ) (x : A) (y : B) (z : C) → cell g is ≡ Some x → cell h is ≡ Some y → gives x y z → z ≡ f is)
+      → Combines g h gives r → r ≡ arranged g.lengths f
+  combined gives r f each c =
+      arranged-by r g.lengths f c.whole (c.lengths ∙ lengths-same)
+      (λ is z there.
+      let (x, y, at, given) = c.cells is z there in
+      each is x y z (sym (left-own is) ∙ at.left) (sym (right-own is) ∙ at.right) given)
+
+-- An array, and a row: one that has its lengths without the first.
+module _ {A B : Type 0} (g : Grid A) (h : Grid B) (whole : IsGrid h) (n : ℕ) (long : g.lengths ≡ n ∷ h.lengths) where
+  below : (i : ℕ) (js : List ℕ) (x : A) (y : B) → is_pair_of_cells g h (i ∷ js) (x, y) → cell h js ≡ Some y
+  below i js x y p =
+      let b : InBox (n ∷ h.lengths) (i ∷ js) = subst (λ ns. InBox ns (i ∷ js)) long (cell-inside g (i ∷ js) x p.0) in
+      sym (ap (λ ns. cell (broadcast_to h ns) (i ∷ js)) long ∙ broadcast_to-row n h whole i js b) ∙ p.1
+
+  defined-below : (can : A → B → Type 0) → ((i : ℕ) (js : List ℕ) (x : A) (y : B) → cell g (i ∷ js) ≡ Some x → cell h js ≡ Some y → can x y)
+      → (is : List ℕ) (x : A) (y : B) → is_pair_of_cells g h is (x, y) → can x y
+  defined-below can each [] x y p = absurd (subst (λ ns. InBox ns []) long (cell-inside g [] x p.0))
+  defined-below can each (i ∷ js) x y p = each i js x y p.0 (below i js x y p)
+
+  -- what an assigning operator requires, of an operation that is defined on each cell and the row's cell below it
+  pub can-assign-row : (can : A → B → Type 0) → ((i : ℕ) (js : List ℕ) (x : A) (y : B) → cell g (i ∷ js) ≡ Some x → cell h js ≡ Some y → can x y) → CanAssign can g h
+  can-assign-row can each = record { shapes = subst (BroadcastsTo h.lengths) (sym long) (broadcasts-row n h.lengths); defined = defined-below can each }
+
+  given-below : (gives : A → B → A → Type 0) (f : List ℕ → A)
+      → ((i : ℕ) (js : List ℕ) (x : A) (y : B) (z : A) → cell g (i ∷ js) ≡ Some x → cell h js ≡ Some y → gives x y z → z ≡ f (i ∷ js))
+      → (is : List ℕ) (x : A) (y : B) (z : A) → is_pair_of_cells g h is (x, y) → gives x y z → z ≡ f is
+  given-below gives f each [] x y z p given = absurd (subst (λ ns. InBox ns []) long (cell-inside g [] x p.0))
+  given-below gives f each (i ∷ js) x y z p given = each i js x y z p.0 (below i js x y p) given
+
+  -- the array that it leaves has at each index list what a function answers that the operation computes
+  pub assigned-row : (gives : A → B → A → Type 0) (new : Grid A) (f : List ℕ → A)
+      → ((i : ℕ) (js : List ℕ) (x : A) (y : B) (z : A) → cell g (i ∷ js) ≡ Some x → cell h js ≡ Some y → gives x y z → z ≡ f (i ∷ js))
+      → Assigns gives g h new → new ≡ arranged g.lengths f
+  assigned-row gives new f each c =
+      arranged-by new g.lengths f c.whole c.lengths
+      (λ is z there.
+      let (x, y, at, given) = c.cells is z there in
+      given-below gives f each is x y z at given)

@@ -1,0 +1,50 @@
+-- Arrays whose cells calls made of the cells of others.
+use Rattle.std.proofs.Common.{◌≡◌, ◌∙◌, List, ℕ, Some, subst}
+use Rattle.ndarray.specs.Broadcast.{broadcast_lengths}
+use Rattle.ndarray.specs.Elementwise.{AreCellsAt, Assigns, Combines, Maps}
+use Rattle.ndarray.specs.Grid.{Grid, IsGrid, cell}
+use Rattle.ndarray.specs.Index.{InBox}
+use Rattle.ndarray.specs.Runs.{Collects}
+use Rattle.ndarray.specs.Updates.{is_pair_of_cells}
+use Rattle.ndarray.specs.declared.base.shape.Order.{Order}
+use Rattle.ndarray.proofs.cells.Cells.{cell-inside}
+use Rattle.ndarray.proofs.cells.CollectedCells.{Collects-at}
+
+module _ {F X R : Type 0} (yields_at : List ℕ → X → Type 0) (call_gives : F → X → R → F → Type 0) (Known : F → Type 0)
+    (keeps : (f : F) (x : X) (r : R) (h : F) → Known f → call_gives f x r h → Known h) (o : Order) (f : F) (known : Known f) (r : Grid R) (whole : IsGrid r) where
+  -- of one
+  pub maps-of : {A : Type 0} (g : Grid A) (cell_of : X → A) (gives : A → R → Type 0) → ((i : List ℕ) (x : X) → yields_at i x → cell g i ≡ Some (cell_of x))
+      → ((f : F) (x : X) (z : R) (h : F) → Known f → call_gives f x z h → gives (cell_of x) z) → (ns : List ℕ) → ns ≡ g.lengths → Collects yields_at call_gives o ns f r → Maps gives g r
+  maps-of g cell_of gives at each ns same c = record {
+    lengths = c.lengths ∙ same;
+    whole = whole;
+    cells = λ is z e.
+        let k = Collects-at yields_at call_gives Known keeps o ns f r known c is (subst (λ ms. InBox ms is) c.lengths (cell-inside r is z e)) z e in
+        (cell_of k.item, at is k.item k.yielded, each k.before k.item z k.after k.known k.given);
+  }
+
+  -- of two broadcast together
+  pub combines-of : {A B : Type 0} (g : Grid A) (h : Grid B) (left_of : X → A) (right_of : X → B) (gives : A → B → R → Type 0)
+      → ((i : List ℕ) (x : X) → yields_at i x → AreCellsAt g h i (left_of x) (right_of x))
+      → ((f : F) (x : X) (z : R) (k : F) → Known f → call_gives f x z k → gives (left_of x) (right_of x) z)
+      → (ns : List ℕ) → ns ≡ broadcast_lengths g.lengths h.lengths → Collects yields_at call_gives o ns f r → Combines g h gives r
+  combines-of g h left_of right_of gives at each ns same c = record {
+    lengths = c.lengths ∙ same;
+    whole = whole;
+    cells = λ is z e.
+        let k = Collects-at yields_at call_gives Known keeps o ns f r known c is (subst (λ ms. InBox ms is) c.lengths (cell-inside r is z e)) z e in
+        (left_of k.item, right_of k.item, at is k.item k.yielded, each k.before k.item z k.after k.known k.given);
+  }
+
+  -- of one and another that is broadcast to its lengths
+  pub assigns-of : {B : Type 0} (g : Grid R) (h : Grid B) (right_of : X → B) (left_of : X → R) (gives : R → B → R → Type 0)
+      → ((i : List ℕ) (x : X) → yields_at i x → is_pair_of_cells g h i (left_of x, right_of x))
+      → ((f : F) (x : X) (z : R) (k : F) → Known f → call_gives f x z k → gives (left_of x) (right_of x) z)
+      → (ns : List ℕ) → ns ≡ g.lengths → Collects yields_at call_gives o ns f r → Assigns gives g h r
+  assigns-of g h right_of left_of gives at each ns same c = record {
+    lengths = c.lengths ∙ same;
+    whole = whole;
+    cells = λ is z e.
+        let k = Collects-at yields_at call_gives Known keeps o ns f r known c is (subst (λ ms. InBox ms is) c.lengths (cell-inside r is z e)) z e in
+        (left_of k.item, right_of k.item, at is k.item k.yielded, each k.before k.item z k.after k.known k.given);
+  }

@@ -1,0 +1,256 @@
+//! What the operators call: each way of computing stands here once, for all operations.
+
+ghost use Rattle.std.specs.Prelude.{◌≡◌, length, ⊤};
+ghost use Rattle.ndarray.specs.Broadcast.{BroadcastTogether, broadcast_lengths};
+ghost use Rattle.ndarray.specs.Elementwise.{CanCombine, CanMap, ClonesAreEqual, MakesCombined, MakesMapped, UpdatesCombined, UpdatesMapped};
+
+use crate::base::array::{Array, ArrayBase};
+use crate::base::broadcast::co_broadcast;
+use crate::base::dim_max::DimMax;
+use crate::base::dimension::{Dimension, Lengths};
+use crate::base::storage::Data;
+use crate::ops::calls::{CellOperation, IntoLeft, IntoRight, OnBoth, OnEach, WithLeft};
+use crate::ops::operations::Operation;
+use crate::zip::collecting::try_collect_items;
+use crate::zip::pair::Pair;
+use crate::zip::producer::{IntoBroadcast, preferred_order};
+use crate::zip::units::Units;
+use crate::zip::updating::try_update;
+use std::alloc::{AllocError, Global};
+use std::marker::PhantomData;
+
+/// The array of what an operation gives on the cells of two arrays broadcast together.
+pub(crate) fn combined<O, A, B, S, S2, D, E>(
+    alloc: Global,
+    left: &ArrayBase<S, D>,
+    right: &ArrayBase<S2, E>,
+) -> Result<Array<O::Output, <D as DimMax<E>>::Output>, AllocError>
+where
+    O: Operation<A, B>,
+    O::Output: Drop,
+    A: Clone + Drop,
+    B: Clone + Drop,
+    S: Data<Elem = A>,
+    S2: Data<Elem = B>,
+    D: Dimension + DimMax<E>,
+    E: Dimension,
+    requires can { CanCombine left.now right.now O.can_apply }
+    requires left_clones { ClonesAreEqual A.is_clone }
+    requires right_clones { ClonesAreEqual B.is_clone }
+    ensures { MakesCombined O.apply_gives left.now right.now result }
+{
+    let dim = broadcast_dim(left, right);
+    combined_at::<O, A, B, _, _, D, E, _>(alloc, left, right, dim)
+}
+
+/// The same into the cells of the left array, where it has the result's lengths.
+pub(crate) fn combined_into_left<O, A, B, S2, D, E>(
+    left: Array<A, D>,
+    right: &ArrayBase<S2, E>,
+) -> Result<Array<A, <D as DimMax<E>>::Output>, AllocError>
+where
+    O: Operation<A, B, Output = A>,
+    A: Clone + Drop,
+    B: Clone + Drop,
+    S2: Data<Elem = B>,
+    D: Dimension + DimMax<E>,
+    E: Dimension,
+    requires can { CanCombine left right.now O.can_apply }
+    requires left_clones { ClonesAreEqual A.is_clone }
+    requires right_clones { ClonesAreEqual B.is_clone }
+    ensures { UpdatesCombined O.apply_gives A.is_infallible B.is_infallible left.lengths left right.now result }
+{
+    let dim = broadcast_dim(&left, right);
+    if dim.slice() != left.shape() {
+        return combined_at::<O, A, B, _, _, D, E, _>(left.allocator(), &left, right, dim);
+    }
+    let Ok(mut cells) = left.into_dimensionality() else {
+        unreachable!()
+    };
+    let call: IntoLeft<O> = IntoLeft(PhantomData);
+    match try_update(&mut cells, right.into_broadcast(dim), call) {
+        Ok(()) => Ok(cells),
+        Err(refused) => Err(refused),
+    }
+}
+
+/// The same into the cells of the right array, where it has the result's lengths.
+pub(crate) fn combined_into_right<O, A, B, S, D, E>(
+    left: &ArrayBase<S, D>,
+    right: Array<B, E>,
+) -> Result<Array<B, <E as DimMax<D>>::Output>, AllocError>
+where
+    O: Operation<A, B, Output = B>,
+    A: Clone + Drop,
+    B: Clone + Drop,
+    S: Data<Elem = A>,
+    D: Dimension,
+    E: Dimension + DimMax<D>,
+    requires can { CanCombine left.now right O.can_apply }
+    requires left_clones { ClonesAreEqual A.is_clone }
+    requires right_clones { ClonesAreEqual B.is_clone }
+    ensures { UpdatesCombined O.apply_gives A.is_infallible B.is_infallible right.lengths left.now right result }
+{
+    let dim = broadcast_dim_of_right(left, &right);
+    if dim.slice() != right.shape() {
+        return combined_at::<O, A, B, _, _, D, E, _>(right.allocator(), left, &right, dim);
+    }
+    let Ok(mut cells) = right.into_dimensionality() else {
+        unreachable!()
+    };
+    let call: IntoRight<O> = IntoRight(PhantomData);
+    match try_update(&mut cells, left.into_broadcast(dim), call) {
+        Ok(()) => Ok(cells),
+        Err(refused) => Err(refused),
+    }
+}
+
+/// The lengths of two arrays broadcast together.
+fn broadcast_dim<S, S2, D, E>(
+    left: &ArrayBase<S, D>,
+    right: &ArrayBase<S2, E>,
+) -> <D as DimMax<E>>::Output
+where
+    S: Data,
+    S2: Data,
+    D: Dimension + DimMax<E>,
+    E: Dimension,
+    requires { BroadcastTogether left.now.lengths right.now.lengths }
+    ensures lengths { D.Output.numbers result ≡ broadcast_lengths left.now.lengths right.now.lengths }
+    ensures axes { D.Output.has_axes (length (broadcast_lengths left.now.lengths right.now.lengths)) }
+{
+    let lengths: Option<<D as DimMax<E>>::Output> = co_broadcast(&left.raw_dim(), &right.raw_dim());
+    let Some(dim) = lengths else { unreachable!() };
+    dim
+}
+
+/// The same as the right array's dimension broadcasts.
+fn broadcast_dim_of_right<S, S2, D, E>(
+    left: &ArrayBase<S, D>,
+    right: &ArrayBase<S2, E>,
+) -> <E as DimMax<D>>::Output
+where
+    S: Data,
+    S2: Data,
+    D: Dimension,
+    E: Dimension + DimMax<D>,
+    requires { BroadcastTogether left.now.lengths right.now.lengths }
+    ensures lengths { E.Output.numbers result ≡ broadcast_lengths left.now.lengths right.now.lengths }
+    ensures axes { E.Output.has_axes (length (broadcast_lengths left.now.lengths right.now.lengths)) }
+{
+    let lengths: Option<<E as DimMax<D>>::Output> = co_broadcast(&left.raw_dim(), &right.raw_dim());
+    let Some(dim) = lengths else { unreachable!() };
+    dim
+}
+
+/// The same as `combined`, at the lengths of the result.
+fn combined_at<O, A, B, S, S2, D, E, R>(
+    alloc: Global,
+    left: &ArrayBase<S, D>,
+    right: &ArrayBase<S2, E>,
+    dim: R,
+) -> Result<Array<O::Output, R>, AllocError>
+where
+    O: Operation<A, B>,
+    O::Output: Drop,
+    A: Clone + Drop,
+    B: Clone + Drop,
+    S: Data<Elem = A>,
+    S2: Data<Elem = B>,
+    D: Dimension,
+    E: Dimension,
+    R: Dimension,
+    requires lengths { R.numbers dim ≡ broadcast_lengths left.now.lengths right.now.lengths }
+    requires can { CanCombine left.now right.now O.can_apply }
+    requires left_clones { ClonesAreEqual A.is_clone }
+    requires right_clones { ClonesAreEqual B.is_clone }
+    ensures { MakesCombined O.apply_gives left.now right.now result }
+{
+    let cells = Pair {
+        first: left.into_broadcast(dim.copied()),
+        second: right.into_broadcast(dim),
+    };
+    let order = preferred_order(&cells);
+    let call: OnBoth<O> = OnBoth(PhantomData);
+    try_collect_items(alloc, cells, order, call)
+}
+
+/// The array of what is computed of each cell of an array.
+pub(crate) fn mapped<A, S, D, C>(
+    alloc: Global,
+    array: &ArrayBase<S, D>,
+    operation: C,
+) -> Result<Array<C::Output, D>, AllocError>
+where
+    S: Data<Elem = A>,
+    D: Dimension,
+    C: CellOperation<A>,
+    C::Output: Drop,
+    requires { CanMap (C.can_apply operation) array.now }
+    ensures { MakesMapped (C.apply_gives operation) array.now result }
+{
+    let cells = array.view();
+    let order = preferred_order(&cells);
+    try_collect_items(alloc, cells, order, OnEach(operation))
+}
+
+/// The same into the array's own cells.
+pub(crate) fn mapped_in_place<A, D, C>(
+    array: Array<A, D>,
+    operation: C,
+) -> Result<Array<A, D>, AllocError>
+where
+    A: Drop,
+    D: Dimension,
+    C: CellOperation<A, Output = A>,
+    requires { CanMap (C.can_apply operation) array }
+    ensures { UpdatesMapped (C.apply_gives operation) (C.is_infallible operation) array result }
+{
+    let mut cells = array;
+    let each = Units::of(cells.raw_dim());
+    match try_update(&mut cells, each, OnEach(operation)) {
+        Ok(()) => Ok(cells),
+        Err(refused) => Err(refused),
+    }
+}
+
+/// The array of what an operation gives on copies of a scalar and of each cell.
+pub(crate) fn mapped_left<O, X, A, D>(
+    scalar: X,
+    array: &Array<A, D>,
+) -> Result<Array<O::Output, D>, AllocError>
+where
+    O: Operation<X, A>,
+    O::Output: Drop,
+    X: Copy + Drop,
+    A: Copy + Drop,
+    D: Dimension,
+    requires { CanMap (λ x. O.can_apply scalar x) array.now }
+    ensures { MakesMapped (λ x z. O.apply_gives scalar x z) array.now result }
+{
+    let operation: WithLeft<O, X> = WithLeft {
+        scalar,
+        operation: PhantomData,
+    };
+    mapped(array.allocator(), array, operation)
+}
+
+/// The same into the array's own cells.
+pub(crate) fn mapped_left_in_place<O, X, A, D>(
+    scalar: X,
+    array: Array<A, D>,
+) -> Result<Array<A, D>, AllocError>
+where
+    O: Operation<X, A, Output = A>,
+    X: Copy + Drop,
+    A: Copy + Drop,
+    D: Dimension,
+    requires { CanMap (λ x. O.can_apply scalar x) array }
+    ensures { UpdatesMapped (λ x z. O.apply_gives scalar x z) (λ _. ⊤) array result }
+{
+    let operation: WithLeft<O, X> = WithLeft {
+        scalar,
+        operation: PhantomData,
+    };
+    mapped_in_place(array, operation)
+}

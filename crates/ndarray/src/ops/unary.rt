@@ -1,0 +1,80 @@
+//! `-` and `!` of each cell of an array.
+
+ghost use Rattle.ndarray.specs.Elementwise.{CanMap, ClonesAreEqual, MakesMapped, UpdatesMapped};
+
+use crate::base::array::Array;
+use crate::base::dimension::Dimension;
+use crate::ops::calls::OnOne;
+use crate::ops::computing::{mapped, mapped_in_place};
+use crate::ops::operations::{Complement, Negation};
+use std::alloc::AllocError;
+use std::marker::PhantomData;
+use std::ops::{Neg, Not};
+
+impl<A, D> Neg for Array<A, D>
+where
+    A: Clone + Drop + Neg<Output = A>,
+    D: Dimension,
+{
+    type Output = Result<Array<A, D>, AllocError>;
+
+    ghost can_neg = { λ a. CanMap A.can_neg a × ClonesAreEqual A.is_clone };
+
+    ghost neg_gives = { λ a r. UpdatesMapped A.neg_gives A.is_infallible a r };
+
+    fn neg(self) -> Self::Output {
+        let operation: OnOne<Negation> = OnOne(PhantomData);
+        mapped_in_place(self, operation)
+    }
+}
+
+impl<'a, A, D> Neg for &'a Array<A, D>
+where
+    A: Clone + Drop + Neg<Output = A>,
+    D: Dimension,
+{
+    type Output = Result<Array<A, D>, AllocError>;
+
+    ghost can_neg = { λ a. CanMap A.can_neg a.now × ClonesAreEqual A.is_clone };
+
+    ghost neg_gives = { λ a r. MakesMapped A.neg_gives a.now r };
+
+    fn neg(self) -> Self::Output {
+        let operation: OnOne<Negation> = OnOne(PhantomData);
+        mapped(self.allocator(), self, operation)
+    }
+}
+
+impl<A, D> Not for Array<A, D>
+where
+    A: Clone + Drop + Not<Output = A>,
+    D: Dimension,
+{
+    type Output = Result<Array<A, D>, AllocError>;
+
+    ghost can_not = { λ a. CanMap A.can_not a × ClonesAreEqual A.is_clone };
+
+    ghost not_gives = { λ a r. UpdatesMapped A.not_gives A.is_infallible a r };
+
+    fn not(self) -> Self::Output {
+        let operation: OnOne<Complement> = OnOne(PhantomData);
+        mapped_in_place(self, operation)
+    }
+}
+
+impl<'a, A, D> Not for &'a Array<A, D>
+where
+    A: Clone + Drop + Not<Output = A>,
+    D: Dimension,
+{
+    type Output = Result<Array<A, D>, AllocError>;
+
+    ghost can_not = { λ a. CanMap A.can_not a.now × ClonesAreEqual A.is_clone };
+
+    ghost not_gives = { λ a r. MakesMapped A.not_gives a.now r };
+
+    fn not(self) -> Self::Output {
+        let operation: OnOne<Complement> = OnOne(PhantomData);
+        mapped(self.allocator(), self, operation)
+    }
+}

@@ -1,0 +1,16 @@
+use Rattle.std.proofs.Common.{◌∙◌, refl}
+use Rattle.ndarray.proofs.callers.Collecting.{if_ok-both}
+use Rattle.ndarray.proofs.callers.Elementwise.{can-combine, combined}
+use Rattle.ndarray_bench.specs.Callers.{sum_at}
+use Rattle.ndarray_bench.proofs.callers.table_sums.Goals as goal
+
+pub add-requires : goal.add-requires
+add-requires c = (can-combine _ _ c.raw_dim.ensures.whole c.raw_dim-2.ensures.whole c.requires.same _ c.raw_dim.ensures.limit c.requires.fits, λ x y e. e, λ x y e. e)
+
+pub returns : goal.returns
+returns c =
+    if_ok-both c.add.result _ _ _
+    (λ r made same.
+    combined _ _ c.raw_dim.ensures.whole c.raw_dim-2.ensures.whole c.requires.same _ r (sum_at c.args.a.now c.args.b.now)
+    (λ is x y z left right given. given ∙ rw (left, right) refl) made)
+    c.add.ensures.made c.add.ensures.made

@@ -1,0 +1,355 @@
+//! Operators on a table, in each form of ownership.
+
+ghost use Rattle.ndarray.specs.Broadcast.{BroadcastTogether};
+
+use crate::rows::answer::spelled;
+use crate::rows::calls::ViewCall;
+use crate::rows::layouts::{LAYOUTS, Table};
+use crate::rows::reading::{kind, viewed};
+use crate::rows::shown::push_lengths;
+use crate::rows::spelling::cell;
+use crate::rows::wrapped::{Wrapped, all_wrapped};
+use crate::rows::writing::views_spelled;
+use ndarray::{Array, ArrayView, IxDyn, Lengths};
+use std::alloc::{AllocError, Global};
+
+type Owned = Array<Wrapped, IxDyn>;
+
+type View<'a> = ArrayView<'a, Wrapped, IxDyn>;
+
+/// What an operator gives on a table, after calls that view it; `None` where the call after those is no operator.
+///
+/// Each form is carried out, with each layout of the right table. Answers that differ are joined by `or`.
+pub fn answer(alloc: Global, table: &Table, calls: &[&str]) -> Result<Option<String>, AllocError> {
+    let views = views_spelled(alloc, calls)?;
+    let [call] = calls.get(views.len()..).unwrap_or(&[]) else {
+        return Ok(None);
+    };
+    let words: Vec<&str> = call.split_whitespace().collect(alloc)?;
+    let Some((name, arguments)) = words.as_slice().split_first() else {
+        return Ok(None);
+    };
+    match Operator::named(*name) {
+        Some(operator) => {
+            computed(alloc, table, views.as_slice(), operator, arguments).map(Some)
+        }
+        None => Ok(None),
+    }
+}
+
+/// An operator.
+#[derive(Clone, Copy)]
+enum Operator {
+    Arithmetic(Arithmetic),
+    Bits(Bits),
+    // These two have no right side.
+    Neg,
+    Not,
+}
+
+/// An operator of numbers.
+#[derive(Clone, Copy)]
+enum Arithmetic {
+    Add,
+    Sub,
+    Mul,
+    Div,
+    Rem,
+}
+
+/// An operator of bits.
+#[derive(Clone, Copy)]
+enum Bits {
+    And,
+    Or,
+    Xor,
+    Shl,
+    Shr,
+}
+
+impl Operator {
+    /// The operator of this name.
+    fn named(name: &str) -> Option<Operator> {
+        if let Some(operator) = Arithmetic::named(name) {
+            return Some(Operator::Arithmetic(operator));
+        }
+        if let Some(operator) = Bits::named(name) {
+            return Some(Operator::Bits(operator));
+        }
+        match name {
+            "neg" => Some(Operator::Neg),
+            "not" => Some(Operator::Not),
+            _ => None,
+        }
+    }
+}
+
+impl Arithmetic {
+    /// The operator of this name.
+    fn named(name: &str) -> Option<Arithmetic> {
+        match name {
+            "add" => Some(Arithmetic::Add),
+            "sub" => Some(Arithmetic::Sub),
+            "mul" => Some(Arithmetic::Mul),
+            "div" => Some(Arithmetic::Div),
+            "rem" => Some(Arithmetic::Rem),
+            _ => None,
+        }
+    }
+}
+
+impl Bits {
+    /// The operator of this name.
+    fn named(name: &str) -> Option<Bits> {
+        match name {
+            "bitand" => Some(Bits::And),
+            "bitor" => Some(Bits::Or),
+            "bitxor" => Some(Bits::Xor),
+            "shl" => Some(Bits::Shl),
+            "shr" => Some(Bits::Shr),
+            _ => None,
+        }
+    }
+}
+
+/// What an operator gives on a table, after calls that view it, and the words of its right side.
+fn computed(
+    alloc: Global,
+    table: &Table,
+    views: &[ViewCall],
+    operator: Operator,
+    words: &[&str],
+) -> Result<String, AllocError> {
+    let cells = all_wrapped(alloc, table.cells.as_slice())?;
+    let view = match table.view_of(cells.as_slice()) {
+        Ok(view) => view,
+        Err(error) => return kind(alloc, &error),
+    };
+    let Some(view) = all_viewed(view, views) else {
+        return "refused".to_string(alloc);
+    };
+    match words {
+        [] => of_each_cell(alloc, &view, operator),
+        [word] => match cell(*word) {
+            Some(scalar) => with_scalar(alloc, &view, operator, Wrapped(scalar)),
+            None => with_tables(alloc, &view, operator, words),
+        },
+        words => with_tables(alloc, &view, operator, words),
+    }
+}
+
+/// The view that calls make of a view; `None` where a test of one of them says no.
+fn all_viewed<'a>(given: View<'a>, calls: &[ViewCall]) -> Option<View<'a>> {
+    let mut view = given;
+    for call in calls {
+        view = match viewed(view, *call) {
+            Ok(Some(next)) => next,
+            _ => return None,
+        };
+    }
+    Some(view)
+}
+
+/// What `-` or `!` gives, on an owned array and on a reference to it.
+fn of_each_cell(alloc: Global, view: &View<'_>, operator: Operator) -> Result<String, AllocError> {
+    let array = ArrayView::to_owned(view, alloc)?;
+    let mut text = String::new(alloc);
+    match operator {
+        Operator::Neg => {
+            push_answer(&mut text, alloc, (-&array)?)?;
+            push_answer(&mut text, alloc, (-array)?)?;
+        }
+        Operator::Not => {
+            push_answer(&mut text, alloc, (!&array)?)?;
+            push_answer(&mut text, alloc, (!array)?)?;
+        }
+        _ => text.push_str("not understood")?,
+    }
+    Ok(text)
+}
+
+/// What an operator gives with a scalar, on an owned array and on a reference to it.
+fn with_scalar(
+    alloc: Global,
+    view: &View<'_>,
+    operator: Operator,
+    scalar: Wrapped,
+) -> Result<String, AllocError> {
+    let array = ArrayView::to_owned(view, alloc)?;
+    let mut text = String::new(alloc);
+    match operator {
+        Operator::Arithmetic(operator) => {
+            push_answer(&mut text, alloc, operator.with(&array, scalar)?)?;
+            push_answer(&mut text, alloc, operator.with_in_place(array, scalar)?)?;
+        }
+        Operator::Bits(operator) => {
+            push_answer(&mut text, alloc, operator.with(&array, scalar)?)?;
+            push_answer(&mut text, alloc, operator.with_in_place(array, scalar)?)?;
+        }
+        _ => text.push_str("not understood")?,
+    }
+    Ok(text)
+}
+
+/// What an operator gives with a table, which these words spell, in each layout of it.
+fn with_tables(
+    alloc: Global,
+    left: &View<'_>,
+    operator: Operator,
+    words: &[&str],
+) -> Result<String, AllocError> {
+    let mut text = String::new(alloc);
+    for layout in LAYOUTS {
+        let Some(table) = spelled(alloc, words, *layout)? else {
+            return "not understood".to_string(alloc);
+        };
+        let cells = all_wrapped(alloc, table.cells.as_slice())?;
+        match table.view_of(cells.as_slice()) {
+            Ok(right) => push_between(&mut text, alloc, left, operator, &right)?,
+            Err(error) => return kind(alloc, &error),
+        }
+    }
+    Ok(text)
+}
+
+/// Appends what an operator gives between two tables, in each form; `refused` where their shapes do not broadcast
+/// together.
+fn push_between(
+    text: &mut String,
+    alloc: Global,
+    left: &View<'_>,
+    operator: Operator,
+    right: &View<'_>,
+) -> Result<(), AllocError> {
+    if !left.broadcast_ok(right) {
+        return push_text(text, "refused");
+    }
+    let array = ArrayView::to_owned(left, alloc)?;
+    let owned = ArrayView::to_owned(right, alloc)?;
+    match operator {
+        Operator::Arithmetic(operator) => {
+            push_answer(text, alloc, operator.between(&array, right)?)?;
+            push_answer(text, alloc, operator.into_left(array, right)?)?;
+            push_answer(text, alloc, operator.into_right(left, owned)?)
+        }
+        Operator::Bits(operator) => {
+            push_answer(text, alloc, operator.between(&array, right)?)?;
+            push_answer(text, alloc, operator.into_left(array, right)?)?;
+            push_answer(text, alloc, operator.into_right(left, owned)?)
+        }
+        _ => push_text(text, "not understood"),
+    }
+}
+
+/// Appends an array to other answers, unless it is the same.
+fn push_answer(text: &mut String, alloc: Global, array: Owned) -> Result<(), AllocError> {
+    let mut next = String::new(alloc);
+    push_lengths(&mut next, array.shape())?;
+    for cell in array.iter() {
+        write!(&mut next, " {}", cell.0)?;
+    }
+    push_text(text, next.as_str())
+}
+
+/// Appends an answer to other answers, unless it is the same.
+fn push_text(text: &mut String, next: &str) -> Result<(), AllocError> {
+    if text.as_str() == next {
+        return Ok(());
+    }
+    if !text.is_empty() {
+        text.push_str(" or ")?;
+    }
+    text.push_str(next)
+}
+
+/// An operator of numbers between two values.
+macro_rules! arithmetic {
+    ($operator:expr, $left:expr, $right:expr) => {
+        match $operator {
+            Arithmetic::Add => $left + $right,
+            Arithmetic::Sub => $left - $right,
+            Arithmetic::Mul => $left * $right,
+            Arithmetic::Div => $left / $right,
+            Arithmetic::Rem => $left % $right,
+        }
+    };
+}
+
+impl Arithmetic {
+    /// With both sides borrowed.
+    fn between(self, left: &Owned, right: &View<'_>) -> Result<Owned, AllocError>
+        requires { BroadcastTogether left.now.lengths right.now.lengths }
+    {
+        arithmetic!(self, left, right)
+    }
+
+    /// With the left side owned.
+    fn into_left(self, left: Owned, right: &View<'_>) -> Result<Owned, AllocError>
+        requires { BroadcastTogether left.lengths right.now.lengths }
+    {
+        arithmetic!(self, left, right)
+    }
+
+    /// With the right side owned.
+    fn into_right(self, left: &View<'_>, right: Owned) -> Result<Owned, AllocError>
+        requires { BroadcastTogether left.now.lengths right.lengths }
+    {
+        arithmetic!(self, left, right)
+    }
+
+    /// With a scalar.
+    fn with(self, left: &Owned, scalar: Wrapped) -> Result<Owned, AllocError> {
+        arithmetic!(self, left, scalar)
+    }
+
+    /// With a scalar, and the left side owned.
+    fn with_in_place(self, left: Owned, scalar: Wrapped) -> Result<Owned, AllocError> {
+        arithmetic!(self, left, scalar)
+    }
+}
+
+/// An operator of bits between two values.
+macro_rules! bits {
+    ($operator:expr, $left:expr, $right:expr) => {
+        match $operator {
+            Bits::And => $left & $right,
+            Bits::Or => $left | $right,
+            Bits::Xor => $left ^ $right,
+            Bits::Shl => $left << $right,
+            Bits::Shr => $left >> $right,
+        }
+    };
+}
+
+impl Bits {
+    /// With both sides borrowed.
+    fn between(self, left: &Owned, right: &View<'_>) -> Result<Owned, AllocError>
+        requires { BroadcastTogether left.now.lengths right.now.lengths }
+    {
+        bits!(self, left, right)
+    }
+
+    /// With the left side owned.
+    fn into_left(self, left: Owned, right: &View<'_>) -> Result<Owned, AllocError>
+        requires { BroadcastTogether left.lengths right.now.lengths }
+    {
+        bits!(self, left, right)
+    }
+
+    /// With the right side owned.
+    fn into_right(self, left: &View<'_>, right: Owned) -> Result<Owned, AllocError>
+        requires { BroadcastTogether left.now.lengths right.lengths }
+    {
+        bits!(self, left, right)
+    }
+
+    /// With a scalar.
+    fn with(self, left: &Owned, scalar: Wrapped) -> Result<Owned, AllocError> {
+        bits!(self, left, scalar)
+    }
+
+    /// With a scalar, and the left side owned.
+    fn with_in_place(self, left: Owned, scalar: Wrapped) -> Result<Owned, AllocError> {
+        bits!(self, left, scalar)
+    }
+}
