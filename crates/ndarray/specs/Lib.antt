@@ -1,4 +1,5 @@
 pub mod Algebra
+pub mod AlongAxis
 pub mod Broadcast
 pub mod Calls
 pub mod Collected

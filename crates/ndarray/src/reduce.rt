@@ -1,14 +1,23 @@
-//! Sums of the cells of an array.
+//! Sums and products of the cells of an array, running products and differences along an axis.
 
-ghost use Rattle.std.specs.Prelude.{◌≡◌, ◌↔◌, IsTrue, map};
+ghost use Rattle.std.specs.Prelude.{◌≡◌, ◌<◌, length, IfOk};
+ghost use Rattle.ndarray.specs.AlongAxis.{IsSummableArray, IsTotalOf};
+ghost use Rattle.ndarray.specs.Elementwise.{CanMap, MakesMapped};
+ghost use Rattle.ndarray.specs.Subviews.{lanes_of};
 ghost use Rattle.ndarray.specs.Sums.{IsSummableBy, total_by};
-ghost use Rattle.ndarray.specs.Integers.{int_sums, negative_sum, positive_sum};
 
-use crate::base::array::ArrayBase;
-use crate::base::dimension::Lengths;
+mod cumprod;
+mod diff;
+mod range_tests;
+pub(crate) mod totals;
+
+use crate::base::array::{Array, ArrayBase};
+use crate::base::axis::Axis;
+use crate::base::dimension::{Dimension, Lengths};
 use crate::base::storage::Data;
-use crate::elements::SumElem;
-use num_traits::{PrimInt, Zero};
+use crate::elements::{ProductElem, SumElem};
+use crate::reduce::totals::{Product, Sum, total, totals_along};
+use std::alloc::{AllocError, Global};
 
 impl<A: SumElem, S: Data<Elem = A>, D: Lengths> ArrayBase<S, D> {
     /// The sum of all cells, and zero for an array with no cell. It allocates nothing.
@@ -27,59 +36,73 @@ impl<A: SumElem, S: Data<Elem = A>, D: Lengths> ArrayBase<S, D> {
         requires { IsSummableBy A.addition A.InRange A.meaning self.now.cells }
         ensures { A.meaning result ≡ total_by A.addition A.meaning self.now.cells }
     {
-        if let Some(cells) = self.as_slice_memory_order() {
-            return sum_of(cells);
-        }
-        let mut sum = A::zero();
-        for x in self.iter() {
-            sum = sum + *x;
-        }
-        sum
+        total::<Sum, A, S, D>(self)
     }
 }
 
-/// The sum of the elements of a slice, in their order.
-fn sum_of<A: SumElem>(cells: &[A]) -> A
-    requires { IsSummableBy A.addition A.InRange A.meaning cells.now }
-    ensures { A.meaning result ≡ total_by A.addition A.meaning cells.now }
-{
-    let mut sum = A::zero();
-    for x in cells {
-        sum = sum + *x;
-    }
-    sum
-}
-
-impl<A: PrimInt, S: Data<Elem = A>, D: Lengths> ArrayBase<S, D> {
-    /// Whether every selection of the cells has its sum in the type, as [`sum`](Self::sum) asks.
+impl<A: ProductElem, S: Data<Elem = A>, D: Lengths> ArrayBase<S, D> {
+    /// The product of all cells, and one for an array with no cell. It allocates nothing.
     ///
-    /// That is so exactly where the positive cells add up to at most the type's greatest number and
-    /// the negative cells to at least its least. Requires nothing, and the test allocates nothing.
+    /// Requires that every selection of the cells has its product in range, so that no order of multiplying
+    /// leaves the range. For arrays of the integer types [`products_fit`](Self::products_fit) is enough.
     ///
     /// ```
-    /// assert!(ArrayView::from_shape(2, &[127i8, -128])?.sums_fit());
-    /// assert!(!ArrayView::from_shape(3, &[127i8, -1, 1])?.sums_fit());
+    /// let view = ArrayView::from_shape((2, 3), &[1i64, 2, 3, 4, 5, 6])?;
+    /// if view.products_fit() {
+    ///     assert_eq!(view.product(), 720);
+    /// }
     /// ```
-    pub fn sums_fit(&self) -> bool
-        ensures selections { IsTrue result ↔ IsSummableBy int_sums A.fits A.value self.now.cells }
-        ensures bounds { IsTrue result ↔ (A.fits (positive_sum (map A.value self.now.cells))
-            × A.fits (negative_sum (map A.value self.now.cells))) }
+    pub fn product(&self) -> A
+        requires { IsSummableBy A.multiplication A.InRange A.meaning self.now.cells }
+        ensures { A.meaning result ≡ total_by A.multiplication A.meaning self.now.cells }
     {
-        let mut up = A::zero();
-        let mut down = A::zero();
-        for x in self.iter() {
-            if *x < A::zero() {
-                match down.checked_add(x) {
-                    Some(sum) => down = sum,
-                    None => return false,
-                }
-            } else {
-                match up.checked_add(x) {
-                    Some(sum) => up = sum,
-                    None => return false,
-                }
-            }
-        }
-        true
+        total::<Product, A, S, D>(self)
+    }
+}
+
+impl<A: SumElem, S: Data<Elem = A>, D: Dimension> ArrayBase<S, D> {
+    /// The sum of each lane along an axis: an array without that axis. A lane of length 0 has the sum zero.
+    ///
+    /// Requires `axis < ndim()`, which `axis_ok` tells, and that of each lane every selection of the cells has its
+    /// sum in range: check with `Zip::from(array.lanes(axis)).all(|lane| lane.sums_fit())`, or with
+    /// [`sums_fit`](Self::sums_fit) of the whole array, which is enough. The error is allocation failure.
+    ///
+    /// ```
+    /// let view = ArrayView::from_shape((2, 3), &[1i64, 2, 3, 4, 5, 6])?;
+    /// view.sum_axis(alloc, Axis(0))?; // [5, 7, 9]
+    /// view.sum_axis(alloc, Axis(1))?; // [6, 15]
+    /// ```
+    pub fn sum_axis(&self, alloc: Global, axis: Axis) -> Result<Array<A, D::Smaller>, AllocError>
+        requires axis { axis.0 < length self.now.lengths }
+        requires lanes { CanMap (IsSummableArray A.addition A.InRange A.meaning) (lanes_of self.now axis.0) }
+        ensures sums { MakesMapped (IsTotalOf A.addition A.meaning) (lanes_of self.now axis.0) result }
+        ensures axes { IfOk result (λ r. D.Smaller.has_axes (length r.lengths)) }
+    {
+        totals_along::<Sum, A, S, D>(alloc, self, axis)
+    }
+}
+
+impl<A: ProductElem, S: Data<Elem = A>, D: Dimension> ArrayBase<S, D> {
+    /// The product of each lane along an axis: an array without that axis. A lane of length 0 has the product one.
+    ///
+    /// Requires `axis < ndim()`, which `axis_ok` tells, and that of each lane every selection of the cells has its
+    /// product in range: `Zip::from(array.lanes(axis)).all(|lane| lane.products_fit())` is enough, and so is
+    /// [`products_fit`](Self::products_fit) of the whole array where no cell is zero. The error is allocation failure.
+    ///
+    /// ```
+    /// let view = ArrayView::from_shape((2, 3), &[1i64, 2, 3, 4, 5, 6])?;
+    /// view.product_axis(alloc, Axis(1))?; // [6, 120]
+    /// ```
+    pub fn product_axis(
+        &self,
+        alloc: Global,
+        axis: Axis,
+    ) -> Result<Array<A, D::Smaller>, AllocError>
+        requires axis { axis.0 < length self.now.lengths }
+        requires lanes { CanMap (IsSummableArray A.multiplication A.InRange A.meaning) (lanes_of self.now axis.0) }
+        ensures products { MakesMapped (IsTotalOf A.multiplication A.meaning) (lanes_of self.now axis.0) result }
+        ensures axes { IfOk result (λ r. D.Smaller.has_axes (length r.lengths)) }
+    {
+        totals_along::<Product, A, S, D>(alloc, self, axis)
     }
 }

@@ -1,6 +1,6 @@
 //! Arrays that are filled one cell after another.
 
-ghost use Rattle.std.specs.Prelude.{◌≡◌, ◌<◌, ◌++◌, ◌∷◌, [], length, IfOk, IsOk};
+ghost use Rattle.std.specs.Prelude.{◌≡◌, ◌<◌, ◌≤◌, ◌-◌, ◌++◌, ◌∷◌, [], length, slice_index_or, IfOk, IsOk};
 ghost use Rattle.ndarray.specs.base.Builder.{pushed_to};
 ghost use Rattle.ndarray.specs.Grid.{IsGrid};
 ghost use Rattle.ndarray.specs.Index.{size};
@@ -53,6 +53,15 @@ impl<A: Drop, D: Lengths> ArrayBuilder<A, D> {
         ensures { self.new ≡ pushed_to self.old cell }
     {
         self.items.push_reserved(cell);
+    }
+
+    /// The cell that was pushed so many pushes ago, 1 for the last.
+    pub(crate) fn back(&self, pushes: usize) -> &A
+        requires some { 1 ≤ pushes }
+        requires within { pushes ≤ length self.now.cells }
+        ensures { result.now ≡ slice_index_or self.now.cells (length self.now.cells - pushes) result.now }
+    {
+        &self.items[self.items.len() - pushes]
     }
 
     /// The array whose cells in the order are those that were pushed, once there is one for each index

@@ -1,0 +1,128 @@
+//! Differences along an axis.
+
+ghost use Rattle.std.specs.Prelude.{◌≡◌, ◌⊎◌, ◌<◌, ◌↔◌, length, slice_index, IfOk, IsOk, IsTrue, List, ℕ, Some, ⊤};
+ghost use Rattle.ndarray.specs.AlongAxis.{CanDiffer, IsDifference, IsDifferenceOf, one_further};
+ghost use Rattle.ndarray.specs.Grid.{cell};
+ghost use Rattle.ndarray.specs.Index.{size};
+
+use crate::base::array::{Array, ArrayBase};
+use crate::base::axis::Axis;
+use crate::base::dimension::{Dimension, Lengths};
+use crate::base::storage::Data;
+use crate::zip::calls::ItemCall;
+use crate::zip::collecting::collect_items;
+use crate::zip::pair::Pair;
+use crate::zip::producer::preferred_order;
+use std::alloc::{AllocError, Global};
+use std::ops::Sub;
+
+impl<S: Data, D: Dimension> ArrayBase<S, D> {
+    /// Whether there is an axis of that number, and the order is 0 or below its length, as [`diff`](Self::diff) asks.
+    pub fn diff_ok(&self, n: usize, axis: Axis) -> bool
+        ensures { IsTrue result ↔ ((axis.0 < length self.now.lengths) × ((n ≡ 0) ⊎ (n < slice_index self.now.lengths axis.0))) }
+    {
+        self.axis_ok(axis) && (n == 0 || n < self.len_of(axis))
+    }
+}
+
+impl<A: Copy + Sub<A, Output = A>, S: Data<Elem = A>, D: Dimension> ArrayBase<S, D> {
+    /// The difference of order `n` along an axis: of order 0 a copy, and of each further order the cell one further
+    /// along the axis minus the cell, so that the axis gets shorter by one.
+    ///
+    /// Requires `axis < ndim()`, and `n` that is 0 or below the length of the axis; check with
+    /// [`diff_ok`](Self::diff_ok). Requires that each difference that is taken is defined. The error is allocation
+    /// failure. Beside the result there is one array at a time, of the order before.
+    ///
+    /// ```
+    /// let view = ArrayView::from_shape(3, &[1i64, 2, 5])?;
+    /// view.diff(alloc, 1, Axis(0))?; // [1, 3]
+    /// view.diff(alloc, 2, Axis(0))?; // [2]
+    /// ```
+    pub fn diff(&self, alloc: Global, n: usize, axis: Axis) -> Result<Array<A, D>, AllocError>
+        requires axis { axis.0 < length self.now.lengths }
+        requires order { (n ≡ 0) ⊎ (n < slice_index self.now.lengths axis.0) }
+        requires defined { CanDiffer A.sub_gives axis.0 A.can_sub n self.now }
+        ensures differences { IfOk result (IsDifferenceOf A.sub_gives axis.0 n self.now) }
+        ensures axes { IfOk result (λ r. D.has_axes (length r.lengths)) }
+        ensures empty { size self.now.lengths ≡ 0 → IsOk result }
+    {
+        if n == 0 {
+            return copy_of(alloc, self);
+        }
+        let mut cells = difference(alloc, self, axis)?;
+        for _ in 1..n {
+            cells = difference(alloc, &cells, axis)?;
+        }
+        Ok(cells)
+    }
+}
+
+/// An array of copies of an array's cells.
+fn copy_of<A: Copy, S: Data<Elem = A>, D: Lengths>(
+    alloc: Global,
+    array: &ArrayBase<S, D>,
+) -> Result<Array<A, D>, AllocError>
+    ensures same { IfOk result (λ r. r ≡ array.now) }
+    ensures axes { IfOk result (λ r. D.has_axes (length r.lengths)) }
+    ensures empty { size array.now.lengths ≡ 0 → IsOk result }
+{
+    let cells = array.view();
+    let order = preferred_order(&cells);
+    collect_items(alloc, cells, order, Copies)
+}
+
+/// The difference of order 1.
+fn difference<A: Copy + Sub<A, Output = A>, S: Data<Elem = A>, D: Lengths>(
+    alloc: Global,
+    array: &ArrayBase<S, D>,
+    axis: Axis,
+) -> Result<Array<A, D>, AllocError>
+    requires axis { axis.0 < length array.now.lengths }
+    requires some { 0 < slice_index array.now.lengths axis.0 }
+    requires defined { (is : List ℕ) (y x : A) → cell array.now (one_further axis.0 is) ≡ Some y → cell array.now is ≡ Some x → A.can_sub y x }
+    ensures made { IfOk result (IsDifference A.sub_gives axis.0 array.now) }
+    ensures axes { IfOk result (λ r. D.has_axes (length r.lengths)) }
+    ensures empty { size array.now.lengths ≡ 0 → IsOk result }
+{
+    let view = array.view();
+    let rest = view.len_of(axis) - 1;
+    let cells = Pair {
+        first: view.part(axis.0, 1, rest),
+        second: view.part(axis.0, 0, rest),
+    };
+    let order = preferred_order(&cells);
+    collect_items(alloc, cells, order, Minus)
+}
+
+/// A copy of a cell, as a call.
+#[derive(Drop)]
+struct Copies;
+
+impl<'a, A: Copy> ItemCall<&'a A> for Copies {
+    type Out = A;
+
+    ghost can_call = { λ _ _. ⊤ };
+
+    ghost call_gives = { λ _ x r _. r ≡ x.now };
+
+    fn call(&mut self, item: &'a A) -> A {
+        *item
+    }
+}
+
+/// A cell minus another, as a call.
+#[derive(Drop)]
+struct Minus;
+
+impl<'a, 'b, A: Copy + Sub<A, Output = A>> ItemCall<(&'a A, &'b A)> for Minus {
+    type Out = A;
+
+    ghost can_call = { λ _ t. A.can_sub t.0.now t.1.now };
+
+    ghost call_gives = { λ _ t r _. A.sub_gives t.0.now t.1.now r };
+
+    fn call(&mut self, item: (&'a A, &'b A)) -> A {
+        let (later, earlier) = item;
+        *later - *earlier
+    }
+}

@@ -1,0 +1,143 @@
+//! Totals of the cells of an array, and of each lane: what sums and products have in common, once.
+
+ghost use Rattle.std.specs.Prelude.{◌≡◌, ◌<◌, length, IfOk};
+ghost use Rattle.ndarray.specs.Algebra.{CommutativeMonoid};
+ghost use Rattle.ndarray.specs.AlongAxis.{IsSummableArray, IsTotalOf};
+ghost use Rattle.ndarray.specs.Elementwise.{CanMap, MakesMapped};
+ghost use Rattle.ndarray.specs.Subviews.{lanes_of};
+ghost use Rattle.ndarray.specs.Sums.{IsSummableBy, total_by};
+
+use crate::base::array::{Array, ArrayBase, ArrayView};
+use crate::base::axis::Axis;
+use crate::base::dimension::{Dimension, Ix1, Lengths};
+use crate::base::storage::Data;
+use crate::elements::{ProductElem, SumElem};
+use crate::order::Order;
+use crate::zip::calls::ItemCall;
+use crate::zip::collecting::collect_items;
+use std::alloc::{AllocError, Global};
+use std::marker::PhantomData;
+
+/// An operation that makes one element of two, and so a total of any number.
+pub(crate) trait TotalOperation<A: Copy> {
+    // The values that elements have, and those in range.
+    ghost Carrier: { Type 0 };
+
+    ghost meaning: { A → Carrier };
+
+    ghost InRange: { Carrier → Type 0 };
+
+    // The operation on values, with the total of none.
+    ghost operation: { CommutativeMonoid Carrier };
+
+    /// The total of no elements.
+    fn of_none() -> A
+        ensures { meaning result ≡ operation.unit };
+
+    /// The total of two.
+    fn of_two(x: A, y: A) -> A
+        requires { InRange (operation.op (meaning x) (meaning y)) }
+        ensures { meaning result ≡ operation.op (meaning x) (meaning y) };
+}
+
+/// Addition.
+pub(crate) struct Sum;
+
+impl<A: SumElem> TotalOperation<A> for Sum {
+    ghost Carrier = { A.Carrier };
+
+    ghost meaning = { A.meaning };
+
+    ghost InRange = { A.InRange };
+
+    ghost operation = { A.addition };
+
+    fn of_none() -> A {
+        A::zero()
+    }
+
+    fn of_two(x: A, y: A) -> A {
+        x + y
+    }
+}
+
+/// Multiplication.
+pub(crate) struct Product;
+
+impl<A: ProductElem> TotalOperation<A> for Product {
+    ghost Carrier = { A.Carrier };
+
+    ghost meaning = { A.meaning };
+
+    ghost InRange = { A.InRange };
+
+    ghost operation = { A.multiplication };
+
+    fn of_none() -> A {
+        A::one()
+    }
+
+    fn of_two(x: A, y: A) -> A {
+        x * y
+    }
+}
+
+/// The total of all cells.
+pub(crate) fn total<T: TotalOperation<A>, A: Copy, S: Data<Elem = A>, D: Lengths>(
+    array: &ArrayBase<S, D>,
+) -> A
+    requires { IsSummableBy T.operation T.InRange T.meaning array.now.cells }
+    ensures { T.meaning result ≡ total_by T.operation T.meaning array.now.cells }
+{
+    if let Some(cells) = array.as_slice_memory_order() {
+        return total_of::<T, A>(cells);
+    }
+    let mut total = T::of_none();
+    for x in array.iter() {
+        total = T::of_two(total, *x);
+    }
+    total
+}
+
+/// The total of the elements of a slice, in their order.
+fn total_of<T: TotalOperation<A>, A: Copy>(cells: &[A]) -> A
+    requires { IsSummableBy T.operation T.InRange T.meaning cells.now }
+    ensures { T.meaning result ≡ total_by T.operation T.meaning cells.now }
+{
+    let mut total = T::of_none();
+    for x in cells {
+        total = T::of_two(total, *x);
+    }
+    total
+}
+
+/// The total of each lane along an axis.
+pub(crate) fn totals_along<T: TotalOperation<A>, A: Copy, S: Data<Elem = A>, D: Dimension>(
+    alloc: Global,
+    array: &ArrayBase<S, D>,
+    axis: Axis,
+) -> Result<Array<A, D::Smaller>, AllocError>
+    requires axis { axis.0 < length array.now.lengths }
+    requires lanes { CanMap (IsSummableArray T.operation T.InRange T.meaning) (lanes_of array.now axis.0) }
+    ensures made { MakesMapped (IsTotalOf T.operation T.meaning) (lanes_of array.now axis.0) result }
+    ensures axes { IfOk result (λ r. D.Smaller.has_axes (length r.lengths)) }
+{
+    let call: LaneTotal<T> = LaneTotal(PhantomData);
+    collect_items(alloc, array.lanes(axis), Order::RowMajor, call)
+}
+
+/// The total of a lane, as a call.
+#[derive(Drop)]
+struct LaneTotal<T>(PhantomData<T>);
+
+impl<'a, A: Copy, T: TotalOperation<A>> ItemCall<ArrayView<'a, A, Ix1>> for LaneTotal<T> {
+    type Out = A;
+
+    ghost can_call = { λ _ lane. IsSummableArray T.operation T.InRange T.meaning lane };
+
+    ghost call_gives = { λ _ lane r _. IsTotalOf T.operation T.meaning lane r };
+
+    fn call(&mut self, lane: ArrayView<'a, A, Ix1>) -> A {
+        total::<T, A, _, Ix1>(&lane)
+    }
+}
