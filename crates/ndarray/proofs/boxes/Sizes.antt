@@ -2,8 +2,8 @@
 use Rattle.std.proofs.Common.{◌≡◌, ℕ, ◌+◌, ◌-◌, ◌*◌, ◌<◌, ◌≤◌, ◌⊎◌, inl, inr, ◌^◌, suc, zero, List, [], ◌∷◌, ◌++◌, length, reverse, refl, take, drop, get_or, sym, ◌∙◌, ◌/◌, ◌%◌, ap, arith, set, insert, swap}
 use Rattle.std.proofs.Math.Seq.{take-suc, drop-append_seam}
 use Rattle.std.proofs.Math.Nat.{mul-le-mul_left, mul-lt-mul_of_pos_right, mul-div_cancel, mul_comm, div-lt_iff_lt-mul, zero-mul, one-mul, mul-zero, suc-mul}
-use Rattle.std.proofs.lemmas.Bool.{cases_lt}
-use Rattle.std.proofs.lemmas.Nat.{div-add-mod'}
+use Rattle.std.proofs.lemmas.Bool.{cases_eq, cases_lt}
+use Rattle.std.proofs.lemmas.Nat.{div-add-mod', mul-le}
 use Rattle.std.proofs.lemmas.List.{take_all, take-append-drop, length-set, length-drop, length-reverse, reverse-append}
 use Rattle.std.proofs.lemmas.List.Edits.{swap_is}
 use Rattle.ndarray.specs.Index.{size}
@@ -220,3 +220,14 @@ pub size-one_of : (ns : List ℕ) (k : ℕ) → k < length ns → size ns ≡ 1 
 size-one_of [] k lt e = absurd (omega arith)
 size-one_of (n ∷ ns) zero lt e = (product_one n (size ns) e).0
 size-one_of (n ∷ ns) (suc k) lt e = size-one_of ns k (omega arith) (product_one n (size ns) e).1
+
+-- a box of no index lists has none where an axis is shorter
+pub size-set_none : (ns : List ℕ) (k v : ℕ) → v ≤ get_or ns k 0 → size ns ≡ 0 → size (set ns k v) ≡ 0
+size-set_none [] k v le none = absurd (omega arith)
+size-set_none (n ∷ ns) zero v le none = let m : v * size ns ≤ n * size ns = mul-le v (size ns) n (size ns) le (omega arith) in omega (arith, m, none)
+size-set_none (n ∷ ns) (suc k) v le none = elim (cases_eq n 0) [
+    inl e ↦ ap (λ m. m * size (set ns k v)) e ∙ zero-mul (size (set ns k v))
+  | inr some ↦
+    (let m : 1 * size ns ≤ n * size ns = mul-le 1 (size ns) n (size ns) (omega arith) (omega arith) in
+    ap (λ m. n * m) (size-set_none ns k v le (omega (arith, m, none))) ∙ omega arith)
+  ]
