@@ -7,7 +7,9 @@ pub mod CollectedCells
 pub mod Differences
 pub mod Elementwise
 pub mod IndexedCells
+pub mod LaneCells
 pub mod Overwriting
+pub mod RunningProducts
 pub mod UpdatedCells
 pub mod Updates
 pub mod Writes

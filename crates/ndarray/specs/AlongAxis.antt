@@ -31,7 +31,7 @@ module _ {A : Type 0} (can : A → A → Type 0) (gives : A → A → A → Type
 pub record Cumulates {A : Type 0} (gives : A → A → A → Type 0) (axis : ℕ) (g r : Grid A) : Type 0 where
   pub lengths : r.lengths ≡ g.lengths
   pub whole : IsGrid r
-  pub first : (is : List ℕ) → slice_index is axis ≡ 0 → cell r is ≡ cell g is
+  pub first : (is : List ℕ) (x : A) → slice_index is axis ≡ 0 → cell g is ≡ Some x → cell r is ≡ Some x
   pub next : (is : List ℕ) (x p z : A) → cell g (one_further axis is) ≡ Some x → cell r is ≡ Some p → cell r (one_further axis is) ≡ Some z → gives x p z
 
 module _ {A : Type 0} (gives : A → A → A → Type 0) (axis : ℕ) where

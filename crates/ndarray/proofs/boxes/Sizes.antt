@@ -226,8 +226,8 @@ pub size-set_none : (ns : List ℕ) (k v : ℕ) → v ≤ get_or ns k 0 → size
 size-set_none [] k v le none = absurd (omega arith)
 size-set_none (n ∷ ns) zero v le none = let m : v * size ns ≤ n * size ns = mul-le v (size ns) n (size ns) le (omega arith) in omega (arith, m, none)
 size-set_none (n ∷ ns) (suc k) v le none = elim (cases_eq n 0) [
-    inl e ↦ ap (λ m. m * size (set ns k v)) e ∙ zero-mul (size (set ns k v))
+  | inl e ↦ ap (λ m. m * size (set ns k v)) e ∙ zero-mul (size (set ns k v))
   | inr some ↦
-    (let m : 1 * size ns ≤ n * size ns = mul-le 1 (size ns) n (size ns) (omega arith) (omega arith) in
-    ap (λ m. n * m) (size-set_none ns k v le (omega (arith, m, none))) ∙ omega arith)
-  ]
+      (let m : 1 * size ns ≤ n * size ns = mul-le 1 (size ns) n (size ns) (omega arith) (omega arith) in
+      ap (λ m. n * m) (size-set_none ns k v le (omega (arith, m, none))) ∙ omega arith)
+]

@@ -28,9 +28,10 @@ pub neighbours-at : {A : Type 0} (g view later earlier : Grid A) (k rest : ℕ) 
     → (is : List ℕ) (y x : A) → cell later is ≡ Some y → cell earlier is ≡ Some x → (cell g (one_further k is) ≡ Some y) × (cell g is ≡ Some x)
 neighbours-at g view later earlier k rest same l e whole_l whole_e is y x p q =
     let next : get_or is k 0 + 1 ≡ 1 + get_or is k 0 = omega arith in
-    let here : 0 + get_or is k 0 ≡ get_or is k 0 = omega arith in
-    ( ap (λ n. cell g (set is k n)) next ∙ part-cell g view later k 1 rest same l whole_l is y p
-    , ap (cell g) (sym (set-get_or is k 0)) ∙ (ap (λ n. cell g (set is k n)) (sym here) ∙ part-cell g view earlier k 0 rest same e whole_e is x q) )
+    let here : 0 + get_or is k 0 ≡ get_or is k 0 = omega arith in (
+      ap (λ n. cell g (set is k n)) next ∙ part-cell g view later k 1 rest same l whole_l is y p,
+      ap (cell g) (sym (set-get_or is k 0)) ∙ (ap (λ n. cell g (set is k n)) (sym here) ∙ part-cell g view earlier k 0 rest same e whole_e is x q),
+    )
 
 module _ {A : Type 0} (gives : A → A → A → Type 0) (k : ℕ) (g : Grid A) where
   -- what calls on the cells of both parts made
@@ -58,7 +59,8 @@ module _ {A : Type 0} (gives : A → A → A → Type 0) (k : ℕ) (g : Grid A) 
       let (p, before, last) = d in
       let (long, left, none) = difference-length n p lt (omega arith) before in
       let e : h.lengths ≡ set p.lengths k (get_or p.lengths k 0 - 1) = last.lengths in
-      let v : get_or h.lengths k 0 ≡ get_or p.lengths k 0 - 1 = ap (λ ns. get_or ns k 0) e ∙ get_or-set_same p.lengths k (get_or p.lengths k 0 - 1) 0 (omega (arith, long)) in
-      ( ap length e ∙ (length-set p.lengths k (get_or p.lengths k 0 - 1) ∙ long)
-      , omega (arith, v, left)
-      , (λ z. ap size e ∙ size-set_none p.lengths k (get_or p.lengths k 0 - 1) (omega arith) (none z)) )
+      let v : get_or h.lengths k 0 ≡ get_or p.lengths k 0 - 1 = ap (λ ns. get_or ns k 0) e ∙ get_or-set_same p.lengths k (get_or p.lengths k 0 - 1) 0 (omega (arith, long)) in (
+        ap length e ∙ (length-set p.lengths k (get_or p.lengths k 0 - 1) ∙ long),
+        omega (arith, v, left),
+        (λ z. ap size e ∙ size-set_none p.lengths k (get_or p.lengths k 0 - 1) (omega arith) (none z)),
+      )

@@ -1,0 +1,47 @@
+-- The cells of a lane.
+use Rattle.std.proofs.Common.{◌≡◌, ◌<◌, ℕ, zero, suc, List, [], ◌∷◌, Option, Some, length, get_or, set, refl, ap, sym, ◌∙◌, subst, arith, remove, insert, All}
+use Rattle.ndarray.specs.Grid.{Grid, IsGrid, cell, tabulated}
+use Rattle.ndarray.specs.Index.{InBox, row_order}
+use Rattle.ndarray.specs.Subviews.{lane, lanes_of}
+use Rattle.ndarray.specs.declared.base.shape.Order.TheVariants.{RowMajor}
+use Rattle.std.specs.Prelude.{slice_get}
+use Rattle.ndarray.proofs.boxes.Boxes.{InBox-length, InBox-set, InBox-removed}
+use Rattle.ndarray.proofs.boxes.Orders.{box_in-at, length-box_in}
+use Rattle.ndarray.proofs.boxes.Walks.{rank_in-one}
+use Rattle.ndarray.proofs.callers.Collecting.{lanes_of-some}
+use Rattle.ndarray.proofs.cells.Cells.{cell-Some, arranged-cell}
+use Rattle.ndarray.proofs.lists.Elements.{slice_get-filter_map_all}
+
+pub insert-removed : (is : List ℕ) (k j : ℕ) → k < length is → insert (remove is k) k j ≡ set is k j
+insert-removed [] k j lt = absurd (omega arith)
+insert-removed (i ∷ is) zero j lt = refl
+insert-removed (i ∷ is) (suc k) j lt = ap (λ l. i ∷ l) (insert-removed is k j (omega arith))
+
+module _ {A : Type 0} (g : Grid A) (whole : IsGrid g) (k : ℕ) (lt : k < length g.lengths) (is : List ℕ) (b : InBox g.lengths is) where
+  at : (j : ℕ) → cell g (insert (remove is k) k j) ≡ cell g (set is k j)
+  at j = let l = InBox-length g.lengths is b in ap (cell g) (insert-removed is k j (omega arith))
+
+  one : (q : ℕ) (d : List ℕ) → q < get_or g.lengths k 0 → get_or (row_order (get_or g.lengths k 0 ∷ [])) q d ≡ q ∷ []
+  one q d below =
+      let e = rank_in-one RowMajor (get_or g.lengths k 0) q in
+      ap (λ r. get_or (row_order (get_or g.lengths k 0 ∷ [])) r d) (sym e) ∙ box_in-at RowMajor (get_or g.lengths k 0 ∷ []) (q ∷ []) d (below, tt)
+
+  -- the cell of the lane through is, at an index
+  pub lane-cell : (j : ℕ) → j < get_or g.lengths k 0 → slice_get (lane g k (remove is k)).cells j ≡ cell g (set is k j)
+  unfolding tabulated
+  lane-cell j below =
+      let f : List ℕ → Option A = λ js. cell g (insert (remove is k) k (get_or js 0 0)) in
+      let long = length-box_in RowMajor (get_or g.lengths k 0 ∷ []) in
+      slice_get-filter_map_all f (row_order (get_or g.lengths k 0 ∷ [])) j []
+      (λ q d h.
+      let below_q : q < get_or g.lengths k 0 = omega arith in
+      let (x, e) = cell-Some g whole (set is k q) (InBox-set g.lengths is k q b below_q) in
+      (x, ap f (one q d below_q) ∙ (at q ∙ e)))
+      (omega arith)
+      ∙ (ap f (one j [] below) ∙ at j)
+
+  -- and that lane among all lanes
+  pub lane-among : cell (lanes_of g k) (remove is k) ≡ Some (lane g k (remove is k))
+  lane-among =
+      ap (λ w. cell w (remove is k)) (lanes_of-some g.lengths g k (omega arith))
+      ∙ arranged-cell (remove g.lengths k) (lane g k) (remove is k) (InBox-removed g.lengths is k lt b)
