@@ -1,6 +1,7 @@
 -- Sums of lists and of their selections.
 pub mod IntegerSelections
 pub mod IntegerTests
+pub mod NonzeroProducts
 pub mod Rearrangements
 pub mod RunningSum
 pub mod Selections

@@ -4,7 +4,9 @@ ghost use Rattle.std.specs.Prelude.{◌≡◌, ◌↔◌, IsTrue};
 ghost use Rattle.ndarray.specs.Algebra.{CommutativeMonoid};
 
 mod integers;
+mod ranges;
 
+pub use crate::elements::ranges::IntegerElem;
 use num_traits::{One, Zero};
 use std::ops::{Add, Div, Mul, Sub};
 

@@ -33,6 +33,6 @@ pub use crate::base::into_dimension::IntoDimension;
 pub use crate::base::shape::{Shape, ShapeBuilder};
 pub use crate::base::slice::Slice;
 pub use crate::base::storage::{CowRepr, Data, DataMut, DataOwned, OwnedRepr, ViewRepr};
-pub use crate::elements::{LinalgScalar, ProductElem, ScalarOperand, SumElem, Valued};
+pub use crate::elements::{IntegerElem, LinalgScalar, ProductElem, ScalarOperand, SumElem, Valued};
 pub use crate::ops::scalar_left;
 pub use crate::zip::{FoldWhile, IntoBroadcast, IntoNdProducer, NdProducer, Shaped, Zip};

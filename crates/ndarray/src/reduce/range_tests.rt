@@ -1,12 +1,14 @@
 //! Whether the sums and the products of an array's cells stay in their integer type.
 
-ghost use Rattle.std.specs.Prelude.{◌↔◌, IsTrue, map};
+ghost use Rattle.std.specs.Prelude.{◌↔◌, IsTrue, map, pos, unsigned_abs};
+ghost use Rattle.num_traits.specs.Laws.{Checks};
 ghost use Rattle.ndarray.specs.Sums.{IsSummableBy};
-ghost use Rattle.ndarray.specs.Integers.{int_sums, negative_sum, positive_sum};
+ghost use Rattle.ndarray.specs.Integers.{int_products, int_sums, magnitude_product, negative_sum, positive_sum};
 
 use crate::base::array::ArrayBase;
 use crate::base::dimension::Lengths;
 use crate::base::storage::Data;
+use crate::elements::IntegerElem;
 use num_traits::PrimInt;
 
 impl<A: PrimInt, S: Data<Elem = A>, D: Lengths> ArrayBase<S, D> {
@@ -40,5 +42,49 @@ impl<A: PrimInt, S: Data<Elem = A>, D: Lengths> ArrayBase<S, D> {
             }
         }
         true
+    }
+}
+
+impl<A: IntegerElem, S: Data<Elem = A>, D: Lengths> ArrayBase<S, D> {
+    /// Whether the absolute values of the cells that are not zero multiply to at most the type's greatest number. Then
+    /// every selection of the cells has its product in the type, as [`product`](Self::product) asks.
+    ///
+    /// Requires nothing, and the test allocates nothing. It may say no where `product` could be taken, as for a cell
+    /// 0 beside large ones, or for the least number of a signed type alone.
+    ///
+    /// ```
+    /// assert!(ArrayView::from_shape(3, &[-127i8, 1, 0])?.products_fit());
+    /// assert!(!ArrayView::from_shape(1, &[-128i8])?.products_fit());
+    /// ```
+    pub fn products_fit(&self) -> bool
+        ensures magnitudes { IsTrue result ↔ A.fits (pos (magnitude_product (map A.value self.now.cells))) }
+        ensures selections { IsTrue result → IsSummableBy int_products A.fits A.value self.now.cells }
+    {
+        let mut product = A::one();
+        for x in self.iter() {
+            x.tell_fits();
+            if !x.is_zero() {
+                let Some(factor) = magnitude(*x) else {
+                    return false;
+                };
+                let Some(next) = product.checked_mul(&factor) else {
+                    return false;
+                };
+                product = next;
+            }
+        }
+        true
+    }
+}
+
+/// The absolute value, where the type has it.
+fn magnitude<A: IntegerElem>(x: A) -> Option<A>
+    ensures { Checks A.value A.fits (pos (unsigned_abs (A.value x))) result }
+{
+    if x < A::zero() {
+        A::zero().checked_sub(&x)
+    } else {
+        x.tell_fits();
+        Some(x)
     }
 }
