@@ -2,5 +2,6 @@
 pub mod Collecting
 pub mod Elementwise
 pub mod Folding
+pub mod Lanes
 pub mod RowOrder
 pub mod Testing

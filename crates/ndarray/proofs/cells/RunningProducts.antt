@@ -67,6 +67,9 @@ pub record AreBlocks {A : Type 0} (g : Grid A) (k block : ℕ) : Type 0 where
   below : k < length g.lengths
   is_block : block ≡ block_in RowMajor g.lengths (length g.lengths - 1 - k)
 
+pub own-blocks : {A : Type 0} (g : Grid A) (k : ℕ) → IsGrid g → k < length g.lengths → AreBlocks g k (block_in RowMajor g.lengths (length g.lengths - 1 - k))
+own-blocks g k whole below = record { whole = whole; below = below; is_block = refl }
+
 -- as the strides of row order are
 pub blocks-of : {A : Type 0} (g : Grid A) (k block : ℕ) (ms bs : List ℕ) → IsGrid g → k < length g.lengths → ms ≡ g.lengths → AreStridesOf RowMajor ms bs → block ≡ get_or bs k 0 → AreBlocks g k block
 blocks-of g k block ms bs whole below same strides e =
@@ -74,7 +77,7 @@ blocks-of g k block ms bs whole below same strides e =
     let axis : axis_in RowMajor (length g.lengths) (length g.lengths - 1 - k) ≡ k = omega arith in
     record { whole = whole; below = below; is_block = e ∙ (ap (λ a. get_or bs a 0) (sym axis) ∙ h.each (length g.lengths - 1 - k) (omega arith)) }
 
-module _ {A : Type 0} (gives : A → A → A → Type 0) (g : Grid A) (k block : ℕ) (blocks : AreBlocks g k block) where
+module _ {A : Type 0} (g : Grid A) (k block : ℕ) (blocks : AreBlocks g k block) where
   whole : IsGrid g
   whole = blocks.whole
 
@@ -85,7 +88,7 @@ module _ {A : Type 0} (gives : A → A → A → Type 0) (g : Grid A) (k block :
   is_block = blocks.is_block
 
   -- another index on the axis
-  rank-at : (is : List ℕ) (v : ℕ) → InBox g.lengths is → rank g.lengths (set is k v) + get_or is k 0 * block ≡ rank g.lengths is + v * block
+  pub rank-at : (is : List ℕ) (v : ℕ) → InBox g.lengths is → rank g.lengths (set is k v) + get_or is k 0 * block ≡ rank g.lengths is + v * block
   rank-at is v b =
       let p : ℕ = length g.lengths - 1 - k in
       let axis : axis_in RowMajor (length g.lengths) p ≡ k = omega arith in
@@ -99,12 +102,13 @@ module _ {A : Type 0} (gives : A → A → A → Type 0) (g : Grid A) (k block :
       let m = suc-mul v block in
       omega (arith, r, m)
 
-  block-pos : (is : List ℕ) → InBox g.lengths is → 1 ≤ block
+  pub block-pos : (is : List ℕ) → InBox g.lengths is → 1 ≤ block
   block-pos is b =
       let d = InBox-drop (length g.lengths - (length g.lengths - 1 - k)) g.lengths is b in
       let s = InBox-some _ _ d in
       omega (arith, s, is_block)
 
+module _ {A : Type 0} (gives : A → A → A → Type 0) (g : Grid A) (k block : ℕ) (blocks : AreBlocks g k block) where
   pub products-start : (left : List (List ℕ)) (xs : List A) → left ≡ row_order g.lengths → xs ≡ g.cells → RunningProducts gives g k [] left xs
   products-start left xs e f = record { indices = e; cells = f; so_far = λ is b r. absurd (omega arith) }
 
@@ -128,7 +132,7 @@ module _ {A : Type 0} (gives : A → A → A → Type 0) (g : Grid A) (k block :
         let same : get_or (row_order g.lengths) (length ms) [] ≡ i = get_or_from_slice_get (row_order g.lengths) (length ms) i [] at_i in
         let within : InBox g.lengths i = subst (InBox g.lengths) same b in
         let place : rank g.lengths i ≡ length ms = ap (rank g.lengths) (sym same) ∙ r in
-        record { within = within; place = place; value = cell-within g whole i within ∙ (ap (slice_get g.cells) place ∙ at_x); room = below; indices = rest_i; cells = rest_x }
+        record { within = within; place = place; value = cell-within g blocks.whole i within ∙ (ap (slice_get g.cells) place ∙ at_x); room = below; indices = rest_i; cells = rest_x }
 
     pub products-room : length ms < size g.lengths
     products-room = here.room
@@ -139,12 +143,12 @@ module _ {A : Type 0} (gives : A → A → A → Type 0) (g : Grid A) (k block :
     -- the product before it has been pushed
     pub products-back : (0 < get_or i k 0) → (1 ≤ block) × (block ≤ length ms)
     products-back some =
-        let r = rank-back i (get_or i k 0 - 1) here.within (omega arith) in
+        let r = rank-back g k block blocks i (get_or i k 0 - 1) here.within (omega arith) in
         let e = here.place in
-        (block-pos i here.within, omega (arith, r, e))
+        (block-pos g k block blocks i here.within, omega (arith, r, e))
 
     before : (v : ℕ) → get_or i k 0 ≡ suc v → rank g.lengths (set i k v) ≡ length ms - block
-    before v e = let r = rank-back i v here.within e in let p = here.place in omega (arith, r, p)
+    before v e = let r = rank-back g k block blocks i v here.within e in let p = here.place in omega (arith, r, p)
 
     only-one : (is : List ℕ) → InBox g.lengths is → rank g.lengths is ≡ length ms → is ≡ i
     only-one is b r = sym (box_in-at RowMajor g.lengths is [] b) ∙ (ap (λ q. get_or (row_order g.lengths) q []) (r ∙ sym here.place) ∙ box_in-at RowMajor g.lengths i [] here.within)
@@ -158,7 +162,7 @@ module _ {A : Type 0} (gives : A → A → A → Type 0) (g : Grid A) (k block :
           first = λ y zero e. last ∙ (ap Some (is_first zero) ∙ (sym here.value ∙ e));
           next = λ v y p some e q.
               let at = before v some in
-              let pos = block-pos i here.within in
+              let pos = block-pos g k block blocks i here.within in
               let far = products-back (omega arith) in
               let same : y ≡ x = (let w = sym e ∙ here.value in cc) in
               let q' : slice_get ms (length ms - block) ≡ Some p = sym (old (length ms - block) (omega (arith, pos, far.1))) ∙ (ap (slice_get (ms ++ z ∷ [])) (sym at) ∙ q) in
@@ -173,7 +177,7 @@ module _ {A : Type 0} (gives : A → A → A → Type 0) (g : Grid A) (k block :
                 record {
                   first = λ y zero e. old (rank g.lengths is) earlier ∙ a.first y zero e;
                   next = λ v y p some e q.
-                      let back = rank-back is v b some in
+                      let back = rank-back g k block blocks is v b some in
                       let (w, f, gv) = a.next v y p some e (sym (old (rank g.lengths (set is k v)) (omega (arith, back, earlier))) ∙ q) in
                       (w, old (rank g.lengths is) earlier ∙ f, gv);
                 })
@@ -188,25 +192,25 @@ module _ {A : Type 0} (gives : A → A → A → Type 0) (g : Grid A) (k block :
         let ev : get_or i k 0 ≡ suc v = omega arith in
         let b = here.within in
         let len = InBox-length g.lengths i b in
-        let fits : get_or i k 0 < get_or g.lengths k 0 = InBox-get g.lengths i k b lt in
+        let fits : get_or i k 0 < get_or g.lengths k 0 = InBox-get g.lengths i k b blocks.below in
         let n : ℕ → List ℕ = λ j. set i k j in
         let box : (j : ℕ) → j ≤ v → InBox g.lengths (n j) = λ j le. InBox-set g.lengths i k j b (omega arith) in
         let index : (j : ℕ) → get_or (n j) k 0 ≡ j = λ j. get_or-set_same i k j 0 (omega (arith, len)) in
-        let pos = block-pos i b in
+        let pos = block-pos g k block blocks i b in
         let low : (j : ℕ) → j ≤ v → rank g.lengths (n j) < length ms =
         λ j le.
-        let r = rank-at i j b in
+        let r = rank-at g k block blocks i j b in
         let m : suc j * block ≤ get_or i k 0 * block = mul-le (suc j) block (get_or i k 0) block (omega arith) (omega arith) in
         let e = suc-mul j block in
         let t = here.place in
         omega (arith, r, m, e, t, pos) in
         let value : ℕ → A = λ j. get_or ms (rank g.lengths (n j)) x in
         let at : (j : ℕ) → j ≤ v → slice_get ms (rank g.lengths (n j)) ≡ Some (value j) = λ j le. slice_get-get_or ms (rank g.lengths (n j)) x (low j le) in
-        let lane_at = lane-cell g whole k lt i b in
+        let lane_at = lane-cell g blocks.whole k blocks.below i b in
         let last : value v ≡ p = (let s = sym (at v (omega arith)) ∙ (ap (slice_get ms) (before v ev) ∙ at_p) in cc) in
-        let (x0, e0) = cell-Some g whole (n 0) (box 0 (omega arith)) in
+        let (x0, e0) = cell-Some g blocks.whole (n 0) (box 0 (omega arith)) in
         subst (can x) last
-        (cumulate-on can gives (lane g k (remove i k)).cells value v (may (remove i k) (lane g k (remove i k)) (lane-among g whole k lt i b))
+        (cumulate-on can gives (lane g k (remove i k)).cells value v (may (remove i k) (lane g k (remove i k)) (lane-among g blocks.whole k blocks.below i b))
         (lane_at 0 (omega (arith, fits)) ∙ (e0 ∙ (sym ((h.so_far (n 0) (box 0 (omega arith)) (low 0 (omega arith))).first x0 (index 0) e0) ∙ at 0 (omega arith))))
         (λ j y below e.
         let cell_at : cell g (n (suc j)) ≡ Some y = sym (lane_at (suc j) (omega (arith, fits))) ∙ e in
@@ -221,7 +225,7 @@ module _ {A : Type 0} (gives : A → A → A → Type 0) (g : Grid A) (k block :
       let long = length-box_in RowMajor g.lengths in
       let dropped = length-drop (length ms) (row_order g.lengths) in
       let dropped_cells = length-drop (length ms) g.cells in
-      let w = whole in
+      let w = blocks.whole in
       elim none [
         | inl e ↦ (let z = ap length (sym h.indices ∙ e) in omega (arith, z, dropped, long, le))
         | inr e ↦ (let z = ap length (sym h.cells ∙ e) in omega (arith, z, dropped_cells, w, le))

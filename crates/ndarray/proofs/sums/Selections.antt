@@ -8,7 +8,7 @@ abbrev pub at_front : Bool → (ℕ → Bool) → ℕ → Bool
 at_front b keep zero = b
 at_front b keep (suc i) = keep i
 
-select-none : {A : Type 0} (xs : List A) → select (λ _. false) xs ≡ []
+pub select-none : {A : Type 0} (xs : List A) → select (λ _. false) xs ≡ []
 select-none [] = refl
 select-none (x ∷ xs) = select-none xs
 
