@@ -1,3 +1,5 @@
 pub mod Pieces
+pub mod PrintedCells
 pub mod StoredCells
+pub mod TestedCells
 pub mod WordsRead

@@ -1,4 +1,6 @@
+pub mod Adding
 pub mod Answering
+pub mod Printing
 pub mod Reading
 pub mod Spelling
 pub mod Stored

@@ -6,6 +6,8 @@ use Rattle.ndarray.specs.Grid.{Grid}
 use Rattle.ndarray.specs.Sums.{total}
 use Rattle.ndarray.specs.Integers.{int_sums}
 use Rattle.ndarray.specs.declared.base.shape.Order.{Order}
+use Rattle.ndtables.specs.Adding.{AreSums}
+use Rattle.ndtables.specs.Printing.{printed}
 use Rattle.ndtables.specs.Spelling.{IsSignedDigits, SpellsShape}
 
 -- of the words `old` the first were read as these numbers, a word each, and `new` are left
@@ -29,3 +31,14 @@ pub record PrintsSum (words : List (List ℕ)) (text : List ℕ) : Type 0 where
   pub table : Grid ℤ
   pub read : ReadsTable words [] table
   pub line : text ≡ signed_decimal (total int_sums table.cells) ++ 10 ∷ []
+
+-- all of the words were read as two tables, one after the other, and the text is the array of their sums
+pub record PrintsAdd (words : List (List ℕ)) (text : List ℕ) : Type 0 where
+  pub left : Grid ℤ
+  pub right : Grid ℤ
+  pub sums : Grid ℤ
+  pub rest : List (List ℕ)
+  pub read_left : ReadsTable words rest left
+  pub read_right : ReadsTable rest [] right
+  pub added : AreSums left right sums
+  pub lines : text ≡ printed sums

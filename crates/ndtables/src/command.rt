@@ -4,9 +4,11 @@ ghost use Rattle.std.specs.Prelude.{◌≡◌, ◌↔◌, IsSome, IfSome, IfOk, 
 ghost use Rattle.std.specs.Int.{w64};
 ghost use Rattle.ndarray.specs.Sums.{IsSummable, total};
 ghost use Rattle.ndarray.specs.Integers.{int_sums};
-ghost use Rattle.ndtables.specs.Reading.{PrintsSum};
+ghost use Rattle.ndtables.specs.Reading.{PrintsAdd, PrintsSum};
 
+use crate::adding::sums_in_range;
 use crate::fault::Fault;
+use crate::printing::text_of;
 use crate::words::Words;
 use ndarray::{ArrayView, Lengths};
 use std::alloc::Global;
@@ -14,6 +16,9 @@ use std::alloc::Global;
 /// A command, by its name.
 #[derive(Clone, Copy, PartialEq, Eq, Debug)]
 pub enum Command {
+    /// `add TABLE TABLE` prints the array of the sums of the cells of two tables, whose shapes are
+    /// broadcast together.
+    Add,
     /// `sum TABLE` prints the sum of all cells.
     Sum,
 }
@@ -26,6 +31,7 @@ impl Command {
         ensures { IfSome result (λ command. name.now ≡ name_of command) }
     {
         match name {
+            "add" => Some(Command::Add),
             "sum" => Some(Command::Sum),
             _ => None,
         }
@@ -36,9 +42,21 @@ impl Command {
         ensures { IfOk result (λ text. Prints self words.entry (string_bytes text)) }
     {
         match self {
+            Command::Add => add(alloc, words),
             Command::Sum => sum(alloc, words),
         }
     }
+}
+
+/// `add TABLE TABLE`.
+fn add(alloc: Global, mut words: Words<'_>) -> Result<String, Fault>
+    ensures { IfOk result (λ text. PrintsAdd words.entry (string_bytes text)) }
+{
+    let left = words.table(alloc)?;
+    let right = words.table(alloc)?;
+    words.end()?;
+    let sums = sums_in_range(alloc, &left.view(), &right.view())?;
+    Ok(text_of(alloc, &sums.view())?)
 }
 
 /// `sum TABLE`.

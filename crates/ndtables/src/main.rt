@@ -1,8 +1,10 @@
-//! Sums of tables: `ndtables COMMAND ARGS`.
+//! Arithmetic on tables: `ndtables COMMAND ARGS`.
 #![tactic(auto)]
 
+mod adding;
 mod command;
 mod fault;
+mod printing;
 mod program;
 mod spelling;
 mod table;

@@ -96,6 +96,51 @@ fn prints_sums(rt: HostRuntime) -> Result<(), Fail> {
 }
 
 #[test]
+fn prints_sums_of_two_tables(rt: HostRuntime) -> Result<(), Fail> {
+    let alloc = rt.alloc();
+    for (line, printed) in [
+        ("add . 1 . -2", "-1\n"),
+        ("add 3 1 2 3 3 10 20 30", "11 22 33\n"),
+        ("add 0 0", "\n"),
+        ("add 0 . 1", "\n"),
+        ("add 2x2 1 2 3 4 2 10 20", "11 22\n13 24\n"),
+        ("add 2x2f 1 2 3 4 . 1", "2 3\n4 5\n"),
+        ("add 2 10 20 2x2f 1 2 3 4", "11 22\n13 24\n"),
+        ("add 2x1 10 20 1x3 1 2 3", "11 12 13\n21 22 23\n"),
+        ("add 3x1 1 2 3 . 0", "1\n2\n3\n"),
+        ("add 1x3 1 2 3 . 0", "1 2 3\n"),
+        (
+            "add 2x2x2 1 2 3 4 5 6 7 8 2x1x1 0 10",
+            "1 2\n3 4\n\n15 16\n17 18\n",
+        ),
+        (
+            "add 2x2x1x2 1 2 3 4 5 6 7 8 . 0",
+            "1 2\n\n3 4\n\n5 6\n\n7 8\n",
+        ),
+        ("add 4611686018427387904x0 . 1", ""),
+        ("add 0x4611686018427387904 . 1", ""),
+        ("add 2x0 1x1 9223372036854775807", ""),
+        ("add 2x0x2305843009213693952 . 1", ""),
+        (
+            "add 2 9223372036854775807 -9223372036854775808 2 -9223372036854775808 9223372036854775807",
+            "-1 -1\n",
+        ),
+        (
+            "add 1x1x1x1x1x1x1x1x1x1x1x1x1x1x1x1x1x1x1x1x1x1x1x1x1x1x1x1x1x1x1x1 5 2x1x1x1x1x1x1x1x1x1x1x1x1x1x1x1x1x1x1x1x1x1x1x1x1x1x1x1x1x1x1x1 1 2",
+            "6\n\n7\n",
+        ),
+    ] {
+        let mut out = Vec::new(alloc);
+        let mut err = Vec::new(alloc);
+        let status = run(alloc, words_of(alloc, line)?.as_slice(), &mut out, &mut err);
+        assert_eq!(rt; out.as_slice(), printed.as_bytes(), "{line}");
+        assert_eq!(rt; err.as_slice(), b"".as_slice(), "{line}");
+        assert_eq!(rt; status, 0, "{line}");
+    }
+    Ok(())
+}
+
+#[test]
 fn prints_faults(rt: HostRuntime) -> Result<(), Fail> {
     let alloc = rt.alloc();
     for (line, printed) in [
@@ -150,6 +195,30 @@ fn prints_faults(rt: HostRuntime) -> Result<(), Fail> {
         ("sum 2 9223372036854775807 1", "ndtables: range\n"),
         ("sum 3f 9223372036854775807 -1 1", "ndtables: range\n"),
         ("sum 2 -9223372036854775808 -1", "ndtables: range\n"),
+        // Sums of two tables.
+        ("add", "ndtables: usage\n"),
+        ("add 2 1 2", "ndtables: usage\n"),
+        ("add 2 1 2 2 1", "ndtables: usage\n"),
+        ("add . 1 . 2 3", "ndtables: usage\n"),
+        ("add 1 9223372036854775807 . 1 .", "ndtables: usage\n"),
+        ("add 2 1 2 3 1 2 3 .", "ndtables: usage\n"),
+        ("add 2 1 a 3 1 2 3", "ndtables: number\n"),
+        ("add 2 1 2 3 1 2 a", "ndtables: number\n"),
+        ("add 2 1 2 x", "ndtables: shape\n"),
+        ("add 2 1 2 3 1 2 3", "ndtables: shape\n"),
+        ("add 2x3 1 2 3 4 5 6 2 1 2", "ndtables: shape\n"),
+        ("add 0 2 1 2", "ndtables: shape\n"),
+        // Shapes that broadcast together beyond the limit.
+        (
+            "add 4611686018427387904x1x0 1x4611686018427387904x0",
+            "ndtables: shape\n",
+        ),
+        (
+            "add 2 9223372036854775807 1 3 9223372036854775807 1 1",
+            "ndtables: shape\n",
+        ),
+        ("add 1 9223372036854775807 . 1", "ndtables: range\n"),
+        ("add . -1 2 5 -9223372036854775808", "ndtables: range\n"),
     ] {
         let mut out = Vec::new(alloc);
         let mut err = Vec::new(alloc);

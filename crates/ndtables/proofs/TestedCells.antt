@@ -1,0 +1,53 @@
+-- What `all` answers where the closure is a test of what is at an index list.
+use Rattle.std.proofs.Common.{◌≡◌, ℕ, List, [], ◌∷◌, Bool, true, false, refl, sym, subst, ◌∙◌, inl, inr, ℤ, ◌+ℤ◌, Some, get_or}
+use Rattle.std.specs.Prelude.{All, IsTrue, ◌↔◌, FitsSigned}
+use Rattle.std.specs.Int.{w64}
+use Rattle.std.specs.List.{FoldsTo, AllByRecursion}
+use Rattle.ndarray.specs.Grid.{Grid, cell}
+use Rattle.ndarray.specs.Orders.{box_in}
+use Rattle.ndarray.specs.Runs.{RunsUntil}
+use Rattle.ndarray.specs.declared.base.shape.Order.{Order}
+use Rattle.ndarray.proofs.callers.Collecting.{All-middle, box-contains}
+use Rattle.ndarray.proofs.cells.Cells.{cell-inside}
+use Rattle.std.proofs.lemmas.List.Elements.{All-contains, All-from_recursion}
+
+-- Turns that go on, and those that stop, each leave the closure f as it was, and tell whether P holds there.
+module _ {F X : Type 0} (goes : F → X → F → Type 0) (stops : F → X → Type 0) (ended : F → Type 0) (f : F) (P : X → Type 0)
+    (stays : (x : X) (k : F) → goes f x k → (k ≡ f) × P x) where
+  passed : (xs : List X) (p q : F) → p ≡ f → FoldsTo goes p xs q → AllByRecursion P xs × (q ≡ f)
+  passed [] p q e c = (tt, sym c ∙ e)
+  passed (x ∷ xs) p q e c =
+      let (m, turn, rest) = c in
+      let u = stays x m (subst (λ g. goes g x m) e turn) in
+      let r = passed xs m q u.0 rest in
+      ((u.1, r.0), r.1)
+
+  -- it answers whether P holds of all
+  pub test-decides : (xs : List X) (r : Bool) → ((x : X) → stops f x → (r ≡ false) × (P x → ⊥)) → (ended f → r ≡ true) → RunsUntil goes stops ended f xs → IsTrue r ↔ All P xs
+  test-decides xs r stop end c =
+      let (done, q, turns, last) = c in
+      let went = passed done f q refl turns in
+      elim last as (λ _. IsTrue r ↔ All P xs) [
+        | inl h ↦ (λ _. subst (All P) h.0 (All-from_recursion P done went.0), λ _. end (subst ended went.1 h.1))
+        | inr h ↦ let (x, rest, parts, at) = h in
+            let u = stop x (subst (λ g. stops g x) went.1 at) in
+            (λ yes. absurd (cc), λ each. absurd (u.1 (All-middle P done x rest xs each parts)))
+      ]
+
+-- the sum of the cells of two arrays at an index list is an `i64`
+abbrev pub SumFits : Grid ℤ → Grid ℤ → List ℕ → Type 0
+SumFits g h is = (x y : ℤ) → cell g is ≡ Some x → cell h is ≡ Some y → FitsSigned w64 (x +ℤ y)
+
+-- what is known of the cells is known of all values of them
+pub sum-is : (g h : Grid ℤ) (is : List ℕ) (x y v w : ℤ) → cell g is ≡ Some x → cell h is ≡ Some y → cell g is ≡ Some v → cell h is ≡ Some w → FitsSigned w64 (x +ℤ y) → FitsSigned w64 (v +ℤ w)
+sum-is g h is x y v w a b p q fits =
+    let e : x ≡ v = cc in
+    let f : y ≡ w = cc in
+    subst (λ z. FitsSigned w64 (v +ℤ z)) f (subst (λ z. FitsSigned w64 (z +ℤ y)) e fits)
+
+-- it holds at each index list where it holds along the box
+pub each-in_box : (g h : Grid ℤ) (o : Order) → All (SumFits g h) (box_in o g.lengths) ↔ ((is : List ℕ) → SumFits g h is)
+each-in_box g h o = (
+  λ all is x y l r. All-contains (SumFits g h) (box_in o g.lengths) is all (box-contains o g.lengths is (cell-inside g is x l)) x y l r,
+  λ each k d lt. each (get_or (box_in o g.lengths) k d),
+)
