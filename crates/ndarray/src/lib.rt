@@ -5,7 +5,8 @@
 //! cells are made by `from_shape_vec`, `zeros` and the like, views over slices by
 //! `ArrayView::from_shape`. Views of them are turned, cut and broadcast without a copy. Cells are walked
 //! by `iter`, subviews by `rows`, `axis_iter`, `windows` and the like, several arrays together by `Zip`, to
-//! read or to write, and added up by `sum`. The names are those of Rust's crate `ndarray` 0.17.2.
+//! read or to write, computed with by operators, and added up or multiplied by `sum`, `product` and their like along an
+//! axis. The names are those of Rust's crate `ndarray` 0.17.2.
 #![tactic(auto)]
 
 pub mod base;

@@ -1,4 +1,5 @@
-//! Sums and products of the cells of an array, running products and differences along an axis.
+//! Sums and products of the cells of an array and of its lanes, and whether they are in range; running products and
+//! differences along an axis.
 
 ghost use Rattle.std.specs.Prelude.{◌≡◌, ◌<◌, length, IfOk};
 ghost use Rattle.ndarray.specs.AlongAxis.{IsSummableArray, IsTotalOf};
@@ -87,7 +88,7 @@ impl<A: ProductElem, S: Data<Elem = A>, D: Dimension> ArrayBase<S, D> {
     ///
     /// Requires `axis < ndim()`, which `axis_ok` tells, and that of each lane every selection of the cells has its
     /// product in range: `Zip::from(array.lanes(axis)).all(|lane| lane.products_fit())` is enough, and so is
-    /// [`products_fit`](Self::products_fit) of the whole array where no cell is zero. The error is allocation failure.
+    /// [`products_fit`](Self::products_fit) of the whole array. The error is allocation failure.
     ///
     /// ```
     /// let view = ArrayView::from_shape((2, 3), &[1i64, 2, 3, 4, 5, 6])?;

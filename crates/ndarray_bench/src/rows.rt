@@ -1,5 +1,6 @@
 //! Rows of a file: a table, calls on it, and the answer that they have to give, each on every layout of the table.
 
+mod along;
 mod answer;
 mod calls;
 mod items;

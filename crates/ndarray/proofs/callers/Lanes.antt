@@ -1,11 +1,11 @@
--- What holds of all selections of an array's cells holds of those of each lane.
+-- Lanes: what holds of all selections of an array's cells holds of those of each lane; running products that may always be formed.
 use Rattle.std.proofs.Common.{◌≡◌, ◌+◌, ◌-◌, ◌*◌, ◌<◌, ◌≤◌, ℕ, zero, suc, Bool, true, false, if◌then◌else◌, List, [], ◌∷◌, Some, length, get_or, set, refl, ap, sym, ◌∙◌, subst, arith, inl, inr, remove, insert}
 use Rattle.std.specs.Prelude.{slice_get}
 use Rattle.std.proofs.Math.Nat.{suc-mul}
 use Rattle.std.proofs.lemmas.Bool.{cases_eq}
 use Rattle.std.proofs.lemmas.List.Edits.{length-remove}
 use Rattle.ndarray.specs.Algebra.{CommutativeMonoid}
-use Rattle.ndarray.specs.AlongAxis.{IsSummableArray}
+use Rattle.ndarray.specs.AlongAxis.{CanCumulate, CanMultiplyOn, IsSummableArray}
 use Rattle.ndarray.specs.Elementwise.{CanMap}
 use Rattle.ndarray.specs.Grid.{Grid, IsGrid, arranged, cell}
 use Rattle.ndarray.specs.Index.{InBox}
@@ -37,22 +37,22 @@ select-through [] [] p up at keep = (keep, refl)
 select-through [] (x ∷ xs) p up at keep = let e = at 0 (omega arith) in absurd (cc)
 select-through (y ∷ ys) [] p up at keep = let w = select-through ys [] p (λ j lt. absurd (omega arith)) (λ j lt. absurd (omega arith)) keep in (at_front false w.0, w.1)
 select-through (y ∷ ys) (x ∷ xs) p up at keep = elim (cases_eq (p 0) 0) [
-    inl e ↦
+  | inl e ↦
       (let same : y ≡ x = (let s = ap (slice_get (y ∷ ys)) (sym e) ∙ at 0 (omega arith) in cc) in
       let some : (j : ℕ) → j < length xs → 1 ≤ p (suc j) = λ j lt. (let u = up j (omega arith) in omega (arith, u)) in
       let w = select-through ys xs (λ j. p (suc j) - 1)
-          (λ j lt. let u = up (suc j) (omega arith) in let s = some j (omega arith) in omega (arith, u, s))
-          (λ j lt. sym (later y ys (p (suc j)) (some j lt)) ∙ at (suc j) (omega arith))
-          (λ i. keep (suc i)) in
+      (λ j lt. let u = up (suc j) (omega arith) in let s = some j (omega arith) in omega (arith, u, s))
+      (λ j lt. sym (later y ys (p (suc j)) (some j lt)) ∙ at (suc j) (omega arith))
+      (λ i. keep (suc i)) in
       (at_front (keep 0) w.0, ap (λ l. if keep 0 then y ∷ l else l) w.1 ∙ ap (λ z. if keep 0 then z ∷ select (λ i. keep (suc i)) xs else select (λ i. keep (suc i)) xs) same))
   | inr ne ↦
       (let some : (j : ℕ) → j < length (x ∷ xs) → 1 ≤ p j = λ j lt. (let l = rising-low p (length (x ∷ xs)) up j lt in omega (arith, l)) in
       let w = select-through ys (x ∷ xs) (λ j. p j - 1)
-          (λ j lt. let u = up j lt in let s = some j (omega arith) in omega (arith, u, s))
-          (λ j lt. sym (later y ys (p j) (some j lt)) ∙ at j lt)
-          keep in
+      (λ j lt. let u = up j lt in let s = some j (omega arith) in omega (arith, u, s))
+      (λ j lt. sym (later y ys (p j) (some j lt)) ∙ at j lt)
+      keep in
       (at_front false w.0, w.1))
-  ]
+]
 
 module _ {A : Type 0} (g : Grid A) (whole : IsGrid g) (k : ℕ) (lt : k < length g.lengths) where
   -- each selection of a lane is one of the array
@@ -79,12 +79,21 @@ module _ {A : Type 0} (g : Grid A) (whole : IsGrid g) (k : ℕ) (lt : k < length
       let b : InBox (remove g.lengths k) js = subst (λ w. InBox w.lengths js) among (cell-inside (lanes_of g k) js l e) in
       let is_lane : l ≡ lane g k js = arranged-at (remove g.lengths k) (lane g k) (lanes_of g k) js l among (cell-inside (lanes_of g k) js l e) e in
       elim (cases_eq (get_or g.lengths k 0) 0) [
-        inl none ↦ (λ keep. subst in_range (ap (total_by M value) (select-none g.cells ∙ (sym (ap (select keep) (ap (λ w. w.cells) is_lane ∙ no-lane g k js none))))) (h (λ _. false)))
-      | inr some ↦
-        (let is : List ℕ = insert js k 0 in
-        let c : InBox g.lengths is = InBox-insert g.lengths js k 0 lt (omega arith) b in
-        let back : remove is k ≡ js = remove-inserted js k 0 (let n = InBox-length (remove g.lengths k) js b in let r : length (remove g.lengths k) + 1 ≡ length g.lengths = length-remove g.lengths k lt in omega (arith, n, r, lt)) in
-        λ keep.
+        | inl none ↦ (λ keep. subst in_range (ap (total_by M value) (select-none g.cells ∙ (sym (ap (select keep) (ap (λ w. w.cells) is_lane ∙ no-lane g k js none))))) (h (λ _. false)))
+        | inr some ↦
+            (let is : List ℕ = insert js k 0 in
+            let c : InBox g.lengths is = InBox-insert g.lengths js k 0 lt (omega arith) b in
+            let back : remove is k ≡ js = remove-inserted js k 0 (let n = InBox-length (remove g.lengths k) js b in let r : length (remove g.lengths k) + 1 ≡ length g.lengths = length-remove g.lengths k lt in omega (arith, n, r, lt)) in
+            λ keep.
             let w = lane-selection is c keep in
             subst in_range (ap (total_by M value) (w.1 ∙ ap (select keep) (ap (λ js. (lane g k js).cells) back ∙ sym (ap (λ w. w.cells) is_lane)))) (h w.0))
       ]
+
+-- where multiplication is defined on any two elements, running products may be formed of any list
+multiply-always : {A : Type 0} (can : A → A → Type 0) (gives : A → A → A → Type 0) → ((x p : A) → can x p) → (p : A) (xs : List A) → CanMultiplyOn can gives p xs
+multiply-always can gives all p [] = tt
+multiply-always can gives all p (x ∷ xs) = (all x p, λ r g. multiply-always can gives all r xs)
+
+pub cumulate-always : {A : Type 0} (can : A → A → Type 0) (gives : A → A → A → Type 0) → ((x p : A) → can x p) → (xs : List A) → CanCumulate can gives xs
+cumulate-always can gives all [] = tt
+cumulate-always can gives all (x ∷ xs) = multiply-always can gives all x xs

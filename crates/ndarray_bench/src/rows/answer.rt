@@ -1,7 +1,7 @@
 //! What a row gives.
 
 use crate::rows::layouts::{Layout, Table};
-use crate::rows::{operators, owned, reading, spelling, writing};
+use crate::rows::{along, operators, owned, reading, spelling, writing};
 use std::alloc::{AllocError, Global};
 
 /// What the calls of a row give on a layout of its table: `TABLE | CALL | ..`.
@@ -19,7 +19,7 @@ pub fn answer(alloc: Global, row: &str, layout: Layout) -> Result<String, AllocE
     }
 }
 
-/// What a call gives on a layout of a table of `i8`, which has one call: `sums_fit`.
+/// What a call gives on a layout of a table of `i8`, which has two calls: `sums_fit` and `products_fit`.
 fn of_i8(
     alloc: Global,
     table: &[&str],
@@ -34,6 +34,7 @@ fn of_i8(
     };
     match calls {
         [call] if call.trim() == "sums_fit" => sums_fit(alloc, &table, cells.as_slice()),
+        [call] if call.trim() == "products_fit" => products_fit(alloc, &table, cells.as_slice()),
         _ => "not understood".to_string(alloc),
     }
 }
@@ -42,6 +43,14 @@ fn of_i8(
 fn sums_fit(alloc: Global, table: &Table, cells: &[i8]) -> Result<String, AllocError> {
     match table.view_of(cells) {
         Ok(view) => view.sums_fit().to_string(alloc),
+        Err(error) => reading::kind(alloc, &error),
+    }
+}
+
+/// Whether the products of these cells fit, which lie as those of a table.
+fn products_fit(alloc: Global, table: &Table, cells: &[i8]) -> Result<String, AllocError> {
+    match table.view_of(cells) {
+        Ok(view) => view.products_fit().to_string(alloc),
         Err(error) => reading::kind(alloc, &error),
     }
 }
@@ -107,6 +116,9 @@ fn begun(
 /// What calls give on a view of a table.
 fn read(alloc: Global, table: &Table, calls: &[&str]) -> Result<String, AllocError> {
     if let Some(text) = operators::answer(alloc, table, calls)? {
+        return Ok(text);
+    }
+    if let Some(text) = along::answer(alloc, table, calls)? {
         return Ok(text);
     }
     match table.view() {

@@ -15,7 +15,8 @@ use std::alloc::{AllocError, Global};
 
 type Owned = Array<Wrapped, IxDyn>;
 
-type View<'a> = ArrayView<'a, Wrapped, IxDyn>;
+/// A view of numbers to compute with.
+pub type View<'a> = ArrayView<'a, Wrapped, IxDyn>;
 
 /// What an operator gives on a table, after calls that view it; `None` where the call after those is no operator.
 ///
@@ -139,7 +140,7 @@ fn computed(
 }
 
 /// The view that calls make of a view; `None` where a test of one of them says no.
-fn all_viewed<'a>(given: View<'a>, calls: &[ViewCall]) -> Option<View<'a>> {
+pub fn all_viewed<'a>(given: View<'a>, calls: &[ViewCall]) -> Option<View<'a>> {
     let mut view = given;
     for call in calls {
         view = match viewed(view, *call) {
@@ -242,7 +243,7 @@ fn push_between(
 }
 
 /// Appends an array to other answers, unless it is the same.
-fn push_answer(text: &mut String, alloc: Global, array: Owned) -> Result<(), AllocError> {
+pub fn push_answer(text: &mut String, alloc: Global, array: Owned) -> Result<(), AllocError> {
     let mut next = String::new(alloc);
     push_lengths(&mut next, array.shape())?;
     for cell in array.iter() {

@@ -1,5 +1,7 @@
 //! Calls that answer a number, a cell, or yes or no.
 
+ghost use Rattle.std.specs.Prelude.{◌<◌, length};
+
 use crate::rows::reading::View;
 use crate::rows::shown::{as_text, push_lengths, push_view};
 use crate::rows::spelling::{axis, index, lengths, number, slice};
@@ -45,6 +47,8 @@ fn of_view(alloc: Global, view: &View<'_>, name: &str) -> Result<Option<String>,
         "len" => view.len().to_string(alloc).map(Some),
         "sums_fit" => view.sums_fit().to_string(alloc).map(Some),
         "sum" => sum(alloc, view).map(Some),
+        "products_fit" => view.products_fit().to_string(alloc).map(Some),
+        "product" => product(alloc, view).map(Some),
         _ => Ok(None),
     }
 }
@@ -79,6 +83,9 @@ fn along(
         "axis_ok" => view.axis_ok(axis).to_string(alloc).map(Some),
         "lanes_ok" => view.lanes_ok(axis).to_string(alloc).map(Some),
         "len_of" if view.axis_ok(axis) => view.len_of(axis).to_string(alloc).map(Some),
+        "sum_axis" if view.axis_ok(axis) => sum_axis(alloc, view, axis).map(Some),
+        "product_axis" if view.axis_ok(axis) => product_axis(alloc, view, axis).map(Some),
+        "sum_axis" | "product_axis" => "refused".to_string(alloc).map(Some),
         _ => Ok(None),
     }
 }
@@ -94,6 +101,7 @@ fn of_two(
     match name {
         "slice_ok" => is_so(alloc, slice_fits(view, first, second, "1")),
         "chunk_ok" => is_so(alloc, chunk_fits(view, first, second)),
+        "diff_ok" => is_so(alloc, diff_fits(view, first, second)),
         "windows_ok" => windows_fit(alloc, view, first, second),
         "split_at" => split_at(alloc, view, first, second),
         _ => Ok(None),
@@ -108,6 +116,11 @@ fn slice_fits(view: &View<'_>, at: &str, range: &str, step: &str) -> Option<bool
 /// What `chunk_ok` answers of a spelled axis and size.
 fn chunk_fits(view: &View<'_>, at: &str, size: &str) -> Option<bool> {
     Some(view.chunk_ok(axis(at)?, number(size)?))
+}
+
+/// What `diff_ok` answers of a spelled order and axis.
+fn diff_fits(view: &View<'_>, order: &str, at: &str) -> Option<bool> {
+    Some(view.diff_ok(number(order)?, axis(at)?))
 }
 
 /// What `windows_ok` answers of spelled lengths and steps.
@@ -176,6 +189,37 @@ fn cell_at(alloc: Global, view: &View<'_>, at: &[&str]) -> Result<Option<String>
 fn sum(alloc: Global, view: &View<'_>) -> Result<String, AllocError> {
     if view.sums_fit() {
         view.sum().to_string(alloc)
+    } else {
+        "refused".to_string(alloc)
+    }
+}
+
+/// The product of the cells; `refused` where one of their selections may be out of range.
+fn product(alloc: Global, view: &View<'_>) -> Result<String, AllocError> {
+    if view.products_fit() {
+        view.product().to_string(alloc)
+    } else {
+        "refused".to_string(alloc)
+    }
+}
+
+/// The sum of each lane; `refused` where a sum of some cells may be out of range.
+fn sum_axis(alloc: Global, view: &View<'_>, axis: Axis) -> Result<String, AllocError>
+    requires { axis.0 < length view.now.lengths }
+{
+    if view.sums_fit() {
+        as_text(alloc, &view.sum_axis(alloc, axis)?.view())
+    } else {
+        "refused".to_string(alloc)
+    }
+}
+
+/// The product of each lane; `refused` where a product of some cells may be out of range.
+fn product_axis(alloc: Global, view: &View<'_>, axis: Axis) -> Result<String, AllocError>
+    requires { axis.0 < length view.now.lengths }
+{
+    if view.products_fit() {
+        as_text(alloc, &view.product_axis(alloc, axis)?.view())
     } else {
         "refused".to_string(alloc)
     }

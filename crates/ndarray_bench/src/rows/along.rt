@@ -1,0 +1,76 @@
+//! Running products and differences along an axis of a table.
+
+use crate::rows::calls::ViewCall;
+use crate::rows::layouts::Table;
+use crate::rows::operators::{View, all_viewed, push_answer};
+use crate::rows::reading::kind;
+use crate::rows::spelling::{axis, number};
+use crate::rows::wrapped::all_wrapped;
+use crate::rows::writing::views_spelled;
+use ndarray::Axis;
+use std::alloc::{AllocError, Global};
+
+/// What a call gives on a table, after calls that view it; `None` where the call after those is none of these.
+pub fn answer(alloc: Global, table: &Table, calls: &[&str]) -> Result<Option<String>, AllocError> {
+    let views = views_spelled(alloc, calls)?;
+    let [call] = calls.get(views.len()..).unwrap_or(&[]) else {
+        return Ok(None);
+    };
+    let words: Vec<&str> = call.split_whitespace().collect(alloc)?;
+    match AlongCall::spelled(words.as_slice()) {
+        Some(call) => computed(alloc, table, views.as_slice(), call).map(Some),
+        None => Ok(None),
+    }
+}
+
+/// A call along an axis.
+#[derive(Clone, Copy)]
+enum AlongCall {
+    Cumprod(Axis),
+    Diff(usize, Axis),
+}
+
+impl AlongCall {
+    /// The call that these words spell.
+    fn spelled(words: &[&str]) -> Option<AlongCall> {
+        let (name, arguments) = words.split_first()?;
+        match arguments {
+            [at] if *name == "cumprod" => Some(AlongCall::Cumprod(axis(*at)?)),
+            [order, at] if *name == "diff" => { Some(AlongCall::Diff(number(*order)?, axis(*at)?)) }
+            _ => None,
+        }
+    }
+}
+
+/// What a call gives on a table, after calls that view it; `refused` where a test of the library says no.
+fn computed(
+    alloc: Global,
+    table: &Table,
+    views: &[ViewCall],
+    call: AlongCall,
+) -> Result<String, AllocError> {
+    let cells = all_wrapped(alloc, table.cells.as_slice())?;
+    let view = match table.view_of(cells.as_slice()) {
+        Ok(view) => view,
+        Err(error) => return kind(alloc, &error),
+    };
+    match all_viewed(view, views) {
+        Some(view) => along(alloc, &view, call),
+        None => "refused".to_string(alloc),
+    }
+}
+
+/// What a call gives on a view.
+fn along(alloc: Global, view: &View<'_>, call: AlongCall) -> Result<String, AllocError> {
+    let mut text = String::new(alloc);
+    match call {
+        AlongCall::Cumprod(axis) if view.axis_ok(axis) => {
+            push_answer(&mut text, alloc, view.cumprod(alloc, axis)?)?;
+        }
+        AlongCall::Diff(order, axis) if view.diff_ok(order, axis) => {
+            push_answer(&mut text, alloc, view.diff(alloc, order, axis)?)?;
+        }
+        _ => text.push_str("refused")?,
+    }
+    Ok(text)
+}
