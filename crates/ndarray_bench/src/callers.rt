@@ -1,17 +1,19 @@
 //! Functions that a user would write over the library, each with what it computes as its contract. docs/CALLING.md
 //! goes through them.
 
-ghost use Rattle.std.specs.Prelude.{◌≡◌, ◌∷◌, ◌+ℤ◌, ℕ, ℤ, List, Some, max, nat_lt, IfOk, FitsSigned};
+ghost use Rattle.std.specs.Prelude.{◌≡◌, ◌∷◌, [], ◌+ℤ◌, ℕ, ℤ, List, Some, max, nat_lt, IfOk, IfSome, FitsSigned};
 ghost use Rattle.std.specs.Int.{w64};
 ghost use Rattle.std.specs.List.{fold, list_all, list_any};
 ghost use Rattle.ndarray.specs.Elementwise.{CanCombine, Combines};
 ghost use Rattle.ndarray.specs.Grid.{arranged, cell};
-ghost use Rattle.ndarray.specs.Sums.{total_by};
+ghost use Rattle.ndarray.specs.Integers.{int_products, int_sums};
+ghost use Rattle.ndarray.specs.Subviews.{lane};
+ghost use Rattle.ndarray.specs.Sums.{total, total_by};
 ghost use Rattle.ndarray_bench.specs.Callers.{half_at, sum_at, sum_below};
 ghost use Rattle.ndarray_bench.specs.Residue.{modulus, modulus_pos, residue_sums};
 
 use crate::residue::Residue;
-use ndarray::{Array, ArrayBase, Data, DimMax, Dimension, Ix1, Ix2, Zip};
+use ndarray::{Array, ArrayBase, Axis, Data, DimMax, Dimension, Ix1, Ix2, Zip};
 use std::alloc::{AllocError, Global};
 
 /// Half of each cell, rounded down, whatever keeps the cells and however they lie.
@@ -85,4 +87,31 @@ pub fn add_row(table: &mut Array<i64, Ix2>, row: &Array<i64, Ix1>)
 {
     let _length = row.raw_dim();
     *table += row;
+}
+
+/// The product of all cells, or `None` where the absolute values of those that are not zero multiply to more than the
+/// greatest `i64`.
+pub fn product_in_range<S: Data<Elem = i64>, D: Dimension>(a: &ArrayBase<S, D>) -> Option<i64>
+    ensures { IfSome result (λ p. p ≡ total int_products a.now.cells) }
+{
+    if a.products_fit() {
+        Some(a.product())
+    } else {
+        None
+    }
+}
+
+/// The sum of each row of a table, or `None` where some of its numbers may add up to more than an `i64`.
+pub fn row_sums<S: Data<Elem = i64>>(
+    alloc: Global,
+    a: &ArrayBase<S, Ix2>,
+) -> Result<Option<Array<i64, Ix1>>, AllocError>
+    ensures { IfOk result (λ made. IfSome made (λ r. (i : ℕ) (s : ℤ) → cell r (i ∷ []) ≡ Some s → s ≡ total int_sums (lane a.now 1 (i ∷ [])).cells)) }
+{
+    let table = a.view();
+    if !table.sums_fit() {
+        return Ok(None);
+    }
+    let sums = table.sum_axis(alloc, Axis(1))?;
+    Ok(Some(sums))
 }

@@ -6,7 +6,7 @@ use Rattle.std.proofs.lemmas.Bool.{cases_eq}
 use Rattle.std.proofs.lemmas.List.Edits.{length-remove}
 use Rattle.ndarray.specs.Algebra.{CommutativeMonoid}
 use Rattle.ndarray.specs.AlongAxis.{CanCumulate, CanMultiplyOn, IsSummableArray}
-use Rattle.ndarray.specs.Elementwise.{CanMap}
+use Rattle.ndarray.specs.Elementwise.{CanMap, Maps}
 use Rattle.ndarray.specs.Grid.{Grid, IsGrid, arranged, cell}
 use Rattle.ndarray.specs.Index.{InBox}
 use Rattle.ndarray.specs.Subviews.{lane, lanes_of}
@@ -88,6 +88,13 @@ module _ {A : Type 0} (g : Grid A) (whole : IsGrid g) (k : ℕ) (lt : k < length
             let w = lane-selection is c keep in
             subst in_range (ap (total_by M value) (w.1 ∙ ap (select keep) (ap (λ js. (lane g k js).cells) back ∙ sym (ap (λ w. w.cells) is_lane)))) (h w.0))
       ]
+
+-- what was made of all lanes along an axis: at each index list of the other axes it is what the lane there gives
+pub lane-maps : {A B : Type 0} (g : Grid A) (k : ℕ) → 0 < length g.lengths → (gives : Grid A → B → Type 0) (r : Grid B) → Maps gives (lanes_of g k) r → (js : List ℕ) (z : B) → cell r js ≡ Some z → gives (lane g k js) z
+lane-maps g k some gives r m js z e =
+    let (l, at, given) = m.cells js z e in
+    let among = lanes_of-some g.lengths g k some in
+    subst (λ x. gives x z) (arranged-at (remove g.lengths k) (lane g k) (lanes_of g k) js l among (cell-inside (lanes_of g k) js l at) at) given
 
 -- where multiplication is defined on any two elements, running products may be formed of any list
 multiply-always : {A : Type 0} (can : A → A → Type 0) (gives : A → A → A → Type 0) → ((x p : A) → can x p) → (p : A) (xs : List A) → CanMultiplyOn can gives p xs

@@ -207,20 +207,22 @@ fn product(alloc: Global, view: &View<'_>) -> Result<String, AllocError> {
 fn sum_axis(alloc: Global, view: &View<'_>, axis: Axis) -> Result<String, AllocError>
     requires { axis.0 < length view.now.lengths }
 {
-    if view.sums_fit() {
-        as_text(alloc, &view.sum_axis(alloc, axis)?.view())
-    } else {
-        "refused".to_string(alloc)
+    let table = view.view();
+    if !table.sums_fit() {
+        return "refused".to_string(alloc);
     }
+    let sums = table.sum_axis(alloc, axis)?;
+    as_text(alloc, &sums.view())
 }
 
 /// The product of each lane; `refused` where a product of some cells may be out of range.
 fn product_axis(alloc: Global, view: &View<'_>, axis: Axis) -> Result<String, AllocError>
     requires { axis.0 < length view.now.lengths }
 {
-    if view.products_fit() {
-        as_text(alloc, &view.product_axis(alloc, axis)?.view())
-    } else {
-        "refused".to_string(alloc)
+    let table = view.view();
+    if !table.products_fit() {
+        return "refused".to_string(alloc);
     }
+    let products = table.product_axis(alloc, axis)?;
+    as_text(alloc, &products.view())
 }
