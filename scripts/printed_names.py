@@ -53,6 +53,10 @@ def name_of_impl(module, header, homes):
     of_trait, _, kind = re.split(r"\bwhere\b", header)[0].strip(" ,").rpartition(" for ")
     if of_trait and of_trait != "Drop":
         said = ["".join(it[0].upper() + it[1:] for it in words(part, names)) for part in (kind, of_trait)]
+        name, *right = words(of_trait, names)
+        if said[0] == "Array" and "<" in of_trait and right in ([], ["Array"]):
+            # Of an operator between an array and another one, or a scalar of any type, the parameters are told too.
+            return f"{module}::ArrayAnyAny{name}{'' if right else 'Any'}"
         return f"{module}::{said[0] or 'Any'}{said[1]}"
     own, *inside = words(kind)
     if own in homes and all(it in names for it in inside):
