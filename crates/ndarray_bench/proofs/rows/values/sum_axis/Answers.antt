@@ -6,7 +6,7 @@ use Rattle.ndarray.proofs.callers.Lanes.{lanes-summable}
 use Rattle.ndarray_bench.proofs.rows.values.sum_axis.Goals as goal
 
 pub sum_axis-requires-clause-lanes : goal.sum_axis-requires-clause-lanes
-sum_axis-requires-clause-lanes g c =
+sum_axis-requires-clause-lanes c =
     let same = ap (λ v. length v.lengths) c.view-table.ensures.same in
     let axis = c.requires in
     lanes-summable c.view-table.result c.view-table.ensures.whole c.args.axis.0 (omega (arith, same, axis)) int_sums (FitsSigned w64) (λ x. x) (c.if-not-sums_fit.ensures.selections.0 refl)
