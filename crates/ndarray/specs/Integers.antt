@@ -1,5 +1,5 @@
 -- The whole numbers with addition and with multiplication, the sums of the positive and of the negative ones of a list, and the product of the absolute values.
-use Rattle.std.specs.Prelude.{◌≡◌, ℕ, zero, suc, ◌*◌, ℤ, pos, negsuc, ◌+ℤ◌, ◌*ℤ◌, neg_ℤ, List, [], ◌∷◌, FitsSigned}
+use Rattle.std.specs.Prelude.{ℕ, zero, suc, ◌*◌, ℤ, pos, negsuc, ◌+ℤ◌, ◌*ℤ◌, neg_ℤ, List, [], ◌∷◌, FitsSigned}
 use Rattle.std.specs.Int.{Width}
 use Rattle.std.proofs.Common.{arith}
 use Rattle.std.proofs.Math.IntN.{+ℤ_assoc, +ℤ_comm, +ℤ_idl, *ℤ_comm}

@@ -1,5 +1,5 @@
 -- Lanes: what holds of all selections of an array's cells holds of those of each lane; running products that may always be formed.
-use Rattle.std.proofs.Common.{◌≡◌, ◌+◌, ◌-◌, ◌*◌, ◌<◌, ◌≤◌, ℕ, zero, suc, Bool, true, false, if◌then◌else◌, List, [], ◌∷◌, Some, length, get_or, set, refl, ap, sym, ◌∙◌, subst, arith, inl, inr, remove, insert}
+use Rattle.std.proofs.Common.{◌≡◌, ◌+◌, ◌-◌, ◌<◌, ◌≤◌, ℕ, zero, suc, Bool, false, if◌then◌else◌, List, [], ◌∷◌, Some, length, get_or, set, refl, ap, sym, ◌∙◌, subst, arith, inl, inr, remove, insert}
 use Rattle.std.specs.Prelude.{slice_get}
 use Rattle.std.proofs.Math.Nat.{suc-mul}
 use Rattle.std.proofs.lemmas.Bool.{cases_eq}

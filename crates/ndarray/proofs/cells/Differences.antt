@@ -1,5 +1,5 @@
 -- The cells of two parts of an axis, one place apart, and the array of their differences.
-use Rattle.std.proofs.Common.{◌≡◌, ℕ, ◌+◌, ◌-◌, ◌<◌, ◌≤◌, zero, suc, List, Some, length, get_or, set, refl, ap, sym, ◌∙◌, subst, arith, add-one}
+use Rattle.std.proofs.Common.{◌≡◌, ℕ, ◌+◌, ◌-◌, ◌<◌, ◌≤◌, zero, suc, List, Some, length, get_or, set, ap, sym, ◌∙◌, subst, arith, add-one}
 use Rattle.std.proofs.lemmas.List.{set-get_or, get_or-set_same, length-set}
 use Rattle.std.specs.Prelude.{⊤}
 use Rattle.ndarray.specs.AlongAxis.{IsDifference, IsDifferenceOf, one_further}

@@ -1,5 +1,5 @@
 -- The cells of a lane.
-use Rattle.std.proofs.Common.{◌≡◌, ◌<◌, ◌≤◌, ℕ, zero, suc, List, [], ◌∷◌, Option, Some, length, get_or, set, refl, ap, sym, ◌∙◌, subst, arith, remove, insert, All}
+use Rattle.std.proofs.Common.{◌≡◌, ◌<◌, ◌≤◌, ℕ, zero, suc, List, [], ◌∷◌, Option, Some, length, get_or, set, refl, ap, sym, ◌∙◌, arith, remove, insert, All}
 use Rattle.ndarray.specs.Grid.{Grid, IsGrid, cell, tabulated}
 use Rattle.ndarray.specs.Index.{InBox, row_order}
 use Rattle.ndarray.specs.Subviews.{lane, lanes_of}

@@ -1,10 +1,10 @@
 -- What updates leave in the cells of an array.
-use Rattle.std.proofs.Common.{◌≡◌, ℕ, ◌<◌, List, [], ◌∷◌, ◌++◌, length, Ok, Err, arith, refl, sym, subst, ap, ◌∙◌, length-append, inl, inr}
+use Rattle.std.proofs.Common.{◌≡◌, ℕ, List, [], ◌∷◌, ◌++◌, length, Ok, Err, arith, subst, ap, length-append, inl, inr}
 use Rattle.std.specs.Prelude.{IsOk, Result}
 use Rattle.std.specs.List.{FoldsTo}
 use Rattle.ndarray.specs.Index.{size}
 use Rattle.ndarray.specs.Grid.{Grid, IsGrid}
-use Rattle.ndarray.specs.Orders.{box_in, cells_in, HasInOrder}
+use Rattle.ndarray.specs.Orders.{box_in, HasInOrder}
 use Rattle.ndarray.specs.Runs.{Collects, TurnAt, GatherTurn}
 use Rattle.ndarray.specs.Updates.{UpdatesUntil, answers}
 use Rattle.ndarray.specs.declared.base.shape.Order.{Order}

@@ -1,12 +1,11 @@
 -- Turns seen through a function of their states.
 use Rattle.std.proofs.Common.{ℕ, List, [], ◌∷◌, ap, inl, inr, subst, Ok, Err}
 use Rattle.std.specs.List.{FoldsTo}
-use Rattle.ndarray.specs.Runs.{MayTurnAt, RunsUntil, TurnAt, TakesAt, GatherTurn, MayGather, Collects}
+use Rattle.ndarray.specs.Runs.{MayTurnAt, RunsUntil, TurnAt, TakesAt, GatherTurn, MayGather}
 use Rattle.ndarray.specs.Updates.{answers, UpdatesUntil}
-use Rattle.std.specs.Prelude.{Result, IfOk}
+use Rattle.std.specs.Prelude.{Result}
 use Rattle.ndarray.specs.Grid.{Grid}
 use Rattle.ndarray.specs.Orders.{box_in}
-use Rattle.ndarray.proofs.lists.Collections.{if_ok}
 use Rattle.ndarray.specs.declared.base.shape.Order.{Order}
 
 module _ {P Q X : Type 0} (turn : P → X → P → Type 0) (turn' : Q → X → Q → Type 0) (k : P → Q) (each : (p : P) (i : X) (q : P) → turn p i q → turn' (k p) i (k q)) where

@@ -1,5 +1,5 @@
 -- An array that is broadcast to its own lengths, or to those with one more before them.
-use Rattle.std.proofs.Common.{◌≡◌, ℕ, zero, suc, ◌+◌, ◌-◌, List, [], ◌∷◌, Option, Some, inr, length, drop, get_or, refl, sym, ◌∙◌, ap, arith, cond}
+use Rattle.std.proofs.Common.{◌≡◌, ℕ, suc, ◌+◌, ◌-◌, List, [], ◌∷◌, Option, Some, inr, length, drop, get_or, refl, sym, ◌∙◌, ap, arith, cond}
 use Rattle.std.proofs.lemmas.Bool.Decides.{nat_tests}
 use Rattle.std.specs.Prelude.{◌==◌, ◌<◌}
 use Rattle.ndarray.specs.Broadcast.{BroadcastsTo, broadcast_index, zero_on_unit_axes}

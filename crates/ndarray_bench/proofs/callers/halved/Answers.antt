@@ -1,4 +1,4 @@
-use Rattle.std.proofs.Common.{rules, ◌≡◌, ◌∙◌, ◌/◌, Some, ap, refl, sym}
+use Rattle.std.proofs.Common.{rules, ◌≡◌, ◌∙◌, ◌/◌, Some, ap, refl}
 use Rattle.ndarray.specs.Grid.{arranged, cell}
 use Rattle.ndarray.proofs.callers.Collecting.{collected, if_ok-both}
 use Rattle.ndarray_bench.specs.Callers.{half_at}

@@ -1,7 +1,5 @@
-use Rattle.std.proofs.Common.{◌≡◌, ◌+◌, ◌*◌, ◌<◌, ◌^◌, ◌++◌, ◌∷◌, ◌∙◌, ap, sym, subst, rules, arith}
+use Rattle.std.proofs.Common.{◌≡◌, ◌+◌, ◌*◌, ◌<◌, ◌^◌, ◌++◌, ◌∷◌, ◌∙◌, ap, rules, arith}
 use Rattle.std.specs.List.{sum_by}
-use Rattle.ndarray.specs.Grid.{cell}
-use Rattle.ndarray.specs.Index.{row_order}
 use Rattle.ndarray.specs.Orders.{box_in}
 use Rattle.ndarray.proofs.callers.Folding.{fold-follows, may-follow}
 use Rattle.ndarray_bench.specs.PairedProducts.{product_at}

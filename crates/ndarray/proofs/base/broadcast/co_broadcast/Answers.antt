@@ -1,4 +1,4 @@
-use Rattle.std.proofs.Common.{◌≡◌, ◌+◌, ◌<◌, ◌≤◌, ℕ, ap, arith, get_or, inl, inr, refl, sym, ◌∙◌, set, subst, length, max, List}
+use Rattle.std.proofs.Common.{◌≡◌, ◌+◌, ◌<◌, ℕ, ap, arith, get_or, inl, inr, sym, ◌∙◌, set, subst, length, max, List}
 use Rattle.std.proofs.lemmas.Bool.{cases_eq}
 use Rattle.std.proofs.lemmas.List.{get_or-set_same, get_or-set_other, length-set}
 use Rattle.ndarray.specs.Broadcast.{meeting_length, with_ones_before, broadcast_lengths}

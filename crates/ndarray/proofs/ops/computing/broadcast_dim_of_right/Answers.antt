@@ -1,4 +1,4 @@
-use Rattle.std.proofs.Common.{◌≡◌, ◌∙◌, ap, length, max, subst, sym}
+use Rattle.std.proofs.Common.{◌∙◌, ap, length, max, subst, sym}
 use Rattle.std.proofs.Math.Nat.{max_comm}
 use Rattle.ndarray.proofs.views.BroadcastLengths.{length-broadcast}
 use Rattle.ndarray.proofs.ops.computing.broadcast_dim_of_right.Goals as goal

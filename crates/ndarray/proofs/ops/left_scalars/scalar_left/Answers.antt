@@ -1,4 +1,4 @@
-use Rattle.std.proofs.Common.{◌≡◌, ◌∙◌, refl, sym, subst, List}
+use Rattle.std.proofs.Common.{◌≡◌, ◌∙◌, refl, sym, subst}
 use Rattle.ndarray.specs.Calls.{can_call_by_ref2, call_gives_by_ref2}
 use Rattle.ndarray.specs.Orders.{box_in}
 use Rattle.ndarray.specs.Runs.{Collects, MayGather, TurnAt, TakesAt, GatherTurn}

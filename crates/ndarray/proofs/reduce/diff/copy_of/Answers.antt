@@ -1,9 +1,9 @@
-use Rattle.std.proofs.Common.{◌≡◌, ◌∙◌, Some, ap, sym, subst}
+use Rattle.std.proofs.Common.{◌∙◌, Some, ap, sym, subst}
 use Rattle.std.specs.Prelude.{⊤}
 use Rattle.ndarray.specs.Grid.{IsGrid, cell}
 use Rattle.ndarray.specs.Index.{InBox}
 use Rattle.ndarray.proofs.callers.Collecting.{if_ok-both}
-use Rattle.ndarray.proofs.cells.Cells.{cell-Some, cell-inside, same_grid}
+use Rattle.ndarray.proofs.cells.Cells.{cell-Some, same_grid}
 use Rattle.ndarray.proofs.cells.CollectedCells.{Collects-at}
 use Rattle.ndarray.proofs.reduce.diff.copy_of.Goals as goal
 

@@ -1,10 +1,9 @@
-use Rattle.std.proofs.Common.{rules, ◌≡◌, ◌∙◌, ◌+◌, ◌-◌, ◌++◌, ◌∷◌, [], ◌⊎◌, Some, length, get_or, inl, inr, refl, ap, sym, subst, arith}
+use Rattle.std.proofs.Common.{◌≡◌, ◌∙◌, ◌-◌, ◌∷◌, [], Some, length, inl, inr, ap, sym, subst, arith}
 use Rattle.std.specs.Prelude.{slice_get}
 use Rattle.std.proofs.lemmas.List.{length-append}
 use Rattle.std.proofs.lemmas.Option.{slice_get-get_or}
 use Rattle.ndarray.specs.Index.{row_order, size}
 use Rattle.ndarray.specs.Orders.{cells_in}
-use Rattle.ndarray.specs.declared.base.shape.Order.TheVariants.{RowMajor}
 use Rattle.ndarray.proofs.cells.RunningProducts.{RunningProducts, blocks-of, products-start, products-room, products-axis, products-back, products-can, products-next, products-all, cumulates-of}
 use Rattle.ndarray.proofs.base.array.ArrayBase.cumprod.Goals as goal
 use Rattle.ndarray.proofs.base.array.ArrayBase.cumprod.Goals.{then-axis-eq0, else-axis-eq0}

@@ -1,4 +1,4 @@
-use Rattle.std.proofs.Common.{List, ◌^◌, ◌≡◌, ◌<◌, ◌≤◌, ◌+◌, ◌-◌, ℕ, [], ◌∷◌, arith, length, get_or, set, ap, refl, ◌∙◌}
+use Rattle.std.proofs.Common.{List, ◌≡◌, ◌<◌, ◌≤◌, ◌+◌, ◌-◌, ℕ, [], ◌∷◌, arith, length, get_or, set, ap, refl, ◌∙◌}
 use Rattle.std.specs.Prelude.{⊤}
 use Rattle.ndarray.specs.Index.{InBox}
 use Rattle.ndarray.specs.base.Places.{Rearranges}
