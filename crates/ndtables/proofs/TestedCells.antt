@@ -5,6 +5,7 @@ use Rattle.std.specs.Int.{w64}
 use Rattle.std.specs.List.{FoldsTo, AllByRecursion}
 use Rattle.ndarray.specs.Grid.{Grid, cell}
 use Rattle.ndarray.specs.Orders.{box_in}
+use Rattle.ndarray.specs.Elementwise.{CanMap}
 use Rattle.ndarray.specs.Runs.{RunsUntil}
 use Rattle.ndarray.specs.declared.base.shape.Order.{Order}
 use Rattle.ndarray.proofs.callers.Collecting.{All-middle, box-contains}
@@ -51,3 +52,43 @@ each-in_box g h o = (
   λ all is x y l r. All-contains (SumFits g h) (box_in o g.lengths) is all (box-contains o g.lengths is (cell-inside g is x l)) x y l r,
   λ each k d lt. each (get_or (box_in o g.lengths) k d),
 )
+
+-- what holds of each cell along the box holds of each cell
+pub each-cell : {A : Type 0} (P : A → Type 0) (g : Grid A) (o : Order) → All (λ is. (x : A) → cell g is ≡ Some x → P x) (box_in o g.lengths) ↔ CanMap P g
+each-cell {A} P g o = (
+  λ all is x here. All-contains (λ js. (y : A) → cell g js ≡ Some y → P y) (box_in o g.lengths) is all (box-contains o g.lengths is (cell-inside g is x here)) x here,
+  λ each k d lt. each (get_or (box_in o g.lengths) k d),
+)
+
+-- Turns at the cells of an array, each of which tells of its cell whether P holds of it.
+module _ {F A : Type 0} (goes : F → List ℕ → F → Type 0) (stops : F → List ℕ → Type 0) (ended : F → Type 0) (f : F) (P : A → Type 0) (g : Grid A) (o : Order) (r : Bool)
+    (ran : RunsUntil goes stops ended f (box_in o g.lengths))
+    (stays : (is : List ℕ) (k : F) → goes f is k → (k ≡ f) × ((x : A) × (cell g is ≡ Some x) × P x)) where
+  holds-at : (is : List ℕ) (k : F) → goes f is k → (k ≡ f) × ((x : A) → cell g is ≡ Some x → P x)
+  holds-at is k turn =
+      let (same, found) = stays is k turn in
+      let (x, here, holds) = found in
+      (same, λ y there. let e : x ≡ y = cc in subst P e holds)
+
+  -- it answers whether P holds of all
+  pub tested-cells : ((is : List ℕ) → stops f is → (r ≡ false) × ((x : A) × (cell g is ≡ Some x) × (P x → ⊥))) → (ended f → r ≡ true) → IsTrue r ↔ CanMap P g
+  tested-cells stop end =
+      let decides = test-decides goes stops ended f (λ is. (x : A) → cell g is ≡ Some x → P x) holds-at (box_in o g.lengths) r
+      (λ is at.
+      let (off, found) = stop is at in
+      let (x, here, not) = found in
+      (off, λ all. not (all x here)))
+      end ran in
+      let along = each-cell P g o in
+      (λ on. along.0 (decides.0 on), λ each. decides.1 (along.1 each))
+
+  -- where it stops with no alone, P holds of all if it answers yes
+  pub tested-holds : ((q : F) (is : List ℕ) → stops q is → r ≡ false) → IsTrue r → CanMap P g
+  tested-holds stop on =
+      let Q = λ (is : List ℕ). (x : A) → cell g is ≡ Some x → P x in
+      let (done, q, turns, last) = ran in
+      let went = passed goes stops ended f Q holds-at done f q refl turns in
+      elim last as (λ _. CanMap P g) [
+        | inl h ↦ (each-cell P g o).0 (subst (All Q) h.0 (All-from_recursion Q done went.0))
+        | inr h ↦ let off : r ≡ false = stop _ _ h.3 in absurd (cc)
+      ]

@@ -1,0 +1,98 @@
+//! Sums and products of all cells and of the lanes along an axis, where they are in range.
+
+ghost use Rattle.std.specs.Prelude.{◌≡◌, ◌↔◌, pos, IsTrue, IsSome, IfSome, IfOk, IfErr, FitsSigned};
+ghost use Rattle.std.specs.Int.{w64};
+ghost use Rattle.ndarray.specs.Elementwise.{CanMap};
+ghost use Rattle.ndarray.specs.Subviews.{lanes_of};
+ghost use Rattle.ndarray.specs.Sums.{IsSummable, total};
+ghost use Rattle.ndarray.specs.Integers.{int_products, int_sums, magnitude_product};
+ghost use Rattle.ndtables.specs.Reducing.{AreTotalsAlong, CanMultiplyAlong, CanSumAlong, ForbidsMaking, HasAxis};
+
+use crate::fault::Fault;
+use ndarray::{Array, ArrayView, Axis, IxDyn, Lengths, Zip};
+use std::alloc::Global;
+
+/// The sum of all cells, or `None` where some selection of them has a sum that does not fit `i64`.
+pub fn sum_in_range<D: Lengths>(table: &ArrayView<'_, i64, D>) -> Option<i64>
+    ensures fits { IsSome result ↔ IsSummable int_sums (FitsSigned w64) table.now.cells }
+    ensures value { IfSome result (λ sum. sum ≡ total int_sums table.now.cells) }
+{
+    if table.sums_fit() {
+        Some(table.sum())
+    } else {
+        None
+    }
+}
+
+/// The product of all cells, or `None` where the absolute values of those that are not zero multiply
+/// to more than the greatest `i64`.
+pub fn product_in_range<D: Lengths>(table: &ArrayView<'_, i64, D>) -> Option<i64>
+    ensures fits { IsSome result ↔ FitsSigned w64 (pos (magnitude_product table.now.cells)) }
+    ensures value { IfSome result (λ product. product ≡ total int_products table.now.cells) }
+{
+    if table.products_fit() {
+        Some(table.product())
+    } else {
+        None
+    }
+}
+
+/// The array of the sums of the lanes along an axis.
+///
+/// The fault is `shape` where there is no such axis, else `range` where some selection of a lane's
+/// cells has a sum that does not fit `i64`, else `memory`.
+pub fn sums_along(
+    alloc: Global,
+    table: &ArrayView<'_, i64, IxDyn>,
+    axis: Axis,
+) -> Result<Array<i64, IxDyn>, Fault>
+    ensures sums { IfOk result (AreTotalsAlong int_sums table.now axis.0) }
+    ensures err { IfErr result (ForbidsMaking (HasAxis table.now axis.0) (CanSumAlong table.now axis.0)) }
+{
+    if !table.axis_ok(axis) {
+        return Err(Fault::Shape);
+    }
+    if !lane_sums_fit(table, axis) {
+        return Err(Fault::Range);
+    }
+    Ok(table.sum_axis(alloc, axis)?)
+}
+
+/// Whether on each lane along an axis every selection of the cells has a sum that fits `i64`.
+fn lane_sums_fit(table: &ArrayView<'_, i64, IxDyn>, axis: Axis) -> bool
+    requires axis { HasAxis table.now axis.0 }
+    ensures { IsTrue result ↔ CanSumAlong table.now axis.0 }
+{
+    Zip::from(table.lanes(axis)).all(|lane| lane.sums_fit())
+}
+
+/// The array of the products of the lanes along an axis.
+///
+/// The fault is `shape` where there is no such axis, else `range` where the absolute values of a
+/// lane's cells that are not zero multiply to more than the greatest `i64`, else `memory`.
+pub fn products_along(
+    alloc: Global,
+    table: &ArrayView<'_, i64, IxDyn>,
+    axis: Axis,
+) -> Result<Array<i64, IxDyn>, Fault>
+    ensures products { IfOk result (AreTotalsAlong int_products table.now axis.0) }
+    ensures err { IfErr result (ForbidsMaking (HasAxis table.now axis.0) (CanMultiplyAlong table.now axis.0)) }
+{
+    if !table.axis_ok(axis) {
+        return Err(Fault::Shape);
+    }
+    if !lane_products_fit(table, axis) {
+        return Err(Fault::Range);
+    }
+    Ok(table.product_axis(alloc, axis)?)
+}
+
+/// Whether on each lane along an axis the absolute values of the cells that are not zero multiply to
+/// at most the greatest `i64`.
+fn lane_products_fit(table: &ArrayView<'_, i64, IxDyn>, axis: Axis) -> bool
+    requires axis { HasAxis table.now axis.0 }
+    ensures magnitudes { IsTrue result ↔ CanMultiplyAlong table.now axis.0 }
+    ensures selections { IsTrue result → CanMap (λ lane. IsSummable int_products (FitsSigned w64) lane.cells) (lanes_of table.now axis.0) }
+{
+    Zip::from(table.lanes(axis)).all(|lane| lane.products_fit())
+}
