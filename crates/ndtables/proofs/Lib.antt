@@ -1,3 +1,5 @@
+pub mod EmptyLanes
+pub mod Neighbours
 pub mod Pieces
 pub mod PrintedCells
 pub mod StoredCells

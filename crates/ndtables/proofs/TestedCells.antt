@@ -1,7 +1,6 @@
 -- What `all` answers where the closure is a test of what is at an index list.
-use Rattle.std.proofs.Common.{◌≡◌, ℕ, List, [], ◌∷◌, Bool, true, false, refl, sym, subst, ◌∙◌, inl, inr, ℤ, ◌+ℤ◌, Some, get_or}
-use Rattle.std.specs.Prelude.{All, IsTrue, ◌↔◌, FitsSigned}
-use Rattle.std.specs.Int.{w64}
+use Rattle.std.proofs.Common.{◌≡◌, ℕ, List, [], ◌∷◌, Bool, true, false, refl, sym, subst, ◌∙◌, inl, inr, ℤ, Some, get_or}
+use Rattle.std.specs.Prelude.{All, IsTrue, ◌↔◌}
 use Rattle.std.specs.List.{FoldsTo, AllByRecursion}
 use Rattle.ndarray.specs.Grid.{Grid, cell}
 use Rattle.ndarray.specs.Orders.{box_in}
@@ -35,21 +34,21 @@ module _ {F X : Type 0} (goes : F → X → F → Type 0) (stops : F → X → T
             (λ yes. absurd (cc), λ each. absurd (u.1 (All-middle P done x rest xs each parts)))
       ]
 
--- the sum of the cells of two arrays at an index list is an `i64`
-abbrev pub SumFits : Grid ℤ → Grid ℤ → List ℕ → Type 0
-SumFits g h is = (x y : ℤ) → cell g is ≡ Some x → cell h is ≡ Some y → FitsSigned w64 (x +ℤ y)
+-- P holds of the cells of two arrays at an index list
+abbrev pub HoldsOf : (ℤ → ℤ → Type 0) → Grid ℤ → Grid ℤ → List ℕ → Type 0
+HoldsOf P g h is = (x y : ℤ) → cell g is ≡ Some x → cell h is ≡ Some y → P x y
 
 -- what is known of the cells is known of all values of them
-pub sum-is : (g h : Grid ℤ) (is : List ℕ) (x y v w : ℤ) → cell g is ≡ Some x → cell h is ≡ Some y → cell g is ≡ Some v → cell h is ≡ Some w → FitsSigned w64 (x +ℤ y) → FitsSigned w64 (v +ℤ w)
-sum-is g h is x y v w a b p q fits =
+pub cells-are : (P : ℤ → ℤ → Type 0) (g h : Grid ℤ) (is : List ℕ) (x y v w : ℤ) → cell g is ≡ Some x → cell h is ≡ Some y → cell g is ≡ Some v → cell h is ≡ Some w → P x y → P v w
+cells-are P g h is x y v w a b p q holds =
     let e : x ≡ v = cc in
     let f : y ≡ w = cc in
-    subst (λ z. FitsSigned w64 (v +ℤ z)) f (subst (λ z. FitsSigned w64 (z +ℤ y)) e fits)
+    subst (P v) f (subst (λ z. P z y) e holds)
 
 -- it holds at each index list where it holds along the box
-pub each-in_box : (g h : Grid ℤ) (o : Order) → All (SumFits g h) (box_in o g.lengths) ↔ ((is : List ℕ) → SumFits g h is)
-each-in_box g h o = (
-  λ all is x y l r. All-contains (SumFits g h) (box_in o g.lengths) is all (box-contains o g.lengths is (cell-inside g is x l)) x y l r,
+pub each-in_box : (P : ℤ → ℤ → Type 0) (g h : Grid ℤ) (o : Order) → All (HoldsOf P g h) (box_in o g.lengths) ↔ ((is : List ℕ) → HoldsOf P g h is)
+each-in_box P g h o = (
+  λ all is x y l r. All-contains (HoldsOf P g h) (box_in o g.lengths) is all (box-contains o g.lengths is (cell-inside g is x l)) x y l r,
   λ each k d lt. each (get_or (box_in o g.lengths) k d),
 )
 

@@ -8,7 +8,7 @@ use Rattle.ndarray.specs.Integers.{int_products, int_sums}
 use Rattle.ndarray.specs.declared.base.shape.Order.{Order}
 use Rattle.ndtables.specs.Adding.{AreSums}
 use Rattle.ndtables.specs.Printing.{printed}
-use Rattle.ndtables.specs.Reducing.{AreTotalsAlong}
+use Rattle.ndtables.specs.Reducing.{AreDifferences, AreTotalsAlong}
 use Rattle.ndtables.specs.Spelling.{IsDigits, IsSignedDigits, SpellsShape}
 
 -- of the words `old` the first were read as these numbers, a word each, and `new` are left
@@ -78,3 +78,17 @@ pub record PrintsProductAxis (words : List (List ℕ)) (text : List ℕ) : Type 
   pub read_table : ReadsTable rest [] table
   pub multiplied : AreTotalsAlong int_products table axis products
   pub lines : text ≡ printed products
+
+-- all of the words were read as an order, an axis and a table, and the text is the table's difference of that order along the axis
+pub record PrintsDiff (words : List (List ℕ)) (text : List ℕ) : Type 0 where
+  pub order : ℕ
+  pub axis : ℕ
+  pub table : Grid ℤ
+  pub differences : Grid ℤ
+  pub after_order : List (List ℕ)
+  pub after_axis : List (List ℕ)
+  pub read_order : ReadsCount words after_order order
+  pub read_axis : ReadsCount after_order after_axis axis
+  pub read_table : ReadsTable after_axis [] table
+  pub subtracted : AreDifferences table order axis differences
+  pub lines : text ≡ printed differences

@@ -1,9 +1,10 @@
--- Totals of the lanes of a table along an axis.
-use Rattle.std.specs.Prelude.{◌≡◌, ℕ, ◌<◌, ℤ, pos, length, FitsSigned}
+-- Totals of the lanes of a table along an axis, and differences along it.
+use Rattle.std.specs.Prelude.{◌≡◌, ◌⊎◌, ℕ, ◌<◌, List, ℤ, ◌-ℤ◌, pos, Some, length, slice_index, FitsSigned}
 use Rattle.std.specs.Int.{w64}
 use Rattle.ndarray.specs.Algebra.{CommutativeMonoid}
+use Rattle.ndarray.specs.AlongAxis.{CanDiffer, IsDifferenceOf, one_further}
 use Rattle.ndarray.specs.Elementwise.{CanMap, Maps}
-use Rattle.ndarray.specs.Grid.{Grid}
+use Rattle.ndarray.specs.Grid.{Grid, cell}
 use Rattle.ndarray.specs.Integers.{int_sums, magnitude_product}
 use Rattle.ndarray.specs.Subviews.{lanes_of}
 use Rattle.ndarray.specs.Sums.{IsSummable, total}
@@ -34,3 +35,32 @@ ForbidsMaking shape in_range Shape = shape → ⊥
 ForbidsMaking shape in_range Number = ⊥
 ForbidsMaking shape in_range Range = shape × (in_range → ⊥)
 ForbidsMaking shape in_range Memory = shape × in_range
+
+-- the third number is the first minus the second
+abbrev pub is_difference : ℤ → ℤ → ℤ → Type 0
+is_difference y x z = z ≡ y -ℤ x
+
+-- the array has the axis, and the order is 0 or below its length
+abbrev pub HasOrder : Grid ℤ → ℕ → ℕ → Type 0
+HasOrder g n axis = HasAxis g axis × ((n ≡ 0) ⊎ (n < slice_index g.lengths axis))
+
+-- each cell that is one further along the axis, minus the cell, is an `i64`
+abbrev pub CanSubtractAlong : Grid ℤ → ℕ → Type 0
+CanSubtractAlong g axis = (is : List ℕ) (y x : ℤ) → cell g (one_further axis is) ≡ Some y → cell g is ≡ Some x → FitsSigned w64 (y -ℤ x)
+
+-- each difference on the way to that order is an `i64`
+abbrev pub CanDifferAlong : Grid ℤ → ℕ → ℕ → Type 0
+CanDifferAlong g n axis = CanDiffer is_difference axis (λ y x. FitsSigned w64 (y -ℤ x)) n g
+
+-- the array has the axis, long enough for the order, and the other one is its difference of that order
+pub record AreDifferences (g : Grid ℤ) (n axis : ℕ) (differences : Grid ℤ) : Type 0 where
+  pub shape : HasOrder g n axis
+  pub cells : IsDifferenceOf is_difference axis n g differences
+
+-- the fault is why differences were not made: the shape does not allow them, or one on the way is no `i64`, or allocation failure on the way
+abbrev pub ForbidsDifferences : Grid ℤ → ℕ → ℕ → Fault → Type 0
+ForbidsDifferences g n axis Usage = ⊥
+ForbidsDifferences g n axis Shape = HasOrder g n axis → ⊥
+ForbidsDifferences g n axis Number = ⊥
+ForbidsDifferences g n axis Range = HasOrder g n axis × (CanDifferAlong g n axis → ⊥)
+ForbidsDifferences g n axis Memory = HasOrder g n axis

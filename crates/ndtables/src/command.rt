@@ -1,12 +1,12 @@
 //! The commands: each reads its arguments and answers the text that it prints.
 
 ghost use Rattle.std.specs.Prelude.{◌≡◌, IfSome, IfOk, string_bytes};
-ghost use Rattle.ndtables.specs.Reading.{PrintsAdd, PrintsProduct, PrintsProductAxis, PrintsSum, PrintsSumAxis};
+ghost use Rattle.ndtables.specs.Reading.{PrintsAdd, PrintsDiff, PrintsProduct, PrintsProductAxis, PrintsSum, PrintsSumAxis};
 
 use crate::adding::sums_in_range;
 use crate::fault::Fault;
 use crate::printing::text_of;
-use crate::reducing::{product_in_range, products_along, sum_in_range, sums_along};
+use crate::reducing::{differences, product_in_range, products_along, sum_in_range, sums_along};
 use crate::words::Words;
 use ndarray::Axis;
 use std::alloc::Global;
@@ -17,6 +17,8 @@ pub enum Command {
     /// `add TABLE TABLE` prints the array of the sums of the cells of two tables, whose shapes are
     /// broadcast together.
     Add,
+    /// `diff N K TABLE` prints the difference of order N along axis K.
+    Diff,
     /// `product TABLE` prints the product of all cells.
     Product,
     /// `product-axis K TABLE` prints the array of the products of the lanes along axis K.
@@ -36,6 +38,7 @@ impl Command {
     {
         match name {
             "add" => Some(Command::Add),
+            "diff" => Some(Command::Diff),
             "product" => Some(Command::Product),
             "product-axis" => Some(Command::ProductAxis),
             "sum" => Some(Command::Sum),
@@ -50,6 +53,7 @@ impl Command {
     {
         match self {
             Command::Add => add(alloc, words),
+            Command::Diff => diff(alloc, words),
             Command::Product => product(alloc, words),
             Command::ProductAxis => product_axis(alloc, words),
             Command::Sum => sum(alloc, words),
@@ -67,6 +71,18 @@ fn add(alloc: Global, mut words: Words<'_>) -> Result<String, Fault>
     words.end()?;
     let sums = sums_in_range(alloc, &left.view(), &right.view())?;
     Ok(text_of(alloc, &sums.view())?)
+}
+
+/// `diff N K TABLE`.
+fn diff(alloc: Global, mut words: Words<'_>) -> Result<String, Fault>
+    ensures { IfOk result (λ text. PrintsDiff words.entry (string_bytes text)) }
+{
+    let order = words.count()?;
+    let axis = words.count()?;
+    let table = words.table(alloc)?;
+    words.end()?;
+    let differences = differences(alloc, &table.view(), order, Axis(axis))?;
+    Ok(text_of(alloc, &differences.view())?)
 }
 
 /// `product TABLE`.

@@ -1,12 +1,14 @@
-//! Sums and products of all cells and of the lanes along an axis, where they are in range.
+//! Sums and products of all cells and of the lanes along an axis, and differences along an axis,
+//! where they are in range.
 
-ghost use Rattle.std.specs.Prelude.{◌≡◌, ◌↔◌, pos, IsTrue, IsSome, IfSome, IfOk, IfErr, FitsSigned};
+ghost use Rattle.std.specs.Prelude.{◌≡◌, ◌↔◌, ◌<◌, ◌-ℤ◌, ℕ, ℤ, List, Some, pos, slice_index, IsTrue, IsSome, IfSome, IfOk, IfErr, FitsSigned};
 ghost use Rattle.std.specs.Int.{w64};
 ghost use Rattle.ndarray.specs.Elementwise.{CanMap};
+ghost use Rattle.ndarray.specs.Grid.{cell};
 ghost use Rattle.ndarray.specs.Subviews.{lanes_of};
 ghost use Rattle.ndarray.specs.Sums.{IsSummable, total};
 ghost use Rattle.ndarray.specs.Integers.{int_products, int_sums, magnitude_product};
-ghost use Rattle.ndtables.specs.Reducing.{AreTotalsAlong, CanMultiplyAlong, CanSumAlong, ForbidsMaking, HasAxis};
+ghost use Rattle.ndtables.specs.Reducing.{AreDifferences, AreTotalsAlong, CanMultiplyAlong, CanSubtractAlong, CanSumAlong, ForbidsDifferences, ForbidsMaking, HasAxis};
 
 use crate::fault::Fault;
 use ndarray::{Array, ArrayView, Axis, IxDyn, Lengths, Zip};
@@ -63,6 +65,10 @@ fn lane_sums_fit(table: &ArrayView<'_, i64, IxDyn>, axis: Axis) -> bool
     requires axis { HasAxis table.now axis.0 }
     ensures { IsTrue result ↔ CanSumAlong table.now axis.0 }
 {
+    // Without cells there may be more lanes than could be walked.
+    if table.len() == 0 {
+        return true;
+    }
     Zip::from(table.lanes(axis)).all(|lane| lane.sums_fit())
 }
 
@@ -94,5 +100,57 @@ fn lane_products_fit(table: &ArrayView<'_, i64, IxDyn>, axis: Axis) -> bool
     ensures magnitudes { IsTrue result ↔ CanMultiplyAlong table.now axis.0 }
     ensures selections { IsTrue result → CanMap (λ lane. IsSummable int_products (FitsSigned w64) lane.cells) (lanes_of table.now axis.0) }
 {
+    // Without cells there may be more lanes than could be walked.
+    if table.len() == 0 {
+        return true;
+    }
     Zip::from(table.lanes(axis)).all(|lane| lane.products_fit())
+}
+
+/// The difference of order `n` along an axis.
+///
+/// The fault is `shape` where there is no such axis or it is too short, `range` where a difference on
+/// the way is no `i64`, and `memory` where growth is refused before that.
+pub fn differences(
+    alloc: Global,
+    table: &ArrayView<'_, i64, IxDyn>,
+    n: usize,
+    axis: Axis,
+) -> Result<Array<i64, IxDyn>, Fault>
+    ensures differences { IfOk result (AreDifferences table.now n axis.0) }
+    ensures err { IfErr result (ForbidsDifferences table.now n axis.0) }
+{
+    if !table.diff_ok(n, axis) {
+        return Err(Fault::Shape);
+    }
+    let mut cells = table.to_owned(alloc)?;
+    for _ in 0..n {
+        if !neighbours_subtract(&cells.view(), axis) {
+            return Err(Fault::Range);
+        }
+        cells = cells.diff(alloc, 1, axis)?;
+    }
+    Ok(cells)
+}
+
+/// Whether each cell that is one further along an axis, minus the cell, is an `i64`.
+fn neighbours_subtract(table: &ArrayView<'_, i64, IxDyn>, axis: Axis) -> bool
+    requires axis { HasAxis table.now axis.0 }
+    requires some { 0 < slice_index table.now.lengths axis.0 }
+    ensures { IsTrue result ↔ CanSubtractAlong table.now axis.0 }
+{
+    let len = table.len_of(axis);
+    let (_first, later) = table.view().split_at(axis, 1);
+    let (earlier, _last) = table.view().split_at(axis, len - 1);
+    differences_fit(&later, &earlier)
+}
+
+/// Whether the cell minus the other array's is an `i64` at each index list. Requires equal lengths.
+fn differences_fit(left: &ArrayView<'_, i64, IxDyn>, right: &ArrayView<'_, i64, IxDyn>) -> bool
+    requires same { left.now.lengths ≡ right.now.lengths }
+    ensures { IsTrue result ↔ ((is : List ℕ) (x y : ℤ) → cell left.now is ≡ Some x → cell right.now is ≡ Some y → FitsSigned w64 (x -ℤ y)) }
+{
+    Zip::from(left)
+        .and(right)
+        .all(|x, y| x.checked_sub(*y).is_some())
 }

@@ -195,6 +195,32 @@ fn prints_totals_along_an_axis(rt: HostRuntime) -> Result<(), Fail> {
 }
 
 #[test]
+fn prints_differences(rt: HostRuntime) -> Result<(), Fail> {
+    let alloc = rt.alloc();
+    for (line, printed) in [
+        ("diff 0 0 2 5 6", "5 6\n"),
+        ("diff 1 0 3 1 2 5", "1 3\n"),
+        ("diff 2 0 3 1 2 5", "2\n"),
+        ("diff 1 1 2x3f 1 2 4 7 7 6", "1 2\n0 -1\n"),
+        ("diff 1 0 2x3 1 2 4 7 7 6", "6 5 2\n"),
+        ("diff 0 1 2x0", ""),
+        ("diff 0 0 0", "\n"),
+        (
+            "diff 1 0 2 -9223372036854775808 -1",
+            "9223372036854775807\n",
+        ),
+    ] {
+        let mut out = Vec::new(alloc);
+        let mut err = Vec::new(alloc);
+        let status = run(alloc, words_of(alloc, line)?.as_slice(), &mut out, &mut err);
+        assert_eq!(rt; out.as_slice(), printed.as_bytes(), "{line}");
+        assert_eq!(rt; err.as_slice(), b"".as_slice(), "{line}");
+        assert_eq!(rt; status, 0, "{line}");
+    }
+    Ok(())
+}
+
+#[test]
 fn prints_faults(rt: HostRuntime) -> Result<(), Fail> {
     let alloc = rt.alloc();
     for (line, printed) in [
@@ -328,6 +354,35 @@ fn prints_faults_of_totals(rt: HostRuntime) -> Result<(), Fail> {
             "product-axis 1 2x2 1 2 9223372036854775807 2",
             "ndtables: range\n",
         ),
+    ] {
+        let mut out = Vec::new(alloc);
+        let mut err = Vec::new(alloc);
+        let status = run(alloc, words_of(alloc, line)?.as_slice(), &mut out, &mut err);
+        assert_eq!(rt; err.as_slice(), printed.as_bytes(), "{line}");
+        assert_eq!(rt; out.as_slice(), b"".as_slice(), "{line}");
+        assert_eq!(rt; status, 2, "{line}");
+    }
+    Ok(())
+}
+
+#[test]
+fn prints_faults_along_an_axis(rt: HostRuntime) -> Result<(), Fail> {
+    let alloc = rt.alloc();
+    for (line, printed) in [
+        // Differences.
+        ("diff", "ndtables: usage\n"),
+        ("diff 1", "ndtables: usage\n"),
+        ("diff 1 0", "ndtables: usage\n"),
+        ("diff 1 0 2 5 6 7", "ndtables: usage\n"),
+        ("diff x y z", "ndtables: number\n"),
+        ("diff 1 y z", "ndtables: number\n"),
+        ("diff 1 0 z", "ndtables: shape\n"),
+        ("diff 0 1 2 5 6", "ndtables: shape\n"),
+        ("diff 3 0 3 1 2 5", "ndtables: shape\n"),
+        ("diff 1 0 0", "ndtables: shape\n"),
+        ("diff 0 0 . 7", "ndtables: shape\n"),
+        ("diff 1 0 2 -9223372036854775808 1", "ndtables: range\n"),
+        ("diff 2 0 3 0 9223372036854775807 0", "ndtables: range\n"),
     ] {
         let mut out = Vec::new(alloc);
         let mut err = Vec::new(alloc);

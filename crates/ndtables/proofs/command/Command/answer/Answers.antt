@@ -17,3 +17,6 @@ returns-in-ProductAxis c = subst (λ command. IfOk c.product_axis.result (λ tex
 
 pub returns-in-SumAxis : goal.returns-in-SumAxis
 returns-in-SumAxis c = subst (λ command. IfOk c.sum_axis.result (λ text. Prints command c.args.words (string_bytes text))) (sym c.in-SumAxis.is) c.sum_axis.ensures
+
+pub returns-in-Diff : goal.returns-in-Diff
+returns-in-Diff c = subst (λ command. IfOk c.diff.result (λ text. Prints command c.args.words (string_bytes text))) (sym c.in-Diff.is) c.diff.ensures
