@@ -8,7 +8,7 @@ use Rattle.ndarray.specs.Integers.{int_products, int_sums}
 use Rattle.ndarray.specs.declared.base.shape.Order.{Order}
 use Rattle.ndtables.specs.Adding.{AreSums}
 use Rattle.ndtables.specs.Printing.{printed}
-use Rattle.ndtables.specs.Reducing.{AreDifferences, AreTotalsAlong}
+use Rattle.ndtables.specs.Reducing.{AreDifferences, AreRunningProducts, AreTotalsAlong}
 use Rattle.ndtables.specs.Spelling.{IsDigits, IsSignedDigits, SpellsShape}
 
 -- of the words `old` the first were read as these numbers, a word each, and `new` are left
@@ -92,3 +92,14 @@ pub record PrintsDiff (words : List (List ℕ)) (text : List ℕ) : Type 0 where
   pub read_table : ReadsTable after_axis [] table
   pub subtracted : AreDifferences table order axis differences
   pub lines : text ≡ printed differences
+
+-- all of the words were read as an axis and a table, and the text is the array of the table's running products along the axis
+pub record PrintsCumprod (words : List (List ℕ)) (text : List ℕ) : Type 0 where
+  pub axis : ℕ
+  pub table : Grid ℤ
+  pub products : Grid ℤ
+  pub rest : List (List ℕ)
+  pub read_axis : ReadsCount words rest axis
+  pub read_table : ReadsTable rest [] table
+  pub multiplied : AreRunningProducts table axis products
+  pub lines : text ≡ printed products

@@ -1,8 +1,8 @@
--- Totals of the lanes of a table along an axis, and differences along it.
-use Rattle.std.specs.Prelude.{◌≡◌, ◌⊎◌, ℕ, ◌<◌, List, ℤ, ◌-ℤ◌, pos, Some, length, slice_index, FitsSigned}
+-- Totals of the lanes of a table along an axis, and differences and running products along it.
+use Rattle.std.specs.Prelude.{◌≡◌, ◌⊎◌, ℕ, ◌<◌, List, ℤ, ◌-ℤ◌, ◌*ℤ◌, pos, Some, length, slice_index, FitsSigned}
 use Rattle.std.specs.Int.{w64}
 use Rattle.ndarray.specs.Algebra.{CommutativeMonoid}
-use Rattle.ndarray.specs.AlongAxis.{CanDiffer, IsDifferenceOf, one_further}
+use Rattle.ndarray.specs.AlongAxis.{CanCumulate, CanDiffer, Cumulates, IsDifferenceOf, one_further}
 use Rattle.ndarray.specs.Elementwise.{CanMap, Maps}
 use Rattle.ndarray.specs.Grid.{Grid, cell}
 use Rattle.ndarray.specs.Integers.{int_sums, magnitude_product}
@@ -64,3 +64,20 @@ ForbidsDifferences g n axis Shape = HasOrder g n axis → ⊥
 ForbidsDifferences g n axis Number = ⊥
 ForbidsDifferences g n axis Range = HasOrder g n axis × (CanDifferAlong g n axis → ⊥)
 ForbidsDifferences g n axis Memory = HasOrder g n axis
+
+-- the third number is the product of the two
+abbrev pub is_product : ℤ → ℤ → ℤ → Type 0
+is_product x p z = z ≡ x *ℤ p
+
+-- of a list each product of the number with all before it is an `i64`, from the second number on
+abbrev pub CanCumulateList : List ℤ → Type 0
+CanCumulateList = CanCumulate (λ x p. FitsSigned w64 (x *ℤ p)) is_product
+
+-- on each lane along the axis the running products are `i64`s
+abbrev pub CanCumulateAlong : Grid ℤ → ℕ → Type 0
+CanCumulateAlong g axis = CanMap (λ lane. CanCumulateList lane.cells) (lanes_of g axis)
+
+-- the array has the axis, and the other one has its running products along it
+pub record AreRunningProducts (g : Grid ℤ) (axis : ℕ) (products : Grid ℤ) : Type 0 where
+  pub shape : HasAxis g axis
+  pub cells : Cumulates is_product axis g products

@@ -1,12 +1,14 @@
 //! The commands: each reads its arguments and answers the text that it prints.
 
 ghost use Rattle.std.specs.Prelude.{◌≡◌, IfSome, IfOk, string_bytes};
-ghost use Rattle.ndtables.specs.Reading.{PrintsAdd, PrintsDiff, PrintsProduct, PrintsProductAxis, PrintsSum, PrintsSumAxis};
+ghost use Rattle.ndtables.specs.Reading.{PrintsAdd, PrintsCumprod, PrintsDiff, PrintsProduct, PrintsProductAxis, PrintsSum, PrintsSumAxis};
 
 use crate::adding::sums_in_range;
 use crate::fault::Fault;
 use crate::printing::text_of;
-use crate::reducing::{differences, product_in_range, products_along, sum_in_range, sums_along};
+use crate::reducing::{
+    differences, product_in_range, products_along, running_products, sum_in_range, sums_along,
+};
 use crate::words::Words;
 use ndarray::Axis;
 use std::alloc::Global;
@@ -17,6 +19,8 @@ pub enum Command {
     /// `add TABLE TABLE` prints the array of the sums of the cells of two tables, whose shapes are
     /// broadcast together.
     Add,
+    /// `cumprod K TABLE` prints the array of the running products along axis K.
+    Cumprod,
     /// `diff N K TABLE` prints the difference of order N along axis K.
     Diff,
     /// `product TABLE` prints the product of all cells.
@@ -38,6 +42,7 @@ impl Command {
     {
         match name {
             "add" => Some(Command::Add),
+            "cumprod" => Some(Command::Cumprod),
             "diff" => Some(Command::Diff),
             "product" => Some(Command::Product),
             "product-axis" => Some(Command::ProductAxis),
@@ -53,6 +58,7 @@ impl Command {
     {
         match self {
             Command::Add => add(alloc, words),
+            Command::Cumprod => cumprod(alloc, words),
             Command::Diff => diff(alloc, words),
             Command::Product => product(alloc, words),
             Command::ProductAxis => product_axis(alloc, words),
@@ -71,6 +77,17 @@ fn add(alloc: Global, mut words: Words<'_>) -> Result<String, Fault>
     words.end()?;
     let sums = sums_in_range(alloc, &left.view(), &right.view())?;
     Ok(text_of(alloc, &sums.view())?)
+}
+
+/// `cumprod K TABLE`.
+fn cumprod(alloc: Global, mut words: Words<'_>) -> Result<String, Fault>
+    ensures { IfOk result (λ text. PrintsCumprod words.entry (string_bytes text)) }
+{
+    let axis = words.count()?;
+    let table = words.table(alloc)?;
+    words.end()?;
+    let products = running_products(alloc, &table.view(), Axis(axis))?;
+    Ok(text_of(alloc, &products.view())?)
 }
 
 /// `diff N K TABLE`.

@@ -1,5 +1,5 @@
-//! Sums and products of all cells and of the lanes along an axis, and differences along an axis,
-//! where they are in range.
+//! Sums and products of all cells and of the lanes along an axis, and differences and
+//! running products along an axis, where they are in range.
 
 ghost use Rattle.std.specs.Prelude.{◌≡◌, ◌↔◌, ◌<◌, ◌-ℤ◌, ℕ, ℤ, List, Some, pos, slice_index, IsTrue, IsSome, IfSome, IfOk, IfErr, FitsSigned};
 ghost use Rattle.std.specs.Int.{w64};
@@ -8,10 +8,10 @@ ghost use Rattle.ndarray.specs.Grid.{cell};
 ghost use Rattle.ndarray.specs.Subviews.{lanes_of};
 ghost use Rattle.ndarray.specs.Sums.{IsSummable, total};
 ghost use Rattle.ndarray.specs.Integers.{int_products, int_sums, magnitude_product};
-ghost use Rattle.ndtables.specs.Reducing.{AreDifferences, AreTotalsAlong, CanMultiplyAlong, CanSubtractAlong, CanSumAlong, ForbidsDifferences, ForbidsMaking, HasAxis};
+ghost use Rattle.ndtables.specs.Reducing.{AreDifferences, AreRunningProducts, AreTotalsAlong, CanCumulateAlong, CanCumulateList, CanMultiplyAlong, CanSubtractAlong, CanSumAlong, ForbidsDifferences, ForbidsMaking, HasAxis};
 
 use crate::fault::Fault;
-use ndarray::{Array, ArrayView, Axis, IxDyn, Lengths, Zip};
+use ndarray::{Array, ArrayView, Axis, Ix1, IxDyn, Lengths, Zip};
 use std::alloc::Global;
 
 /// The sum of all cells, or `None` where some selection of them has a sum that does not fit `i64`.
@@ -153,4 +153,55 @@ fn differences_fit(left: &ArrayView<'_, i64, IxDyn>, right: &ArrayView<'_, i64, 
     Zip::from(left)
         .and(right)
         .all(|x, y| x.checked_sub(*y).is_some())
+}
+
+/// The running products along an axis.
+///
+/// The fault is `shape` where there is no such axis, else `range` where a product on the way is no
+/// `i64`, else `memory`.
+pub fn running_products(
+    alloc: Global,
+    table: &ArrayView<'_, i64, IxDyn>,
+    axis: Axis,
+) -> Result<Array<i64, IxDyn>, Fault>
+    ensures products { IfOk result (AreRunningProducts table.now axis.0) }
+    ensures err { IfErr result (ForbidsMaking (HasAxis table.now axis.0) (CanCumulateAlong table.now axis.0)) }
+{
+    if !table.axis_ok(axis) {
+        return Err(Fault::Shape);
+    }
+    if !running_products_fit(table, axis) {
+        return Err(Fault::Range);
+    }
+    Ok(table.cumprod(alloc, axis)?)
+}
+
+/// Whether on each lane along an axis the running products are `i64`s.
+fn running_products_fit(table: &ArrayView<'_, i64, IxDyn>, axis: Axis) -> bool
+    requires axis { HasAxis table.now axis.0 }
+    ensures { IsTrue result ↔ CanCumulateAlong table.now axis.0 }
+{
+    // Without cells there may be more lanes than could be walked.
+    if table.len() == 0 {
+        return true;
+    }
+    Zip::from(table.lanes(axis)).all(|lane| lane_cumulates(&lane))
+}
+
+/// Whether the running products of a lane are `i64`s.
+fn lane_cumulates(lane: &ArrayView<'_, i64, Ix1>) -> bool
+    ensures { IsTrue result ↔ CanCumulateList lane.now.cells }
+{
+    let mut cells = lane.iter();
+    let Some(first) = cells.next() else {
+        return true;
+    };
+    let mut product = *first;
+    for cell in cells {
+        let Some(next) = cell.checked_mul(product) else {
+            return false;
+        };
+        product = next;
+    }
+    true
 }

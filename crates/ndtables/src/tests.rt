@@ -195,6 +195,35 @@ fn prints_totals_along_an_axis(rt: HostRuntime) -> Result<(), Fail> {
 }
 
 #[test]
+fn prints_running_products(rt: HostRuntime) -> Result<(), Fail> {
+    let alloc = rt.alloc();
+    for (line, printed) in [
+        ("cumprod 1 2x3 1 2 3 4 5 6", "1 2 6\n4 20 120\n"),
+        ("cumprod 0 2x3 1 2 3 4 5 6", "1 2 3\n4 10 18\n"),
+        ("cumprod 0 2x3f 1 2 3 4 5 6", "1 2 3\n4 10 18\n"),
+        ("cumprod 0 0", "\n"),
+        ("cumprod 1 2x0", ""),
+        ("cumprod 0 1 -9223372036854775808", "-9223372036854775808\n"),
+        (
+            "cumprod 0 3 0 9223372036854775807 9223372036854775807",
+            "0 0 0\n",
+        ),
+        (
+            "cumprod 0 2x2 9223372036854775807 1 1 9223372036854775807",
+            "9223372036854775807 1\n9223372036854775807 9223372036854775807\n",
+        ),
+    ] {
+        let mut out = Vec::new(alloc);
+        let mut err = Vec::new(alloc);
+        let status = run(alloc, words_of(alloc, line)?.as_slice(), &mut out, &mut err);
+        assert_eq!(rt; out.as_slice(), printed.as_bytes(), "{line}");
+        assert_eq!(rt; err.as_slice(), b"".as_slice(), "{line}");
+        assert_eq!(rt; status, 0, "{line}");
+    }
+    Ok(())
+}
+
+#[test]
 fn prints_differences(rt: HostRuntime) -> Result<(), Fail> {
     let alloc = rt.alloc();
     for (line, printed) in [
@@ -369,6 +398,14 @@ fn prints_faults_of_totals(rt: HostRuntime) -> Result<(), Fail> {
 fn prints_faults_along_an_axis(rt: HostRuntime) -> Result<(), Fail> {
     let alloc = rt.alloc();
     for (line, printed) in [
+        // Running products.
+        ("cumprod", "ndtables: usage\n"),
+        ("cumprod 0", "ndtables: usage\n"),
+        ("cumprod x 2 1", "ndtables: number\n"),
+        ("cumprod 1 2 1 2", "ndtables: shape\n"),
+        ("cumprod 0 . 7", "ndtables: shape\n"),
+        ("cumprod 0 2 3037000500 3037000500", "ndtables: range\n"),
+        ("cumprod 0 3 9223372036854775807 2 0", "ndtables: range\n"),
         // Differences.
         ("diff", "ndtables: usage\n"),
         ("diff 1", "ndtables: usage\n"),

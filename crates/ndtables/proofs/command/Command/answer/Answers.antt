@@ -20,3 +20,6 @@ returns-in-SumAxis c = subst (λ command. IfOk c.sum_axis.result (λ text. Print
 
 pub returns-in-Diff : goal.returns-in-Diff
 returns-in-Diff c = subst (λ command. IfOk c.diff.result (λ text. Prints command c.args.words (string_bytes text))) (sym c.in-Diff.is) c.diff.ensures
+
+pub returns-in-Cumprod : goal.returns-in-Cumprod
+returns-in-Cumprod c = subst (λ command. IfOk c.cumprod.result (λ text. Prints command c.args.words (string_bytes text))) (sym c.in-Cumprod.is) c.cumprod.ensures
