@@ -1,10 +1,10 @@
 -- What `all` answers where the closure is a test of what is at an index list.
-use Rattle.std.proofs.Common.{◌≡◌, ℕ, List, [], ◌∷◌, Bool, true, false, refl, sym, subst, ◌∙◌, inl, inr, ℤ, ◌+ℤ◌, Some, get_or}
-use Rattle.std.specs.Prelude.{All, IsTrue, ◌↔◌, FitsSigned}
-use Rattle.std.specs.Int.{w64}
+use Rattle.std.proofs.Common.{◌≡◌, ℕ, List, [], ◌∷◌, Bool, true, false, refl, sym, subst, ◌∙◌, inl, inr, ℤ, Some, get_or}
+use Rattle.std.specs.Prelude.{All, IsTrue, ◌↔◌}
 use Rattle.std.specs.List.{FoldsTo, AllByRecursion}
 use Rattle.ndarray.specs.Grid.{Grid, cell}
 use Rattle.ndarray.specs.Orders.{box_in}
+use Rattle.ndarray.specs.Elementwise.{CanMap}
 use Rattle.ndarray.specs.Runs.{RunsUntil}
 use Rattle.ndarray.specs.declared.base.shape.Order.{Order}
 use Rattle.ndarray.proofs.callers.Collecting.{All-middle, box-contains}
@@ -34,20 +34,60 @@ module _ {F X : Type 0} (goes : F → X → F → Type 0) (stops : F → X → T
             (λ yes. absurd (cc), λ each. absurd (u.1 (All-middle P done x rest xs each parts)))
       ]
 
--- the sum of the cells of two arrays at an index list is an `i64`
-abbrev pub SumFits : Grid ℤ → Grid ℤ → List ℕ → Type 0
-SumFits g h is = (x y : ℤ) → cell g is ≡ Some x → cell h is ≡ Some y → FitsSigned w64 (x +ℤ y)
+-- P holds of the cells of two arrays at an index list
+abbrev pub HoldsOf : (ℤ → ℤ → Type 0) → Grid ℤ → Grid ℤ → List ℕ → Type 0
+HoldsOf P g h is = (x y : ℤ) → cell g is ≡ Some x → cell h is ≡ Some y → P x y
 
 -- what is known of the cells is known of all values of them
-pub sum-is : (g h : Grid ℤ) (is : List ℕ) (x y v w : ℤ) → cell g is ≡ Some x → cell h is ≡ Some y → cell g is ≡ Some v → cell h is ≡ Some w → FitsSigned w64 (x +ℤ y) → FitsSigned w64 (v +ℤ w)
-sum-is g h is x y v w a b p q fits =
+pub cells-are : (P : ℤ → ℤ → Type 0) (g h : Grid ℤ) (is : List ℕ) (x y v w : ℤ) → cell g is ≡ Some x → cell h is ≡ Some y → cell g is ≡ Some v → cell h is ≡ Some w → P x y → P v w
+cells-are P g h is x y v w a b p q holds =
     let e : x ≡ v = cc in
     let f : y ≡ w = cc in
-    subst (λ z. FitsSigned w64 (v +ℤ z)) f (subst (λ z. FitsSigned w64 (z +ℤ y)) e fits)
+    subst (P v) f (subst (λ z. P z y) e holds)
 
 -- it holds at each index list where it holds along the box
-pub each-in_box : (g h : Grid ℤ) (o : Order) → All (SumFits g h) (box_in o g.lengths) ↔ ((is : List ℕ) → SumFits g h is)
-each-in_box g h o = (
-  λ all is x y l r. All-contains (SumFits g h) (box_in o g.lengths) is all (box-contains o g.lengths is (cell-inside g is x l)) x y l r,
+pub each-in_box : (P : ℤ → ℤ → Type 0) (g h : Grid ℤ) (o : Order) → All (HoldsOf P g h) (box_in o g.lengths) ↔ ((is : List ℕ) → HoldsOf P g h is)
+each-in_box P g h o = (
+  λ all is x y l r. All-contains (HoldsOf P g h) (box_in o g.lengths) is all (box-contains o g.lengths is (cell-inside g is x l)) x y l r,
   λ each k d lt. each (get_or (box_in o g.lengths) k d),
 )
+
+-- what holds of each cell along the box holds of each cell
+pub each-cell : {A : Type 0} (P : A → Type 0) (g : Grid A) (o : Order) → All (λ is. (x : A) → cell g is ≡ Some x → P x) (box_in o g.lengths) ↔ CanMap P g
+each-cell {A} P g o = (
+  λ all is x here. All-contains (λ js. (y : A) → cell g js ≡ Some y → P y) (box_in o g.lengths) is all (box-contains o g.lengths is (cell-inside g is x here)) x here,
+  λ each k d lt. each (get_or (box_in o g.lengths) k d),
+)
+
+-- Turns at the cells of an array, each of which tells of its cell whether P holds of it.
+module _ {F A : Type 0} (goes : F → List ℕ → F → Type 0) (stops : F → List ℕ → Type 0) (ended : F → Type 0) (f : F) (P : A → Type 0) (g : Grid A) (o : Order) (r : Bool)
+    (ran : RunsUntil goes stops ended f (box_in o g.lengths))
+    (stays : (is : List ℕ) (k : F) → goes f is k → (k ≡ f) × ((x : A) × (cell g is ≡ Some x) × P x)) where
+  holds-at : (is : List ℕ) (k : F) → goes f is k → (k ≡ f) × ((x : A) → cell g is ≡ Some x → P x)
+  holds-at is k turn =
+      let (same, found) = stays is k turn in
+      let (x, here, holds) = found in
+      (same, λ y there. let e : x ≡ y = cc in subst P e holds)
+
+  -- it answers whether P holds of all
+  pub tested-cells : ((is : List ℕ) → stops f is → (r ≡ false) × ((x : A) × (cell g is ≡ Some x) × (P x → ⊥))) → (ended f → r ≡ true) → IsTrue r ↔ CanMap P g
+  tested-cells stop end =
+      let decides = test-decides goes stops ended f (λ is. (x : A) → cell g is ≡ Some x → P x) holds-at (box_in o g.lengths) r
+      (λ is at.
+      let (off, found) = stop is at in
+      let (x, here, not) = found in
+      (off, λ all. not (all x here)))
+      end ran in
+      let along = each-cell P g o in
+      (λ on. along.0 (decides.0 on), λ each. decides.1 (along.1 each))
+
+  -- where it stops with no alone, P holds of all if it answers yes
+  pub tested-holds : ((q : F) (is : List ℕ) → stops q is → r ≡ false) → IsTrue r → CanMap P g
+  tested-holds stop on =
+      let Q = λ (is : List ℕ). (x : A) → cell g is ≡ Some x → P x in
+      let (done, q, turns, last) = ran in
+      let went = passed goes stops ended f Q holds-at done f q refl turns in
+      elim last as (λ _. CanMap P g) [
+        | inl h ↦ (each-cell P g o).0 (subst (All Q) h.0 (All-from_recursion Q done went.0))
+        | inr h ↦ let off : r ≡ false = stop _ _ h.3 in absurd (cc)
+      ]

@@ -2,5 +2,6 @@ pub mod Adding
 pub mod Answering
 pub mod Printing
 pub mod Reading
+pub mod Reducing
 pub mod Spelling
 pub mod Stored

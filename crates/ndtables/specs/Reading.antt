@@ -1,14 +1,15 @@
 -- What is read off the words of a command line.
 use Rattle.std.specs.Prelude.{◌≡◌, ℕ, ℤ, List, [], ◌∷◌, ◌++◌, map, All}
 use Rattle.std.specs.Fmt.{signed_decimal}
-use Rattle.std.specs.Str.Parse.{signed_digits_value}
+use Rattle.std.specs.Str.Parse.{digits_value, signed_digits_value}
 use Rattle.ndarray.specs.Grid.{Grid}
 use Rattle.ndarray.specs.Sums.{total}
-use Rattle.ndarray.specs.Integers.{int_sums}
+use Rattle.ndarray.specs.Integers.{int_products, int_sums}
 use Rattle.ndarray.specs.declared.base.shape.Order.{Order}
 use Rattle.ndtables.specs.Adding.{AreSums}
 use Rattle.ndtables.specs.Printing.{printed}
-use Rattle.ndtables.specs.Spelling.{IsSignedDigits, SpellsShape}
+use Rattle.ndtables.specs.Reducing.{AreDifferences, AreRunningProducts, AreTotalsAlong}
+use Rattle.ndtables.specs.Spelling.{IsDigits, IsSignedDigits, SpellsShape}
 
 -- of the words `old` the first were read as these numbers, a word each, and `new` are left
 pub record ReadsNumbers (old new : List (List ℕ)) (numbers : List ℤ) : Type 0 where
@@ -16,6 +17,13 @@ pub record ReadsNumbers (old new : List (List ℕ)) (numbers : List ℤ) : Type 
   pub words : old ≡ read ++ new
   pub spelled : All IsSignedDigits read
   pub values : numbers ≡ map (signed_digits_value 10) read
+
+-- of the words `old` the first was read as this number, by its digits, and `new` are left
+pub record ReadsCount (old new : List (List ℕ)) (count : ℕ) : Type 0 where
+  pub word : List ℕ
+  pub words : old ≡ word ∷ new
+  pub spelled : IsDigits word
+  pub value : count ≡ digits_value 10 word
 
 -- of the words `old` a shape word and then its cells in row order were read, and `new` are left
 pub record ReadsTable (old new : List (List ℕ)) (table : Grid ℤ) : Type 0 where
@@ -32,6 +40,12 @@ pub record PrintsSum (words : List (List ℕ)) (text : List ℕ) : Type 0 where
   pub read : ReadsTable words [] table
   pub line : text ≡ signed_decimal (total int_sums table.cells) ++ 10 ∷ []
 
+-- all of the words were read as a table, and the text is the product of its cells, as a line
+pub record PrintsProduct (words : List (List ℕ)) (text : List ℕ) : Type 0 where
+  pub table : Grid ℤ
+  pub read : ReadsTable words [] table
+  pub line : text ≡ signed_decimal (total int_products table.cells) ++ 10 ∷ []
+
 -- all of the words were read as two tables, one after the other, and the text is the array of their sums
 pub record PrintsAdd (words : List (List ℕ)) (text : List ℕ) : Type 0 where
   pub left : Grid ℤ
@@ -42,3 +56,50 @@ pub record PrintsAdd (words : List (List ℕ)) (text : List ℕ) : Type 0 where
   pub read_right : ReadsTable rest [] right
   pub added : AreSums left right sums
   pub lines : text ≡ printed sums
+
+-- all of the words were read as an axis and a table, and the text is the array of the sums of the table's lanes along the axis
+pub record PrintsSumAxis (words : List (List ℕ)) (text : List ℕ) : Type 0 where
+  pub axis : ℕ
+  pub table : Grid ℤ
+  pub sums : Grid ℤ
+  pub rest : List (List ℕ)
+  pub read_axis : ReadsCount words rest axis
+  pub read_table : ReadsTable rest [] table
+  pub added : AreTotalsAlong int_sums table axis sums
+  pub lines : text ≡ printed sums
+
+-- all of the words were read as an axis and a table, and the text is the array of the products of the table's lanes along the axis
+pub record PrintsProductAxis (words : List (List ℕ)) (text : List ℕ) : Type 0 where
+  pub axis : ℕ
+  pub table : Grid ℤ
+  pub products : Grid ℤ
+  pub rest : List (List ℕ)
+  pub read_axis : ReadsCount words rest axis
+  pub read_table : ReadsTable rest [] table
+  pub multiplied : AreTotalsAlong int_products table axis products
+  pub lines : text ≡ printed products
+
+-- all of the words were read as an order, an axis and a table, and the text is the table's difference of that order along the axis
+pub record PrintsDiff (words : List (List ℕ)) (text : List ℕ) : Type 0 where
+  pub order : ℕ
+  pub axis : ℕ
+  pub table : Grid ℤ
+  pub differences : Grid ℤ
+  pub after_order : List (List ℕ)
+  pub after_axis : List (List ℕ)
+  pub read_order : ReadsCount words after_order order
+  pub read_axis : ReadsCount after_order after_axis axis
+  pub read_table : ReadsTable after_axis [] table
+  pub subtracted : AreDifferences table order axis differences
+  pub lines : text ≡ printed differences
+
+-- all of the words were read as an axis and a table, and the text is the array of the table's running products along the axis
+pub record PrintsCumprod (words : List (List ℕ)) (text : List ℕ) : Type 0 where
+  pub axis : ℕ
+  pub table : Grid ℤ
+  pub products : Grid ℤ
+  pub rest : List (List ℕ)
+  pub read_axis : ReadsCount words rest axis
+  pub read_table : ReadsTable rest [] table
+  pub multiplied : AreRunningProducts table axis products
+  pub lines : text ≡ printed products

@@ -1,16 +1,16 @@
 //! The commands: each reads its arguments and answers the text that it prints.
 
-ghost use Rattle.std.specs.Prelude.{◌≡◌, ◌↔◌, IsSome, IfSome, IfOk, FitsSigned, string_bytes};
-ghost use Rattle.std.specs.Int.{w64};
-ghost use Rattle.ndarray.specs.Sums.{IsSummable, total};
-ghost use Rattle.ndarray.specs.Integers.{int_sums};
-ghost use Rattle.ndtables.specs.Reading.{PrintsAdd, PrintsSum};
+ghost use Rattle.std.specs.Prelude.{◌≡◌, IfSome, IfOk, string_bytes};
+ghost use Rattle.ndtables.specs.Reading.{PrintsAdd, PrintsCumprod, PrintsDiff, PrintsProduct, PrintsProductAxis, PrintsSum, PrintsSumAxis};
 
 use crate::adding::sums_in_range;
 use crate::fault::Fault;
 use crate::printing::text_of;
+use crate::reducing::{
+    differences, product_in_range, products_along, running_products, sum_in_range, sums_along,
+};
 use crate::words::Words;
-use ndarray::{ArrayView, Lengths};
+use ndarray::Axis;
 use std::alloc::Global;
 
 /// A command, by its name.
@@ -19,8 +19,18 @@ pub enum Command {
     /// `add TABLE TABLE` prints the array of the sums of the cells of two tables, whose shapes are
     /// broadcast together.
     Add,
+    /// `cumprod K TABLE` prints the array of the running products along axis K.
+    Cumprod,
+    /// `diff N K TABLE` prints the difference of order N along axis K.
+    Diff,
+    /// `product TABLE` prints the product of all cells.
+    Product,
+    /// `product-axis K TABLE` prints the array of the products of the lanes along axis K.
+    ProductAxis,
     /// `sum TABLE` prints the sum of all cells.
     Sum,
+    /// `sum-axis K TABLE` prints the array of the sums of the lanes along axis K.
+    SumAxis,
 }
 
 impl Command {
@@ -32,7 +42,12 @@ impl Command {
     {
         match name {
             "add" => Some(Command::Add),
+            "cumprod" => Some(Command::Cumprod),
+            "diff" => Some(Command::Diff),
+            "product" => Some(Command::Product),
+            "product-axis" => Some(Command::ProductAxis),
             "sum" => Some(Command::Sum),
+            "sum-axis" => Some(Command::SumAxis),
             _ => None,
         }
     }
@@ -43,7 +58,12 @@ impl Command {
     {
         match self {
             Command::Add => add(alloc, words),
+            Command::Cumprod => cumprod(alloc, words),
+            Command::Diff => diff(alloc, words),
+            Command::Product => product(alloc, words),
+            Command::ProductAxis => product_axis(alloc, words),
             Command::Sum => sum(alloc, words),
+            Command::SumAxis => sum_axis(alloc, words),
         }
     }
 }
@@ -59,6 +79,50 @@ fn add(alloc: Global, mut words: Words<'_>) -> Result<String, Fault>
     Ok(text_of(alloc, &sums.view())?)
 }
 
+/// `cumprod K TABLE`.
+fn cumprod(alloc: Global, mut words: Words<'_>) -> Result<String, Fault>
+    ensures { IfOk result (λ text. PrintsCumprod words.entry (string_bytes text)) }
+{
+    let axis = words.count()?;
+    let table = words.table(alloc)?;
+    words.end()?;
+    let products = running_products(alloc, &table.view(), Axis(axis))?;
+    Ok(text_of(alloc, &products.view())?)
+}
+
+/// `diff N K TABLE`.
+fn diff(alloc: Global, mut words: Words<'_>) -> Result<String, Fault>
+    ensures { IfOk result (λ text. PrintsDiff words.entry (string_bytes text)) }
+{
+    let order = words.count()?;
+    let axis = words.count()?;
+    let table = words.table(alloc)?;
+    words.end()?;
+    let differences = differences(alloc, &table.view(), order, Axis(axis))?;
+    Ok(text_of(alloc, &differences.view())?)
+}
+
+/// `product TABLE`.
+fn product(alloc: Global, mut words: Words<'_>) -> Result<String, Fault>
+    ensures { IfOk result (λ text. PrintsProduct words.entry (string_bytes text)) }
+{
+    let table = words.table(alloc)?;
+    words.end()?;
+    let product = product_in_range(&table.view()).ok_or(Fault::Range)?;
+    Ok(format!(in alloc; "{product}\n")?)
+}
+
+/// `product-axis K TABLE`.
+fn product_axis(alloc: Global, mut words: Words<'_>) -> Result<String, Fault>
+    ensures { IfOk result (λ text. PrintsProductAxis words.entry (string_bytes text)) }
+{
+    let axis = words.count()?;
+    let table = words.table(alloc)?;
+    words.end()?;
+    let products = products_along(alloc, &table.view(), Axis(axis))?;
+    Ok(text_of(alloc, &products.view())?)
+}
+
 /// `sum TABLE`.
 fn sum(alloc: Global, mut words: Words<'_>) -> Result<String, Fault>
     ensures { IfOk result (λ text. PrintsSum words.entry (string_bytes text)) }
@@ -69,14 +133,13 @@ fn sum(alloc: Global, mut words: Words<'_>) -> Result<String, Fault>
     Ok(format!(in alloc; "{total}\n")?)
 }
 
-/// The sum of all cells, or `None` where some selection of them has a sum that does not fit `i64`.
-fn sum_in_range<D: Lengths>(table: &ArrayView<'_, i64, D>) -> Option<i64>
-    ensures fits { IsSome result ↔ IsSummable int_sums (FitsSigned w64) table.now.cells }
-    ensures value { IfSome result (λ sum. sum ≡ total int_sums table.now.cells) }
+/// `sum-axis K TABLE`.
+fn sum_axis(alloc: Global, mut words: Words<'_>) -> Result<String, Fault>
+    ensures { IfOk result (λ text. PrintsSumAxis words.entry (string_bytes text)) }
 {
-    if table.sums_fit() {
-        Some(table.sum())
-    } else {
-        None
-    }
+    let axis = words.count()?;
+    let table = words.table(alloc)?;
+    words.end()?;
+    let sums = sums_along(alloc, &table.view(), Axis(axis))?;
+    Ok(text_of(alloc, &sums.view())?)
 }

@@ -6,6 +6,7 @@ mod command;
 mod fault;
 mod printing;
 mod program;
+mod reducing;
 mod spelling;
 mod table;
 #[cfg(test)]

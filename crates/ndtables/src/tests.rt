@@ -141,13 +141,122 @@ fn prints_sums_of_two_tables(rt: HostRuntime) -> Result<(), Fail> {
 }
 
 #[test]
+fn prints_products(rt: HostRuntime) -> Result<(), Fail> {
+    let alloc = rt.alloc();
+    for (line, printed) in [
+        ("product 2 -1 9223372036854775807", "-9223372036854775807\n"),
+        ("product 2x0", "1\n"),
+        ("product . -7", "-7\n"),
+        ("product 2x3f 1 2 3 4 5 -6", "-720\n"),
+        ("product 3 0 4611686018427387903 -2", "0\n"),
+    ] {
+        let mut out = Vec::new(alloc);
+        let mut err = Vec::new(alloc);
+        let status = run(alloc, words_of(alloc, line)?.as_slice(), &mut out, &mut err);
+        assert_eq!(rt; out.as_slice(), printed.as_bytes(), "{line}");
+        assert_eq!(rt; err.as_slice(), b"".as_slice(), "{line}");
+        assert_eq!(rt; status, 0, "{line}");
+    }
+    Ok(())
+}
+
+#[test]
+fn prints_totals_along_an_axis(rt: HostRuntime) -> Result<(), Fail> {
+    let alloc = rt.alloc();
+    for (line, printed) in [
+        ("sum-axis 0 2x3 1 2 3 4 5 6", "5 7 9\n"),
+        ("sum-axis 1 2x3 1 2 3 4 5 6", "6 15\n"),
+        ("sum-axis 01 2x3f 1 2 3 4 5 6", "6 15\n"),
+        ("sum-axis 0 3 1 2 3", "6\n"),
+        ("sum-axis 1 2x2x2 1 2 3 4 5 6 7 8", "4 6\n12 14\n"),
+        ("sum-axis 1 2x0", "0 0\n"),
+        ("sum-axis 0 2x0", "\n"),
+        ("sum-axis 0 1x4611686018427387904x0", ""),
+        (
+            "sum-axis 1 2x2 9223372036854775807 0 1 2",
+            "9223372036854775807 3\n",
+        ),
+        ("product-axis 1 2x3f 1 2 3 4 5 6", "6 120\n"),
+        ("product-axis 0 2x3 1 2 3 4 5 6", "4 10 18\n"),
+        ("product-axis 1 2x0", "1 1\n"),
+        (
+            "product-axis 0 1x1 -9223372036854775807",
+            "-9223372036854775807\n",
+        ),
+    ] {
+        let mut out = Vec::new(alloc);
+        let mut err = Vec::new(alloc);
+        let status = run(alloc, words_of(alloc, line)?.as_slice(), &mut out, &mut err);
+        assert_eq!(rt; out.as_slice(), printed.as_bytes(), "{line}");
+        assert_eq!(rt; err.as_slice(), b"".as_slice(), "{line}");
+        assert_eq!(rt; status, 0, "{line}");
+    }
+    Ok(())
+}
+
+#[test]
+fn prints_running_products(rt: HostRuntime) -> Result<(), Fail> {
+    let alloc = rt.alloc();
+    for (line, printed) in [
+        ("cumprod 1 2x3 1 2 3 4 5 6", "1 2 6\n4 20 120\n"),
+        ("cumprod 0 2x3 1 2 3 4 5 6", "1 2 3\n4 10 18\n"),
+        ("cumprod 0 2x3f 1 2 3 4 5 6", "1 2 3\n4 10 18\n"),
+        ("cumprod 0 0", "\n"),
+        ("cumprod 1 2x0", ""),
+        ("cumprod 0 1 -9223372036854775808", "-9223372036854775808\n"),
+        (
+            "cumprod 0 3 0 9223372036854775807 9223372036854775807",
+            "0 0 0\n",
+        ),
+        (
+            "cumprod 0 2x2 9223372036854775807 1 1 9223372036854775807",
+            "9223372036854775807 1\n9223372036854775807 9223372036854775807\n",
+        ),
+    ] {
+        let mut out = Vec::new(alloc);
+        let mut err = Vec::new(alloc);
+        let status = run(alloc, words_of(alloc, line)?.as_slice(), &mut out, &mut err);
+        assert_eq!(rt; out.as_slice(), printed.as_bytes(), "{line}");
+        assert_eq!(rt; err.as_slice(), b"".as_slice(), "{line}");
+        assert_eq!(rt; status, 0, "{line}");
+    }
+    Ok(())
+}
+
+#[test]
+fn prints_differences(rt: HostRuntime) -> Result<(), Fail> {
+    let alloc = rt.alloc();
+    for (line, printed) in [
+        ("diff 0 0 2 5 6", "5 6\n"),
+        ("diff 1 0 3 1 2 5", "1 3\n"),
+        ("diff 2 0 3 1 2 5", "2\n"),
+        ("diff 1 1 2x3f 1 2 4 7 7 6", "1 2\n0 -1\n"),
+        ("diff 1 0 2x3 1 2 4 7 7 6", "6 5 2\n"),
+        ("diff 0 1 2x0", ""),
+        ("diff 0 0 0", "\n"),
+        (
+            "diff 1 0 2 -9223372036854775808 -1",
+            "9223372036854775807\n",
+        ),
+    ] {
+        let mut out = Vec::new(alloc);
+        let mut err = Vec::new(alloc);
+        let status = run(alloc, words_of(alloc, line)?.as_slice(), &mut out, &mut err);
+        assert_eq!(rt; out.as_slice(), printed.as_bytes(), "{line}");
+        assert_eq!(rt; err.as_slice(), b"".as_slice(), "{line}");
+        assert_eq!(rt; status, 0, "{line}");
+    }
+    Ok(())
+}
+
+#[test]
 fn prints_faults(rt: HostRuntime) -> Result<(), Fail> {
     let alloc = rt.alloc();
     for (line, printed) in [
         // Words that are missing, unknown or left over.
         ("", "ndtables: usage\n"),
         ("sum", "ndtables: usage\n"),
-        ("product 1 2", "ndtables: usage\n"),
+        ("products 1 2", "ndtables: usage\n"),
         ("SUM . 7", "ndtables: usage\n"),
         ("sum .", "ndtables: usage\n"),
         ("sum 2 1", "ndtables: usage\n"),
@@ -219,6 +328,98 @@ fn prints_faults(rt: HostRuntime) -> Result<(), Fail> {
         ),
         ("add 1 9223372036854775807 . 1", "ndtables: range\n"),
         ("add . -1 2 5 -9223372036854775808", "ndtables: range\n"),
+    ] {
+        let mut out = Vec::new(alloc);
+        let mut err = Vec::new(alloc);
+        let status = run(alloc, words_of(alloc, line)?.as_slice(), &mut out, &mut err);
+        assert_eq!(rt; err.as_slice(), printed.as_bytes(), "{line}");
+        assert_eq!(rt; out.as_slice(), b"".as_slice(), "{line}");
+        assert_eq!(rt; status, 2, "{line}");
+    }
+    Ok(())
+}
+
+#[test]
+fn prints_faults_of_totals(rt: HostRuntime) -> Result<(), Fail> {
+    let alloc = rt.alloc();
+    for (line, printed) in [
+        // Products.
+        ("product", "ndtables: usage\n"),
+        ("product 1 2 3", "ndtables: usage\n"),
+        (
+            "product 3 0 9223372036854775807 9223372036854775807",
+            "ndtables: range\n",
+        ),
+        ("product 1 -9223372036854775808", "ndtables: range\n"),
+        ("product 2 3037000500 3037000500", "ndtables: range\n"),
+        // Totals of lanes.
+        ("sum-axis", "ndtables: usage\n"),
+        ("sum-axis 0", "ndtables: usage\n"),
+        ("sum-axis 0 2 1", "ndtables: usage\n"),
+        ("sum-axis 5 2 1 2 3", "ndtables: usage\n"),
+        ("sum-axis x 2 1 2", "ndtables: number\n"),
+        ("sum-axis +0 2 1 2", "ndtables: number\n"),
+        ("sum-axis -1 y", "ndtables: number\n"),
+        ("sum-axis 18446744073709551616 2 1 2", "ndtables: number\n"),
+        ("sum-axis 0 y", "ndtables: shape\n"),
+        ("sum-axis 0 . 7", "ndtables: shape\n"),
+        ("sum-axis 2 2x1 1 2", "ndtables: shape\n"),
+        ("sum-axis 18446744073709551615 2 1 2", "ndtables: shape\n"),
+        ("sum-axis 1 2 9223372036854775807 1", "ndtables: shape\n"),
+        ("sum-axis 0 2 9223372036854775807 1", "ndtables: range\n"),
+        (
+            "sum-axis 1 2x2 1 2 9223372036854775807 1",
+            "ndtables: range\n",
+        ),
+        ("sum-axis 1 4611686018427387904x0", "ndtables: memory\n"),
+        ("product-axis 0", "ndtables: usage\n"),
+        ("product-axis 0 . 7", "ndtables: shape\n"),
+        (
+            "product-axis 0 2x2 0 1 9223372036854775807 2 3",
+            "ndtables: usage\n",
+        ),
+        ("product-axis 0 1 -9223372036854775808", "ndtables: range\n"),
+        (
+            "product-axis 1 2x2 1 2 9223372036854775807 2",
+            "ndtables: range\n",
+        ),
+    ] {
+        let mut out = Vec::new(alloc);
+        let mut err = Vec::new(alloc);
+        let status = run(alloc, words_of(alloc, line)?.as_slice(), &mut out, &mut err);
+        assert_eq!(rt; err.as_slice(), printed.as_bytes(), "{line}");
+        assert_eq!(rt; out.as_slice(), b"".as_slice(), "{line}");
+        assert_eq!(rt; status, 2, "{line}");
+    }
+    Ok(())
+}
+
+#[test]
+fn prints_faults_along_an_axis(rt: HostRuntime) -> Result<(), Fail> {
+    let alloc = rt.alloc();
+    for (line, printed) in [
+        // Running products.
+        ("cumprod", "ndtables: usage\n"),
+        ("cumprod 0", "ndtables: usage\n"),
+        ("cumprod x 2 1", "ndtables: number\n"),
+        ("cumprod 1 2 1 2", "ndtables: shape\n"),
+        ("cumprod 0 . 7", "ndtables: shape\n"),
+        ("cumprod 0 2 3037000500 3037000500", "ndtables: range\n"),
+        ("cumprod 0 3 9223372036854775807 2 0", "ndtables: range\n"),
+        // Differences.
+        ("diff", "ndtables: usage\n"),
+        ("diff 1", "ndtables: usage\n"),
+        ("diff 1 0", "ndtables: usage\n"),
+        ("diff 1 0 2 5 6 7", "ndtables: usage\n"),
+        ("diff x y z", "ndtables: number\n"),
+        ("diff 1 y z", "ndtables: number\n"),
+        ("diff 1 0 z", "ndtables: shape\n"),
+        ("diff 0 1 2 5 6", "ndtables: shape\n"),
+        ("diff 3 0 3 1 2 5", "ndtables: shape\n"),
+        ("diff 1 0 0", "ndtables: shape\n"),
+        ("diff 0 0 . 7", "ndtables: shape\n"),
+        ("diff 1 0 2 -9223372036854775808 1", "ndtables: range\n"),
+        ("diff 2 0 3 0 9223372036854775807 0", "ndtables: range\n"),
     ] {
         let mut out = Vec::new(alloc);
         let mut err = Vec::new(alloc);

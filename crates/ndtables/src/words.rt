@@ -1,7 +1,7 @@
 //! The words of a command line, read from left to right.
 
 ghost use Rattle.std.specs.Prelude.{◌≡◌, ◌↔◌, ◌∷◌, [], map, length, IfOk, IfErr, OnErr, MatchResult, IsOk, string_bytes};
-ghost use Rattle.ndtables.specs.Reading.{ReadsNumbers, ReadsTable};
+ghost use Rattle.ndtables.specs.Reading.{ReadsCount, ReadsNumbers, ReadsTable};
 
 use crate::fault::Fault;
 use crate::spelling;
@@ -47,6 +47,16 @@ impl<'a> Words<'a> {
         let (word, rest) = self.rest.split_first().ok_or(Fault::Usage)?;
         self.rest = rest;
         Ok(word.as_str())
+    }
+
+    /// Reads the next word as a number: one or more ASCII digits that fit `usize`. Else the fault is
+    /// `number`.
+    pub fn count(&mut self) -> Result<usize, Fault>
+        ensures { IfOk result (ReadsCount self.old self.new) }
+    {
+        let word = self.word()?;
+        let count = spelling::length(word).ok_or(Fault::Number)?;
+        Ok(count)
     }
 
     /// Reads the next words as a table: a shape word, and then as many cells as the shape has, in

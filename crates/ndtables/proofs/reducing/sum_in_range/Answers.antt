@@ -1,5 +1,5 @@
 use Rattle.std.proofs.Common.{sym, ◌∙◌}
-use Rattle.ndtables.proofs.command.sum_in_range.Goals as goal
+use Rattle.ndtables.proofs.reducing.sum_in_range.Goals as goal
 
 pub returns-else-sums_fit-clause-fits : goal.returns-else-sums_fit-clause-fits
 returns-else-sums_fit-clause-fits g c =
