@@ -1,5 +1,5 @@
 -- Running products of a list, one after the other.
-use Rattle.std.proofs.Common.{◌≡◌, ℤ, List, [], ◌∷◌, refl, sym, subst}
+use Rattle.std.proofs.Common.{◌≡◌, ℤ, List, [], ◌∷◌, sym, subst}
 use Rattle.std.specs.Prelude.{◌↔◌, ◌*ℤ◌, FitsSigned}
 use Rattle.std.specs.Int.{w64}
 use Rattle.ndarray.specs.AlongAxis.{CanMultiplyOn}

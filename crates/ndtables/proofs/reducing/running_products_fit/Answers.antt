@@ -1,4 +1,4 @@
-use Rattle.std.proofs.Common.{rules, ℤ, ◌≡◌, ◌∙◌, refl, sym, subst}
+use Rattle.std.proofs.Common.{rules, ℤ, ◌∙◌, refl, sym, subst}
 use Rattle.std.specs.Prelude.{IsTrue, ◌↔◌}
 use Rattle.ndarray.specs.Elementwise.{CanMap}
 use Rattle.ndarray.specs.Grid.{Grid}
