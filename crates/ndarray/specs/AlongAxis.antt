@@ -22,7 +22,7 @@ module _ {A : Type 0} (can : A → A → Type 0) (gives : A → A → A → Type
   CanMultiplyOn p [] = ⊤
   CanMultiplyOn p (x ∷ xs) = can x p × ((r : A) → gives x p r → CanMultiplyOn r xs)
 
-  -- the running products of an array of one axis may be formed
+  -- the running products of a list may be formed
   abbrev pub CanCumulate : List A → Type 0
   CanCumulate [] = ⊤
   CanCumulate (x ∷ xs) = CanMultiplyOn x xs
