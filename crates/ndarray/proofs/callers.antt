@@ -1,5 +1,6 @@
 -- Lemmas for those who prove functions over this library: docs/CALLING.md says which is for which goal.
 pub mod Collecting
+pub mod Differences
 pub mod Elementwise
 pub mod Folding
 pub mod Lanes

@@ -1,16 +1,17 @@
 //! Functions that a user would write over the library, each with what it computes as its contract. docs/CALLING.md
 //! goes through them.
 
-ghost use Rattle.std.specs.Prelude.{◌≡◌, ◌∷◌, [], ◌+ℤ◌, ℕ, ℤ, List, Some, max, nat_lt, IfOk, IfSome, FitsSigned};
+ghost use Rattle.std.specs.Prelude.{◌≡◌, ◌<◌, ◌∷◌, [], ◌+ℤ◌, ◌-ℤ◌, ℕ, ℤ, List, Some, length, max, nat_lt, slice_index, IfOk, IfSome, FitsSigned};
 ghost use Rattle.std.specs.Int.{w64};
 ghost use Rattle.std.specs.List.{fold, list_all, list_any};
+ghost use Rattle.ndarray.specs.AlongAxis.{Cumulates, IsDifference, one_further};
 ghost use Rattle.ndarray.specs.Elementwise.{CanCombine, Combines};
 ghost use Rattle.ndarray.specs.Grid.{arranged, cell};
 ghost use Rattle.ndarray.specs.Integers.{int_products, int_sums};
 ghost use Rattle.ndarray.specs.Subviews.{lane};
 ghost use Rattle.ndarray.specs.Sums.{total, total_by};
 ghost use Rattle.ndarray_bench.specs.Callers.{half_at, sum_at, sum_below};
-ghost use Rattle.ndarray_bench.specs.Residue.{modulus, modulus_pos, residue_sums};
+ghost use Rattle.ndarray_bench.specs.Residue.{modulus, modulus_pos, residue_products, residue_sums};
 
 use crate::residue::Residue;
 use ndarray::{Array, ArrayBase, Axis, Data, DimMax, Dimension, Ix1, Ix2, Zip};
@@ -114,4 +115,30 @@ pub fn row_sums<S: Data<Elem = i64>>(
     }
     let sums = table.sum_axis(alloc, Axis(1))?;
     Ok(Some(sums))
+}
+
+/// Each cell one further along an axis minus the cell, as the increases in a table of a number for each year.
+pub fn increases<S: Data<Elem = i64>, D: Dimension>(
+    alloc: Global,
+    a: &ArrayBase<S, D>,
+    axis: Axis,
+) -> Result<Array<i64, D>, AllocError>
+    requires axis { axis.0 < length a.now.lengths }
+    requires some { 1 < slice_index a.now.lengths axis.0 }
+    requires fits { (is : List ℕ) (y x : ℤ) → cell a.now (one_further axis.0 is) ≡ Some y → cell a.now is ≡ Some x → FitsSigned w64 (y -ℤ x) }
+    ensures { IfOk result (IsDifference (λ y x z. z ≡ y -ℤ x) axis.0 a.now) }
+{
+    a.diff(alloc, 1, axis)
+}
+
+/// The running products of residues along an axis, which never leave the range.
+pub fn residue_running_products<const M: u32, S: Data<Elem = Residue<M>>, D: Dimension>(
+    alloc: Global,
+    a: &ArrayBase<S, D>,
+    axis: Axis,
+) -> Result<Array<Residue<M>, D>, AllocError>
+    requires { axis.0 < length a.now.lengths }
+    ensures { IfOk result (Cumulates (λ x p z. z ≡ (residue_products (modulus M) (modulus_pos M)).op x p) axis.0 a.now) }
+{
+    a.cumprod(alloc, axis)
 }

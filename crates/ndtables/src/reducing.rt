@@ -123,6 +123,10 @@ pub fn differences(
     if !table.diff_ok(n, axis) {
         return Err(Fault::Shape);
     }
+    if table.len() == 0 {
+        // Nothing is subtracted, whatever the order.
+        return Ok(table.diff(alloc, n, axis)?);
+    }
     let mut cells = table.to_owned(alloc)?;
     for _ in 0..n {
         if !neighbours_subtract(&cells.view(), axis) {

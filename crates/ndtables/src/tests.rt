@@ -4,6 +4,7 @@ use crate::program::run;
 use std::alloc::{AllocError, Global};
 use std::io;
 use std::io::Write;
+use std::process::Abort;
 use std::test::Fail;
 
 fn words_of(alloc: Global, line: &str) -> Result<Vec<String>, AllocError> {
@@ -12,6 +13,25 @@ fn words_of(alloc: Global, line: &str) -> Result<Vec<String>, AllocError> {
         words.push(word.to_string(alloc)?)?;
     }
     Ok(words)
+}
+
+/// Ends the test run unless the words of a line, split at blanks, print this to the two streams and end with this
+/// status.
+fn ends(
+    rt: &impl Abort,
+    alloc: Global,
+    line: &str,
+    printed: &str,
+    complained: &str,
+    status: u8,
+) -> Result<(), AllocError> {
+    let mut out = Vec::new(alloc);
+    let mut err = Vec::new(alloc);
+    let ended = run(alloc, words_of(alloc, line)?.as_slice(), &mut out, &mut err);
+    assert_eq!(rt; out.as_slice(), printed.as_bytes(), "{line}");
+    assert_eq!(rt; err.as_slice(), complained.as_bytes(), "{line}");
+    assert_eq!(rt; ended, status, "{line}");
+    Ok(())
 }
 
 /// Holds what it was given, and refuses each call from the one with the number `refused` on.
@@ -85,12 +105,7 @@ fn prints_sums(rt: HostRuntime) -> Result<(), Fail> {
             "5\n",
         ),
     ] {
-        let mut out = Vec::new(alloc);
-        let mut err = Vec::new(alloc);
-        let status = run(alloc, words_of(alloc, line)?.as_slice(), &mut out, &mut err);
-        assert_eq!(rt; out.as_slice(), printed.as_bytes(), "{line}");
-        assert_eq!(rt; err.as_slice(), b"".as_slice(), "{line}");
-        assert_eq!(rt; status, 0, "{line}");
+        ends(&rt, alloc, line, printed, "", 0)?;
     }
     Ok(())
 }
@@ -130,12 +145,7 @@ fn prints_sums_of_two_tables(rt: HostRuntime) -> Result<(), Fail> {
             "6\n\n7\n",
         ),
     ] {
-        let mut out = Vec::new(alloc);
-        let mut err = Vec::new(alloc);
-        let status = run(alloc, words_of(alloc, line)?.as_slice(), &mut out, &mut err);
-        assert_eq!(rt; out.as_slice(), printed.as_bytes(), "{line}");
-        assert_eq!(rt; err.as_slice(), b"".as_slice(), "{line}");
-        assert_eq!(rt; status, 0, "{line}");
+        ends(&rt, alloc, line, printed, "", 0)?;
     }
     Ok(())
 }
@@ -150,12 +160,7 @@ fn prints_products(rt: HostRuntime) -> Result<(), Fail> {
         ("product 2x3f 1 2 3 4 5 -6", "-720\n"),
         ("product 3 0 4611686018427387903 -2", "0\n"),
     ] {
-        let mut out = Vec::new(alloc);
-        let mut err = Vec::new(alloc);
-        let status = run(alloc, words_of(alloc, line)?.as_slice(), &mut out, &mut err);
-        assert_eq!(rt; out.as_slice(), printed.as_bytes(), "{line}");
-        assert_eq!(rt; err.as_slice(), b"".as_slice(), "{line}");
-        assert_eq!(rt; status, 0, "{line}");
+        ends(&rt, alloc, line, printed, "", 0)?;
     }
     Ok(())
 }
@@ -184,12 +189,7 @@ fn prints_totals_along_an_axis(rt: HostRuntime) -> Result<(), Fail> {
             "-9223372036854775807\n",
         ),
     ] {
-        let mut out = Vec::new(alloc);
-        let mut err = Vec::new(alloc);
-        let status = run(alloc, words_of(alloc, line)?.as_slice(), &mut out, &mut err);
-        assert_eq!(rt; out.as_slice(), printed.as_bytes(), "{line}");
-        assert_eq!(rt; err.as_slice(), b"".as_slice(), "{line}");
-        assert_eq!(rt; status, 0, "{line}");
+        ends(&rt, alloc, line, printed, "", 0)?;
     }
     Ok(())
 }
@@ -213,12 +213,7 @@ fn prints_running_products(rt: HostRuntime) -> Result<(), Fail> {
             "9223372036854775807 1\n9223372036854775807 9223372036854775807\n",
         ),
     ] {
-        let mut out = Vec::new(alloc);
-        let mut err = Vec::new(alloc);
-        let status = run(alloc, words_of(alloc, line)?.as_slice(), &mut out, &mut err);
-        assert_eq!(rt; out.as_slice(), printed.as_bytes(), "{line}");
-        assert_eq!(rt; err.as_slice(), b"".as_slice(), "{line}");
-        assert_eq!(rt; status, 0, "{line}");
+        ends(&rt, alloc, line, printed, "", 0)?;
     }
     Ok(())
 }
@@ -234,17 +229,15 @@ fn prints_differences(rt: HostRuntime) -> Result<(), Fail> {
         ("diff 1 0 2x3 1 2 4 7 7 6", "6 5 2\n"),
         ("diff 0 1 2x0", ""),
         ("diff 0 0 0", "\n"),
+        // Any order at once, where there are no cells.
+        ("diff 4611686018427387903 0 4611686018427387904x0", ""),
+        ("diff 4611686018427387903 1 0x4611686018427387904", ""),
         (
             "diff 1 0 2 -9223372036854775808 -1",
             "9223372036854775807\n",
         ),
     ] {
-        let mut out = Vec::new(alloc);
-        let mut err = Vec::new(alloc);
-        let status = run(alloc, words_of(alloc, line)?.as_slice(), &mut out, &mut err);
-        assert_eq!(rt; out.as_slice(), printed.as_bytes(), "{line}");
-        assert_eq!(rt; err.as_slice(), b"".as_slice(), "{line}");
-        assert_eq!(rt; status, 0, "{line}");
+        ends(&rt, alloc, line, printed, "", 0)?;
     }
     Ok(())
 }
@@ -329,12 +322,7 @@ fn prints_faults(rt: HostRuntime) -> Result<(), Fail> {
         ("add 1 9223372036854775807 . 1", "ndtables: range\n"),
         ("add . -1 2 5 -9223372036854775808", "ndtables: range\n"),
     ] {
-        let mut out = Vec::new(alloc);
-        let mut err = Vec::new(alloc);
-        let status = run(alloc, words_of(alloc, line)?.as_slice(), &mut out, &mut err);
-        assert_eq!(rt; err.as_slice(), printed.as_bytes(), "{line}");
-        assert_eq!(rt; out.as_slice(), b"".as_slice(), "{line}");
-        assert_eq!(rt; status, 2, "{line}");
+        ends(&rt, alloc, line, "", printed, 2)?;
     }
     Ok(())
 }
@@ -384,12 +372,7 @@ fn prints_faults_of_totals(rt: HostRuntime) -> Result<(), Fail> {
             "ndtables: range\n",
         ),
     ] {
-        let mut out = Vec::new(alloc);
-        let mut err = Vec::new(alloc);
-        let status = run(alloc, words_of(alloc, line)?.as_slice(), &mut out, &mut err);
-        assert_eq!(rt; err.as_slice(), printed.as_bytes(), "{line}");
-        assert_eq!(rt; out.as_slice(), b"".as_slice(), "{line}");
-        assert_eq!(rt; status, 2, "{line}");
+        ends(&rt, alloc, line, "", printed, 2)?;
     }
     Ok(())
 }
@@ -421,12 +404,7 @@ fn prints_faults_along_an_axis(rt: HostRuntime) -> Result<(), Fail> {
         ("diff 1 0 2 -9223372036854775808 1", "ndtables: range\n"),
         ("diff 2 0 3 0 9223372036854775807 0", "ndtables: range\n"),
     ] {
-        let mut out = Vec::new(alloc);
-        let mut err = Vec::new(alloc);
-        let status = run(alloc, words_of(alloc, line)?.as_slice(), &mut out, &mut err);
-        assert_eq!(rt; err.as_slice(), printed.as_bytes(), "{line}");
-        assert_eq!(rt; out.as_slice(), b"".as_slice(), "{line}");
-        assert_eq!(rt; status, 2, "{line}");
+        ends(&rt, alloc, line, "", printed, 2)?;
     }
     Ok(())
 }

@@ -1,15 +1,16 @@
 -- The cells of two parts of an axis, one place apart, and the array of their differences.
-use Rattle.std.proofs.Common.{◌≡◌, ℕ, ◌+◌, ◌-◌, ◌<◌, ◌≤◌, zero, suc, List, Some, length, get_or, set, ap, sym, ◌∙◌, subst, arith, add-one}
-use Rattle.std.proofs.lemmas.List.{set-get_or, get_or-set_same, length-set}
+use Rattle.std.proofs.Common.{◌≡◌, ℕ, ◌+◌, ◌-◌, ◌<◌, ◌≤◌, zero, suc, List, [], Some, length, get_or, set, ap, sym, ◌∙◌, subst, arith, add-one, refl}
+use Rattle.std.proofs.lemmas.List.{set-get_or, get_or-set_same, length-set, set-set}
 use Rattle.std.specs.Prelude.{⊤}
 use Rattle.ndarray.specs.AlongAxis.{IsDifference, IsDifferenceOf, one_further}
-use Rattle.ndarray.specs.Grid.{Grid, IsGrid, cell}
+use Rattle.ndarray.specs.Grid.{Grid, IsGrid, cell, grid}
 use Rattle.ndarray.specs.Index.{InBox, size}
 use Rattle.ndarray.specs.Runs.{Collects}
 use Rattle.ndarray.specs.Views.{axis_part}
 use Rattle.ndarray.specs.declared.base.shape.Order.{Order}
 use Rattle.ndarray.proofs.boxes.Sizes.{size-set_none}
-use Rattle.ndarray.proofs.cells.Cells.{cell-inside, tabulate-cell}
+use Rattle.ndarray.proofs.boxes.Boxes.{InBox-some}
+use Rattle.ndarray.proofs.cells.Cells.{cell-inside, tabulate-cell, same_grid}
 use Rattle.ndarray.proofs.cells.CollectedCells.{Collects-at}
 
 module _ {A : Type 0} (g view part : Grid A) (k from rest : ℕ) (same : view ≡ g) (is_part : part ≡ axis_part view k from (from + rest)) where
@@ -32,6 +33,10 @@ neighbours-at g view later earlier k rest same l e whole_l whole_e is y x p q =
       ap (λ n. cell g (set is k n)) next ∙ part-cell g view later k 1 rest same l whole_l is y p,
       ap (cell g) (sym (set-get_or is k 0)) ∙ (ap (λ n. cell g (set is k n)) (sym here) ∙ part-cell g view earlier k 0 rest same e whole_e is x q),
     )
+
+-- an array without cells has no index list
+pub no-index : {A : Type 0} (g : Grid A) → size g.lengths ≡ 0 → (is : List ℕ) → InBox g.lengths is → ⊥
+no-index g none is b = let some = InBox-some g.lengths is b in omega (arith, some, none)
 
 module _ {A : Type 0} (gives : A → A → A → Type 0) (k : ℕ) (g : Grid A) where
   -- what calls on the cells of both parts made
@@ -63,4 +68,24 @@ module _ {A : Type 0} (gives : A → A → A → Type 0) (k : ℕ) (g : Grid A) 
         ap length e ∙ (length-set p.lengths k (get_or p.lengths k 0 - 1) ∙ long),
         omega (arith, v, left),
         (λ z. ap size e ∙ size-set_none p.lengths k (get_or p.lengths k 0 - 1) (omega arith) (none z)),
+      )
+
+  -- of an array without cells, the one with the shorter axis
+  pub difference-without_cells : (n : ℕ) (r : Grid A) → IsGrid g → size g.lengths ≡ 0 → k < length g.lengths → n ≤ get_or g.lengths k 0 → IsGrid r → r.lengths ≡ set g.lengths k (get_or g.lengths k 0 - n) → IsDifferenceOf gives k n g r
+  difference-without_cells zero r whole none lt le whole_r same =
+      let lengths : r.lengths ≡ g.lengths = same ∙ (ap (set g.lengths k) (omega arith) ∙ set-get_or g.lengths k 0) in
+      same_grid r g whole_r whole lengths (λ is b. absurd (no-index g none is (subst (λ ns. InBox ns is) lengths b)))
+  difference-without_cells (suc n) r whole none lt le whole_r same =
+      let h : Grid A = grid (set g.lengths k (get_or g.lengths k 0 - n)) [] in
+      let none_h : size h.lengths ≡ 0 = size-set_none g.lengths k (get_or g.lengths k 0 - n) (omega arith) none in
+      let last : get_or h.lengths k 0 - 1 ≡ get_or g.lengths k 0 - suc n = ap (λ m. m - 1) (get_or-set_same g.lengths k (get_or g.lengths k 0 - n) 0 lt) ∙ omega arith in
+      let shorter : r.lengths ≡ set h.lengths k (get_or h.lengths k 0 - 1) = same ∙ (sym (set-set g.lengths k (get_or g.lengths k 0 - n) (get_or g.lengths k 0 - suc n)) ∙ ap (set h.lengths k) (sym last)) in
+      let none_r : size r.lengths ≡ 0 = ap size shorter ∙ size-set_none h.lengths k (get_or h.lengths k 0 - 1) (omega arith) none_h in (
+        h,
+        difference-without_cells n h whole none lt (omega arith) (sym none_h) refl,
+        record {
+          lengths = shorter;
+          whole = whole_r;
+          cells = λ is z e. absurd (no-index r none_r is (cell-inside r is z e));
+        },
       )

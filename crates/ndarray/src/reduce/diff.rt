@@ -49,6 +49,11 @@ impl<A: Copy + Sub<A, Output = A>, S: Data<Elem = A>, D: Dimension> ArrayBase<S,
         if n == 0 {
             return copy_of(alloc, self);
         }
+        if self.len() == 0 {
+            // Without cells nothing is subtracted, whatever the order: what is left is the shorter axis.
+            let rest = self.len_of(axis) - n;
+            return copy_of(alloc, &self.view().part(axis.0, 0, rest));
+        }
         let mut cells = difference(alloc, self, axis)?;
         for _ in 1..n {
             cells = difference(alloc, &cells, axis)?;
