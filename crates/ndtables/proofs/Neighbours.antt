@@ -9,7 +9,7 @@ use Rattle.ndarray.specs.Views.{axis_part}
 use Rattle.ndarray.proofs.boxes.Boxes.{InBox-get, InBox-length, InBox-set_both}
 use Rattle.ndarray.proofs.cells.Cells.{cell-inside, tabulate-cell}
 use Rattle.ndarray.proofs.cells.Differences.{difference-length, neighbours-at, next-difference}
-use Rattle.ndtables.specs.Reducing.{CanDifferAlong, CanSubtractAlong, HasOrder, is_difference}
+use Rattle.ndtables.specs.Reducing.{CanDifferAlong, CanSubtractAlong, HasOrder, subtraction_gives}
 
 -- Of an axis of length n, the part behind the first index, and that before the last.
 module _ {A : Type 0} (g later earlier : Grid A) (k n : ℕ) (l : later ≡ axis_part g k 1 n) (e : earlier ≡ axis_part g k 0 (n - 1)) (some : 0 < n) where
@@ -55,18 +55,18 @@ module _ {A : Type 0} (g later earlier : Grid A) (k n : ℕ) (l : later ≡ axis
         )
 
 -- before the last of n differences there is an axis to subtract along, of two or more
-pub length-left : (g h : Grid ℤ) (n axis i : ℕ) → HasOrder g n axis → i < n → IsDifferenceOf is_difference axis i g h → (axis < length h.lengths) × (1 < get_or h.lengths axis 0)
+pub length-left : (g h : Grid ℤ) (n axis i : ℕ) → HasOrder g n axis → i < n → IsDifferenceOf subtraction_gives axis i g h → (axis < length h.lengths) × (1 < get_or h.lengths axis 0)
 length-left g h n axis i shape lt d =
     let here : axis < length g.lengths = shape.0 in
     let below : n < get_or g.lengths axis 0 = elim shape.1 [
       | inl none ↦ absurd (omega (arith, none))
       | inr more ↦ more
     ] in
-    let (long, left, none) = difference-length is_difference axis g i h here (omega arith) d in
+    let (long, left, none) = difference-length subtraction_gives axis g i h here (omega arith) d in
     (omega (arith, long, here), omega (arith, left, below))
 
 -- where neighbours may not be subtracted on the way, not all differences may be taken
-pub not-subtracted : (g h : Grid ℤ) (n axis i : ℕ) → i < n → IsDifferenceOf is_difference axis i g h → (CanSubtractAlong h axis → ⊥) → CanDifferAlong g n axis → ⊥
+pub not-subtracted : (g h : Grid ℤ) (n axis i : ℕ) → i < n → IsDifferenceOf subtraction_gives axis i g h → (CanSubtractAlong h axis → ⊥) → CanDifferAlong g n axis → ⊥
 not-subtracted g h n axis i lt d not all = not (λ is y x p q. all i h is y x lt d p q)
 
 -- the differences of order 1 may be taken where neighbours may be subtracted
@@ -75,7 +75,7 @@ first-order g axis can zero h is y x lt d p q = can is y x (subst (λ v. cell v 
 first-order g axis can (suc k) h is y x lt d p q = absurd (omega arith)
 
 -- the difference of order 1 of that of order n
-pub one-more : (g h r : Grid ℤ) (axis n : ℕ) → IsDifferenceOf is_difference axis n g h → IsDifferenceOf is_difference axis 1 h r → IsDifferenceOf is_difference axis (n + 1) g r
+pub one-more : (g h r : Grid ℤ) (axis n : ℕ) → IsDifferenceOf subtraction_gives axis n g h → IsDifferenceOf subtraction_gives axis 1 h r → IsDifferenceOf subtraction_gives axis (n + 1) g r
 one-more g h r axis n d e =
     let (v, same, last) = e in
-    next-difference is_difference axis g n h r d (subst (λ w. IsDifference is_difference axis w r) same last)
+    next-difference subtraction_gives axis g n h r d (subst (λ w. IsDifference subtraction_gives axis w r) same last)

@@ -5,7 +5,7 @@ use Rattle.std.specs.List.{join_by}
 use Rattle.std.proofs.lemmas.List.{take-take, take_all, drop-take, drop-drop}
 use Rattle.ndarray.specs.Grid.{Grid}
 use Rattle.ndarray.specs.Index.{size}
-use Rattle.ndtables.specs.Printing.{pieces, printed, printed_cells, separator}
+use Rattle.ndtables.specs.Printing.{pieces, printed, printed_cells, separator_text}
 
 -- the pieces are made of the first elements alone
 pub pieces-take : {A : Type 0} (n s : ℕ) (xs : List A) → pieces n s (take (n * s) xs) ≡ pieces n s xs
@@ -70,8 +70,8 @@ module _ {X : Type 0} (f : X → List ℕ) (sep : List ℕ) where
       ∙ ap (λ zs. old ++ joined_after f sep first zs) (sym e))))
 
 -- the subarrays along the first axis are made of the first cells alone
-pub printed_cells-first : (n : ℕ) (ns : List ℕ) (xs : List ℤ) → printed_cells (n ∷ ns) (take (size (n ∷ ns)) xs) ≡ join_by (printed_cells ns) (separator ns) (pieces n (size ns) xs)
-printed_cells-first n ns xs = ap (join_by (printed_cells ns) (separator ns)) (pieces-take n (size ns) xs)
+pub printed_cells-first : (n : ℕ) (ns : List ℕ) (xs : List ℤ) → printed_cells (n ∷ ns) (take (size (n ∷ ns)) xs) ≡ join_by (printed_cells ns) (separator_text ns) (pieces n (size ns) xs)
+printed_cells-first n ns xs = ap (join_by (printed_cells ns) (separator_text ns)) (pieces-take n (size ns) xs)
 
 few-axes : (a b : ℕ) → a ≤ 1 → (nat_lt 1 a && nat_eq b 0) ≡ false
 few-axes a b h = search rules

@@ -3,11 +3,11 @@ use Rattle.std.proofs.Common.{◌≡◌, ℤ, List, [], ◌∷◌, sym, subst}
 use Rattle.std.specs.Prelude.{◌↔◌, ◌*ℤ◌, FitsSigned}
 use Rattle.std.specs.Int.{w64}
 use Rattle.ndarray.specs.AlongAxis.{CanMultiplyOn}
-use Rattle.ndtables.specs.Reducing.{CanCumulateList, is_product}
+use Rattle.ndtables.specs.Reducing.{CanCumulateList, multiplication_gives}
 
 -- each number of the list may be multiplied on from the product p
 abbrev pub MultipliesOn : ℤ → List ℤ → Type 0
-MultipliesOn = CanMultiplyOn (λ x p. FitsSigned w64 (x *ℤ p)) is_product
+MultipliesOn = CanMultiplyOn (λ x p. FitsSigned w64 (x *ℤ p)) multiplication_gives
 
 -- the running products of a list, where those from p on of the rest of it are to come
 pub record SameToCome (whole : List ℤ) (p : ℤ) (rest : List ℤ) : Type 0 where

@@ -11,15 +11,15 @@ pieces zero s xs = []
 pieces (suc n) s xs = take s xs ∷ pieces n s (drop s xs)
 
 -- the text between two subarrays of these lengths: a blank between two cells, a newline between two rows, and an empty line too between two larger ones
-abbrev pub separator : List ℕ → List ℕ
-separator [] = 32 ∷ []
-separator (n ∷ []) = 10 ∷ []
-separator (n ∷ m ∷ ns) = 10 ∷ 10 ∷ []
+abbrev pub separator_text : List ℕ → List ℕ
+separator_text [] = 32 ∷ []
+separator_text (n ∷ []) = 10 ∷ []
+separator_text (n ∷ m ∷ ns) = 10 ∷ 10 ∷ []
 
 -- the cells of an array of these lengths, in row order, as text: with no axes its cell in decimal, else its subarrays along the first axis, with the separator between each two
 abbrev pub printed_cells : List ℕ → List ℤ → List ℕ
 printed_cells [] xs = flat_map signed_decimal xs
-printed_cells (n ∷ ns) xs = join_by (printed_cells ns) (separator ns) (pieces n (size ns) xs)
+printed_cells (n ∷ ns) xs = join_by (printed_cells ns) (separator_text ns) (pieces n (size ns) xs)
 
 -- an array as text: its cells and a newline. One of two or more axes that has no cells is no text
 abbrev pub printed : Grid ℤ → List ℕ

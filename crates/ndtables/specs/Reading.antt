@@ -2,9 +2,9 @@
 use Rattle.std.specs.Prelude.{◌≡◌, ℕ, ℤ, List, [], ◌∷◌, ◌++◌, map, All}
 use Rattle.std.specs.Fmt.{signed_decimal}
 use Rattle.std.specs.Str.Parse.{digits_value, signed_digits_value}
+use Rattle.ndarray.specs.Algebra.{CommutativeMonoid}
 use Rattle.ndarray.specs.Grid.{Grid}
 use Rattle.ndarray.specs.Sums.{total}
-use Rattle.ndarray.specs.Integers.{int_products, int_sums}
 use Rattle.ndarray.specs.declared.base.shape.Order.{Order}
 use Rattle.ndtables.specs.Adding.{AreSums}
 use Rattle.ndtables.specs.Printing.{printed}
@@ -34,17 +34,11 @@ pub record ReadsTable (old new : List (List ℕ)) (table : Grid ℤ) : Type 0 wh
   pub shape : SpellsShape word table.lengths order
   pub cells : ReadsNumbers rest new table.cells
 
--- all of the words were read as a table, and the text is the sum of its cells, as a line
-pub record PrintsSum (words : List (List ℕ)) (text : List ℕ) : Type 0 where
+-- all of the words were read as a table, and the text is the total of its cells, as a line
+pub record PrintsTotal (M : CommutativeMonoid ℤ) (words : List (List ℕ)) (text : List ℕ) : Type 0 where
   pub table : Grid ℤ
   pub read : ReadsTable words [] table
-  pub line : text ≡ signed_decimal (total int_sums table.cells) ++ 10 ∷ []
-
--- all of the words were read as a table, and the text is the product of its cells, as a line
-pub record PrintsProduct (words : List (List ℕ)) (text : List ℕ) : Type 0 where
-  pub table : Grid ℤ
-  pub read : ReadsTable words [] table
-  pub line : text ≡ signed_decimal (total int_products table.cells) ++ 10 ∷ []
+  pub line : text ≡ signed_decimal (total M table.cells) ++ 10 ∷ []
 
 -- all of the words were read as two tables, one after the other, and the text is the array of their sums
 pub record PrintsAdd (words : List (List ℕ)) (text : List ℕ) : Type 0 where
@@ -57,27 +51,16 @@ pub record PrintsAdd (words : List (List ℕ)) (text : List ℕ) : Type 0 where
   pub added : AreSums left right sums
   pub lines : text ≡ printed sums
 
--- all of the words were read as an axis and a table, and the text is the array of the sums of the table's lanes along the axis
-pub record PrintsSumAxis (words : List (List ℕ)) (text : List ℕ) : Type 0 where
+-- all of the words were read as an axis and a table, and the text is the array of the totals of the table's lanes along the axis
+pub record PrintsTotals (M : CommutativeMonoid ℤ) (words : List (List ℕ)) (text : List ℕ) : Type 0 where
   pub axis : ℕ
   pub table : Grid ℤ
-  pub sums : Grid ℤ
+  pub totals : Grid ℤ
   pub rest : List (List ℕ)
   pub read_axis : ReadsCount words rest axis
   pub read_table : ReadsTable rest [] table
-  pub added : AreTotalsAlong int_sums table axis sums
-  pub lines : text ≡ printed sums
-
--- all of the words were read as an axis and a table, and the text is the array of the products of the table's lanes along the axis
-pub record PrintsProductAxis (words : List (List ℕ)) (text : List ℕ) : Type 0 where
-  pub axis : ℕ
-  pub table : Grid ℤ
-  pub products : Grid ℤ
-  pub rest : List (List ℕ)
-  pub read_axis : ReadsCount words rest axis
-  pub read_table : ReadsTable rest [] table
-  pub multiplied : AreTotalsAlong int_products table axis products
-  pub lines : text ≡ printed products
+  pub added : AreTotalsAlong M table axis totals
+  pub lines : text ≡ printed totals
 
 -- all of the words were read as an order, an axis and a table, and the text is the table's difference of that order along the axis
 pub record PrintsDiff (words : List (List ℕ)) (text : List ℕ) : Type 0 where

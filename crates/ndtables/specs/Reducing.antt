@@ -37,8 +37,8 @@ ForbidsMaking shape in_range Range = shape × (in_range → ⊥)
 ForbidsMaking shape in_range Memory = shape × in_range
 
 -- the third number is the first minus the second
-abbrev pub is_difference : ℤ → ℤ → ℤ → Type 0
-is_difference y x z = z ≡ y -ℤ x
+abbrev pub subtraction_gives : ℤ → ℤ → ℤ → Type 0
+subtraction_gives y x z = z ≡ y -ℤ x
 
 -- the array has the axis, and the order is 0 or below its length
 abbrev pub HasOrder : Grid ℤ → ℕ → ℕ → Type 0
@@ -50,12 +50,12 @@ CanSubtractAlong g axis = (is : List ℕ) (y x : ℤ) → cell g (one_further ax
 
 -- each difference on the way to that order is an `i64`
 abbrev pub CanDifferAlong : Grid ℤ → ℕ → ℕ → Type 0
-CanDifferAlong g n axis = CanDiffer is_difference axis (λ y x. FitsSigned w64 (y -ℤ x)) n g
+CanDifferAlong g n axis = CanDiffer subtraction_gives axis (λ y x. FitsSigned w64 (y -ℤ x)) n g
 
 -- the array has the axis, long enough for the order, and the other one is its difference of that order
 pub record AreDifferences (g : Grid ℤ) (n axis : ℕ) (differences : Grid ℤ) : Type 0 where
   pub shape : HasOrder g n axis
-  pub cells : IsDifferenceOf is_difference axis n g differences
+  pub cells : IsDifferenceOf subtraction_gives axis n g differences
 
 -- the fault is why differences were not made: the shape does not allow them, or one on the way is no `i64`, or allocation failure on the way
 abbrev pub ForbidsDifferences : Grid ℤ → ℕ → ℕ → Fault → Type 0
@@ -66,12 +66,12 @@ ForbidsDifferences g n axis Range = HasOrder g n axis × (CanDifferAlong g n axi
 ForbidsDifferences g n axis Memory = HasOrder g n axis
 
 -- the third number is the product of the two
-abbrev pub is_product : ℤ → ℤ → ℤ → Type 0
-is_product x p z = z ≡ x *ℤ p
+abbrev pub multiplication_gives : ℤ → ℤ → ℤ → Type 0
+multiplication_gives x p z = z ≡ x *ℤ p
 
 -- of a list each product of the number with all before it is an `i64`, from the second number on
 abbrev pub CanCumulateList : List ℤ → Type 0
-CanCumulateList = CanCumulate (λ x p. FitsSigned w64 (x *ℤ p)) is_product
+CanCumulateList = CanCumulate (λ x p. FitsSigned w64 (x *ℤ p)) multiplication_gives
 
 -- on each lane along the axis the running products are `i64`s
 abbrev pub CanCumulateAlong : Grid ℤ → ℕ → Type 0
@@ -80,4 +80,4 @@ CanCumulateAlong g axis = CanMap (λ lane. CanCumulateList lane.cells) (lanes_of
 -- the array has the axis, and the other one has its running products along it
 pub record AreRunningProducts (g : Grid ℤ) (axis : ℕ) (products : Grid ℤ) : Type 0 where
   pub shape : HasAxis g axis
-  pub cells : Cumulates is_product axis g products
+  pub cells : Cumulates multiplication_gives axis g products

@@ -1,7 +1,8 @@
 //! The commands: each reads its arguments and answers the text that it prints.
 
 ghost use Rattle.std.specs.Prelude.{◌≡◌, IfSome, IfOk, string_bytes};
-ghost use Rattle.ndtables.specs.Reading.{PrintsAdd, PrintsCumprod, PrintsDiff, PrintsProduct, PrintsProductAxis, PrintsSum, PrintsSumAxis};
+ghost use Rattle.ndarray.specs.Integers.{int_products, int_sums};
+ghost use Rattle.ndtables.specs.Reading.{PrintsAdd, PrintsCumprod, PrintsDiff, PrintsTotal, PrintsTotals};
 
 use crate::adding::sums_in_range;
 use crate::fault::Fault;
@@ -104,7 +105,7 @@ fn diff(alloc: Global, mut words: Words<'_>) -> Result<String, Fault>
 
 /// `product TABLE`.
 fn product(alloc: Global, mut words: Words<'_>) -> Result<String, Fault>
-    ensures { IfOk result (λ text. PrintsProduct words.entry (string_bytes text)) }
+    ensures { IfOk result (λ text. PrintsTotal int_products words.entry (string_bytes text)) }
 {
     let table = words.table(alloc)?;
     words.end()?;
@@ -114,7 +115,7 @@ fn product(alloc: Global, mut words: Words<'_>) -> Result<String, Fault>
 
 /// `product-axis K TABLE`.
 fn product_axis(alloc: Global, mut words: Words<'_>) -> Result<String, Fault>
-    ensures { IfOk result (λ text. PrintsProductAxis words.entry (string_bytes text)) }
+    ensures { IfOk result (λ text. PrintsTotals int_products words.entry (string_bytes text)) }
 {
     let axis = words.count()?;
     let table = words.table(alloc)?;
@@ -125,7 +126,7 @@ fn product_axis(alloc: Global, mut words: Words<'_>) -> Result<String, Fault>
 
 /// `sum TABLE`.
 fn sum(alloc: Global, mut words: Words<'_>) -> Result<String, Fault>
-    ensures { IfOk result (λ text. PrintsSum words.entry (string_bytes text)) }
+    ensures { IfOk result (λ text. PrintsTotal int_sums words.entry (string_bytes text)) }
 {
     let table = words.table(alloc)?;
     words.end()?;
@@ -135,7 +136,7 @@ fn sum(alloc: Global, mut words: Words<'_>) -> Result<String, Fault>
 
 /// `sum-axis K TABLE`.
 fn sum_axis(alloc: Global, mut words: Words<'_>) -> Result<String, Fault>
-    ensures { IfOk result (λ text. PrintsSumAxis words.entry (string_bytes text)) }
+    ensures { IfOk result (λ text. PrintsTotals int_sums words.entry (string_bytes text)) }
 {
     let axis = words.count()?;
     let table = words.table(alloc)?;

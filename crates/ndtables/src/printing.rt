@@ -2,7 +2,7 @@
 
 ghost use Rattle.std.specs.Prelude.{◌≡◌, ◌++◌, [], take, drop, IfOk, OnOk, string_bytes};
 ghost use Rattle.ndarray.specs.Index.{size};
-ghost use Rattle.ndtables.specs.Printing.{printed, printed_cells, separator};
+ghost use Rattle.ndtables.specs.Printing.{printed, printed_cells, separator_text};
 
 use ndarray::iter::Iter;
 use ndarray::{ArrayView, Dimension, Lengths};
@@ -62,7 +62,7 @@ fn push_cell<D: Lengths>(text: &mut String, cells: &mut Iter<'_, i64, D>) -> Res
 /// The text between two subarrays of these lengths: a blank between two cells, a newline between two
 /// rows, and an empty line too between two larger ones.
 fn separator(lengths: &[usize]) -> &'static str
-    ensures { result.now ≡ separator lengths.now }
+    ensures { result.now ≡ separator_text lengths.now }
 {
     match lengths {
         [] => " ",
