@@ -1,10 +1,10 @@
 -- Differences along an axis that may be taken, and the one of order 1.
-use Rattle.std.proofs.Common.{◌≡◌, ℕ, ◌<◌, ◌≤◌, List, Some, length, get_or, subst, arith}
+use Rattle.std.proofs.Common.{◌≡◌, ℕ, ◌<◌, ◌⊎◌, List, Some, length, get_or, subst, arith}
 use Rattle.ndarray.specs.AlongAxis.{CanDiffer, IsDifference, IsDifferenceOf, one_further}
 use Rattle.ndarray.specs.Grid.{Grid, cell}
 use Rattle.ndarray.specs.Index.{size}
 use Rattle.ndarray.proofs.cells.Cells.{cell-inside}
-use Rattle.ndarray.proofs.cells.Differences.{difference-length, no-index}
+use Rattle.ndarray.proofs.cells.Differences.{difference-length, no-index, order-at_most}
 
 module _ {A : Type 0} (can : A → A → Type 0) (gives : A → A → A → Type 0) (k : ℕ) (g : Grid A) where
   -- that of order 1, where it is defined on each two neighbours
@@ -15,8 +15,9 @@ module _ {A : Type 0} (can : A → A → Type 0) (gives : A → A → A → Type
       defined is y x (subst (λ v. cell v (one_further k is) ≡ Some y) same p) (subst (λ v. cell v is ≡ Some x) same q)
 
   -- any of an array without cells, as nothing is subtracted
-  pub differ-without_cells : (n : ℕ) → size g.lengths ≡ 0 → k < length g.lengths → n ≤ get_or g.lengths k 0 → CanDiffer gives k can n g
-  differ-without_cells n none lt le = λ order h is y x before d p q.
+  pub differ-without_cells : (n : ℕ) → size g.lengths ≡ 0 → k < length g.lengths → (n ≡ 0) ⊎ (n < get_or g.lengths k 0) → CanDiffer gives k can n g
+  differ-without_cells n none lt some = λ order h is y x before d p q.
+      let le = order-at_most n (get_or g.lengths k 0) some in
       let empty = (difference-length gives k g order h lt (omega (arith, le, before)) d).2 none in
       absurd (no-index h empty is (cell-inside h is x q))
 

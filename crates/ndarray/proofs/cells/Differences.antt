@@ -1,5 +1,5 @@
 -- The cells of two parts of an axis, one place apart, and the array of their differences.
-use Rattle.std.proofs.Common.{◌≡◌, ℕ, ◌+◌, ◌-◌, ◌<◌, ◌≤◌, zero, suc, List, [], Some, length, get_or, set, ap, sym, ◌∙◌, subst, arith, add-one, refl}
+use Rattle.std.proofs.Common.{◌≡◌, ℕ, ◌+◌, ◌-◌, ◌<◌, ◌≤◌, ◌⊎◌, inl, inr, zero, suc, List, [], Some, length, get_or, set, ap, sym, ◌∙◌, subst, arith, add-one, refl}
 use Rattle.std.proofs.lemmas.List.{set-get_or, get_or-set_same, length-set, set-set}
 use Rattle.std.specs.Prelude.{⊤}
 use Rattle.ndarray.specs.AlongAxis.{IsDifference, IsDifferenceOf, one_further}
@@ -33,6 +33,10 @@ neighbours-at g view later earlier k rest same l e whole_l whole_e is y x p q =
       ap (λ n. cell g (set is k n)) next ∙ part-cell g view later k 1 rest same l whole_l is y p,
       ap (cell g) (sym (set-get_or is k 0)) ∙ (ap (λ n. cell g (set is k n)) (sym here) ∙ part-cell g view earlier k 0 rest same e whole_e is x q),
     )
+
+-- an order that may be taken is at most the length
+pub order-at_most : (n len : ℕ) → (n ≡ 0) ⊎ (n < len) → n ≤ len
+order-at_most n len h = elim h [ inl e ↦ omega (arith, e) | inr lt ↦ omega (arith, lt) ]
 
 -- an array without cells has no index list
 pub no-index : {A : Type 0} (g : Grid A) → size g.lengths ≡ 0 → (is : List ℕ) → InBox g.lengths is → ⊥

@@ -1,6 +1,8 @@
-use Rattle.std.proofs.Common.{rules, arith, inr, subst, sym}
-use Rattle.std.specs.Prelude.{◌<◌, slice_index}
-use Rattle.ndtables.specs.Reducing.{CanSubtractAlong, HasAxis, HasOrder}
+use Rattle.std.proofs.Common.{rules, ◌∙◌, ◌-ℤ◌, arith, inr, subst, sym}
+use Rattle.std.specs.Prelude.{◌<◌, slice_index, FitsSigned}
+use Rattle.std.specs.Int.{w64}
+use Rattle.ndtables.specs.Reducing.{CanSubtractAlong, HasAxis, HasOrder, subtraction_gives}
+use Rattle.ndarray.proofs.callers.Differences.{differ-without_cells}
 use Rattle.ndtables.proofs.Neighbours.{length-left, not-subtracted}
 use Rattle.ndtables.proofs.reducing.differences.Goals as goal
 
@@ -22,12 +24,17 @@ returns-then-not-neighbours_subtract-clause-err c =
     let not : CanSubtractAlong c.view.result c.args.axis.0 → ⊥ = search rules in
     (shape, not-subtracted c.args.table.now c.loop.cells c.args.n c.args.axis.0 c.loop.counter c.loop-test.true c.loop.invariant (subst (λ v. CanSubtractAlong v c.args.axis.0 → ⊥) c.view.ensures.same not))
 
-pub diff-requires-clause-axis : goal.diff-requires-clause-axis
-diff-requires-clause-axis c =
+pub diff-requires-in-loop-clause-axis : goal.diff-requires-in-loop-clause-axis
+diff-requires-in-loop-clause-axis c =
     let shape : HasOrder c.args.table.now c.args.n c.args.axis.0 = search rules in
     (length-left c.args.table.now c.loop.cells c.args.n c.args.axis.0 c.loop.counter shape c.loop-test.true c.loop.invariant).0
 
-pub diff-requires-clause-order : goal.diff-requires-clause-order
-diff-requires-clause-order c =
+pub diff-requires-in-loop-clause-order : goal.diff-requires-in-loop-clause-order
+diff-requires-in-loop-clause-order c =
     let shape : HasOrder c.args.table.now c.args.n c.args.axis.0 = search rules in
     inr (length-left c.args.table.now c.loop.cells c.args.n c.args.axis.0 c.loop.counter shape c.loop-test.true c.loop.invariant).1
+
+pub diff-requires-clause-defined : goal.diff-requires-clause-defined
+diff-requires-clause-defined c =
+    let shape : HasOrder c.args.table.now c.args.n c.args.axis.0 = search rules in
+    differ-without_cells (λ y x. FitsSigned w64 (y -ℤ x)) subtraction_gives c.args.axis.0 c.args.table.now c.args.n (sym c.len.ensures.size ∙ c.if-len-eq0.true) shape.0 shape.1

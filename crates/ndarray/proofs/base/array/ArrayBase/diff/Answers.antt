@@ -5,16 +5,12 @@ use Rattle.ndarray.specs.AlongAxis.{IsDifferenceOf}
 use Rattle.ndarray.specs.Grid.{IsGrid}
 use Rattle.ndarray.specs.Index.{size}
 use Rattle.ndarray.proofs.boxes.Sizes.{size-set_none}
-use Rattle.ndarray.proofs.cells.Differences.{difference-length, difference-without_cells, part-lengths}
+use Rattle.ndarray.proofs.cells.Differences.{difference-length, difference-without_cells, order-at_most, part-lengths}
 use Rattle.ndarray.proofs.base.array.ArrayBase.diff.Goals as goal
 
 -- an order that is not 0 is below the length
 order-below : (n len : ℕ) → (n ≡ 0 → ⊥) → (n ≡ 0) ⊎ (n < len) → n < len
 order-below n len some h = elim h [ inl e ↦ absurd (some e) | inr lt ↦ lt ]
-
--- no order is above the length
-order-at_most : (n len : ℕ) → (n ≡ 0) ⊎ (n < len) → n ≤ len
-order-at_most n len h = elim h [ inl e ↦ omega (arith, e) | inr lt ↦ omega (arith, lt) ]
 
 -- the answer is the array that was copied
 copied : {A E : Type 0} (result : Result A E) (P : A → Type 0) (source : A) → P source → IfOk result (λ r. r ≡ source) → IfOk result P
