@@ -3,8 +3,8 @@
 use std::hint::black_box;
 use std::time::Instant;
 
-const NAMES: [&str; 34] = [
-    "sum", "iter", "iter_transposed", "iter_stepped", "iter_mut", "indexed_iter", "indexed_iter_mut",
+const NAMES: [&str; 36] = [
+    "sum", "sum_axis_rows", "sum_axis_columns", "iter", "iter_transposed", "iter_stepped", "iter_mut", "indexed_iter", "indexed_iter_mut",
     "to_owned", "to_owned_column_major", "into_iter_of_a_copy", "windows_3x3", "axis_iter", "columns", "zip_one_fold", "zip_one_for_each", "zip_two_fold",
     "zip_three_fold", "zip_two_for_each", "zip_two_map_collect", "zip_two_map_assign_into",
     "zip_two_map_assign_into_view", "zip_two_for_each_mixed",
@@ -102,6 +102,19 @@ fn walk(name: &str, n: usize, a: &mut [i64], b: &[i64], c: &[i64]) -> i64 {
                 }
                 sum = sum.wrapping_mul(3);
             }
+        }
+        "sum_axis_rows" => {
+            let made: Vec<i64> = b.chunks(n).map(|row| added(row.iter())).collect();
+            return made[1];
+        }
+        "sum_axis_columns" => {
+            let mut made = vec![0i64; n];
+            for row in b.chunks(n) {
+                for (sum, x) in made.iter_mut().zip(row) {
+                    *sum = sum.wrapping_add(*x);
+                }
+            }
+            return made[1];
         }
         "zip_two_fold" | "zip_two_fold_column_major" => {
             for (x, y) in a.iter().zip(b) {
