@@ -19,6 +19,7 @@ pub(crate) mod places;
 pub mod reduce;
 pub mod stacking;
 pub mod subviews;
+mod tri;
 pub mod zip;
 
 pub use crate::base::array::{
