@@ -1,13 +1,12 @@
 -- What is known of shapes that nothing is wrong with.
-use Rattle.std.proofs.Common.{◌≡◌, ◌≢◌, ℕ, ◌+◌, ◌<◌, ◌≤◌, ◌^◌, suc, zero, List, [], ◌∷◌, Option, Some, None, length, drop, map, set, get_or, true, false, inl, inr, refl, sym, ◌∙◌, ap, arith, subst}
+use Rattle.std.proofs.Common.{◌≡◌, ℕ, ◌+◌, ◌<◌, ◌≤◌, ◌^◌, suc, zero, List, [], ◌∷◌, Option, Some, None, length, drop, set, get_or, true, false, inl, inr, refl, sym, ◌∙◌, ap, arith, subst}
 use Rattle.std.specs.Prelude.{All, nat_eq, nat_lt, not, if◌then◌else◌, ◌&&◌, sum_by, insert, Bool}
 use Rattle.std.specs.Cmp.Lexicographic.{pointwise}
 use Rattle.std.specs.List.{list_all}
 use Rattle.std.proofs.Math.Seq.{drop-cons}
-use Rattle.std.proofs.lemmas.Bool.{cases_lt, and_left, and_parts, le-ltb, lt-ltb, not_from_false, not_from_true, ltb-true, cases_Bool}
+use Rattle.std.proofs.lemmas.Bool.{cases_lt, and_left, and_parts, le-ltb, lt-ltb, not_from_false, not_from_true}
 use Rattle.std.proofs.lemmas.List.{get_or-set_same, get_or_default, length-map, length-set, set-set, set-get_or}
 use Rattle.ndarray.specs.Grid.{Grid, IsGrid, same_index}
-use Rattle.ndarray.specs.Index.{size}
 use Rattle.ndarray.specs.Joining.{concatenate_error, concatenated_lengths, is_same_but_along, is_within_limit, shapes_of, stack_error, stacked_lengths}
 use Rattle.ndarray.specs.Limits.{IsWithinLimit, nonzero_size}
 use Rattle.ndarray.specs.declared.base.error.ErrorKind.TheVariants.{IncompatibleShape, RangeLimited, OutOfBounds, Overflow}

@@ -1,6 +1,6 @@
 -- The blocks of several arrays, one after another, are the arrays joined along an axis, and those stacked.
 use Rattle.std.proofs.Common.{◌≡◌, ℕ, ◌+◌, ◌*◌, ◌-◌, ◌<◌, ◌≤◌, suc, zero, List, [], ◌∷◌, ◌++◌, Some, None, length, drop, set, get_or, insert, remove, inl, inr, refl, sym, ◌∙◌, ap, arith, subst}
-use Rattle.std.specs.Prelude.{◌^◌, flat_map, nat_lt, not, slice_get, sum_by, option_and_then, All, if◌then◌else◌}
+use Rattle.std.specs.Prelude.{◌^◌, nat_lt, not, slice_get, sum_by, option_and_then, All, if◌then◌else◌}
 use Rattle.std.specs.List.{list_all}
 use Rattle.std.proofs.lemmas.Bool.{cases_lt, lt-ltb, le-ltb, ltb-false, ltb-true}
 use Rattle.std.proofs.lemmas.Nat.{mul-le}

@@ -8,7 +8,6 @@ use Rattle.ndarray.specs.order.Ranks.{rank}
 use Rattle.ndarray.specs.stacking.Blocks.{outer_lengths}
 use Rattle.ndarray.proofs.boxes.Boxes.{InBox-length, InBox-set_both}
 use Rattle.ndarray.proofs.boxes.Orders.{rank-lt}
-use Rattle.ndarray.proofs.boxes.Sizes.{nonzero-smaller}
 
 -- the index list on the axes before one, and 0 from there on
 abbrev pub outer_index : ℕ → List ℕ → List ℕ

@@ -1,4 +1,4 @@
-use Rattle.std.proofs.Common.{◌≡◌, ◌∙◌, ◌∷◌, ◌+◌, ◌++◌, ◌<◌, ◌≤◌, List, ℕ, Some, All, ap, sym, subst, arith, length, refl, append-nil, inl, inr, w64}
+use Rattle.std.proofs.Common.{◌≡◌, ◌∙◌, ◌∷◌, ◌+◌, ◌++◌, All, ap, sym, subst, arith, length, refl, append-nil, inl, inr, w64}
 use Rattle.std.specs.Prelude.{filter_map, int_le, ◌&&◌, if◌then◌else◌}
 use Rattle.std.specs.Int.{cast_signed, cast_unsigned}
 use Rattle.std.proofs.lemmas.Int.{to_z-of_z}

@@ -1,5 +1,5 @@
 -- What was pushed, with what is to come, is the whole.
-use Rattle.std.proofs.Common.{◌≡◌, List, ℕ, All, Option, Some}
+use Rattle.std.proofs.Common.{◌≡◌, All}
 use Rattle.std.specs.Prelude.{filter_map, int_le, ◌&&◌}
 use Rattle.ndarray.specs.Grid.{cell}
 use Rattle.ndarray.specs.Index.{InBox}

@@ -1,5 +1,4 @@
-use Rattle.std.proofs.Common.{◌≡◌, ◌+◌, ◌*◌, ◌∙◌, ap, arith, refl}
-use Rattle.ndarray.specs.Index.{size}
+use Rattle.std.proofs.Common.{◌≡◌, ◌+◌, ◌*◌, arith, refl}
 use Rattle.ndarray.specs.declared.base.shape.Order.TheVariants.{RowMajor}
 use Rattle.ndarray.specs.order.Ranks.{block_in}
 use Rattle.ndarray.proofs.strides.Strides.{block_in-fits, block-step}

@@ -1,5 +1,5 @@
 -- What was pushed, with the blocks at the index lists to come, is the whole.
-use Rattle.std.proofs.Common.{◌≡◌, ◌≤◌, All, length}
+use Rattle.std.proofs.Common.{◌≡◌, All}
 use Rattle.ndarray.specs.Index.{InBox}
 use Rattle.std.specs.Prelude.{flat_map}
 use Rattle.ndarray.specs.base.Builder.{pushed_all}

@@ -1,4 +1,4 @@
-use Rattle.std.proofs.Common.{◌≡◌, ◌∙◌, ◌∷◌, ◌+◌, ◌++◌, [], ap, sym, arith, length, suc}
+use Rattle.std.proofs.Common.{◌≡◌, ◌∙◌, ◌∷◌, ◌+◌, [], ap, sym, arith, length, suc}
 use Rattle.std.proofs.lemmas.List.{length-append}
 use Rattle.ndarray.specs.Index.{size}
 use Rattle.ndarray.specs.base.Builder.{pushed_all}

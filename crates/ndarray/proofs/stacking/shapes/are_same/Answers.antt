@@ -1,4 +1,4 @@
-use Rattle.std.proofs.Common.{◌∙◌, ap, sym, get_or}
+use Rattle.std.proofs.Common.{◌∙◌, ap, sym}
 use Rattle.ndarray.specs.Grid.{same_index}
 use Rattle.ndarray.proofs.joining.Errors.{shapes-more, shapes-stop, whole-more}
 use Rattle.ndarray.proofs.stacking.shapes.are_same.Goals as goal

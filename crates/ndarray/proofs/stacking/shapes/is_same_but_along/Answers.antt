@@ -1,4 +1,4 @@
-use Rattle.std.proofs.Common.{◌∙◌, ap, sym, arith, get_or, set, length}
+use Rattle.std.proofs.Common.{ap, sym, arith, get_or, set, length}
 use Rattle.std.proofs.lemmas.List.{length-set}
 use Rattle.ndarray.proofs.lists.CellLookup.{same_index-false}
 use Rattle.ndarray.proofs.stacking.shapes.is_same_but_along.Goals as goal

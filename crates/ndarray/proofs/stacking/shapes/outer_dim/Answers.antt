@@ -1,4 +1,4 @@
-use Rattle.std.proofs.Common.{◌≡◌, ◌∙◌, ap, sym, arith, set, length}
+use Rattle.std.proofs.Common.{◌∙◌, ap, sym, arith, set, length}
 use Rattle.ndarray.proofs.joining.OuterAxes.{length-ones_between, ones-all, ones-more, ones-none, ones_between}
 use Rattle.ndarray.proofs.stacking.shapes.outer_dim.Goals as goal
 
