@@ -33,7 +33,12 @@ pub(crate) fn joined_blocks<A: Clone + Drop, D: Lengths, E: Lengths>(
     ensures empty { size (E.numbers shape.dim) ≡ 0 → IsOk result }
 {
     let JoinedShape { outer, dim } = shape;
+    let size = dim.size();
     let mut builder = ArrayBuilder::with_capacity(alloc, dim, Order::RowMajor)?;
+    if size == 0 {
+        // However many index lists the outer axes have.
+        return Ok(builder.finish());
+    }
     for index in Walk::new(outer, Order::RowMajor) {
         push_blocks(&mut builder, axis, arrays, &index)?;
     }

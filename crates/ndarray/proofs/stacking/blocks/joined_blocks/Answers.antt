@@ -1,4 +1,4 @@
-use Rattle.std.proofs.Common.{◌≡◌, ◌∙◌, ◌+◌, ◌≤◌, ◌++◌, ap, sym, arith, length, List, ℕ, append-nil, subst, All}
+use Rattle.std.proofs.Common.{[], ◌∷◌, refl, ◌≡◌, ◌∙◌, ◌+◌, ◌≤◌, ◌++◌, ap, sym, arith, length, List, ℕ, append-nil, subst, All}
 use Rattle.std.specs.Prelude.{flat_map}
 use Rattle.std.proofs.lemmas.Bool.{false≢true}
 use Rattle.std.proofs.lemmas.List.{length-append}
@@ -11,6 +11,10 @@ use Rattle.ndarray.specs.declared.base.shape.Order.TheVariants.{RowMajor}
 use Rattle.ndarray.proofs.cells.Cells.{along-row_order}
 use Rattle.ndarray.proofs.joining.Blocks.{pushed-length, pushed-more}
 use Rattle.ndarray.proofs.stacking.blocks.joined_blocks.Goals as goal
+
+none-of : {X : Type 0} (xs : List X) → length xs ≡ 0 → xs ≡ []
+none-of [] e = refl
+none-of (x ∷ xs) e = absurd (omega (arith, e))
 
 pub push_blocks-requires-clause-blocks : goal.push_blocks-requires-clause-blocks
 push_blocks-requires-clause-blocks g c =
@@ -71,4 +75,12 @@ returns-clause-cells g c =
     ∙ (ap (λ q. q.cells ++ flat_map f c.into_iter-index-iterator.result) made
     ∙ ap (flat_map f) (c.into_iter-index-iterator.ensures.into_iter_gives ∙ c.new-index-items.ensures.list)))) in
     let order : p.order ≡ RowMajor = ap (λ q. q.order) i.pushed ∙ ap (λ q. q.order) made in
-    sym (along-row_order c.finish.result c.finish.ensures.whole) ∙ (ap (λ o. cells_in o c.finish.result) (sym order) ∙ (c.finish.ensures.list ∙ all))
+    sym (along-row_order c.finish-2.result c.finish-2.ensures.whole) ∙ (ap (λ o. cells_in o c.finish-2.result) (sym order) ∙ (c.finish-2.ensures.list ∙ all))
+
+pub returns-then-size-eq0-clause-cells : goal.returns-then-size-eq0-clause-cells
+returns-then-size-eq0-clause-cells g c =
+    let made = c.in_ok-builder.ensures.room in
+    let r = c.finish.result in
+    let none = none-of (all_blocks c.args.axis (g.D.Lengths.numbers c.args.shape.outer) c.args.arrays.now) (c.requires.may.many ∙ (sym c.size-size.ensures ∙ c.if-size-eq0.true)) in
+    sym (along-row_order r c.finish.ensures.whole)
+    ∙ (ap (λ o. cells_in o r) (sym (ap (λ q. q.order) made)) ∙ (c.finish.ensures.list ∙ (ap (λ q. q.cells) made ∙ sym none)))
