@@ -1,6 +1,7 @@
 pub mod boxes
 pub mod callers
 pub mod cells
+pub mod joining
 pub mod lists
 pub mod moving
 pub mod pieces

@@ -4,6 +4,7 @@ pub mod Assignments
 pub mod Cells
 pub mod CellsInOrder
 pub mod CollectedCells
+pub mod Diagonals
 pub mod Differences
 pub mod Elementwise
 pub mod IndexedCells

@@ -12,6 +12,7 @@ pub mod Grid
 pub mod Index
 pub mod IntegerProducts
 pub mod Integers
+pub mod Joining
 pub mod Limits
 pub mod Orders
 pub mod Producers
@@ -19,9 +20,11 @@ pub mod Runs
 pub mod Slices
 pub mod Subviews
 pub mod Sums
+pub mod Triangles
 pub mod Updates
 pub mod Views
 pub mod Writes
 pub mod base
 pub mod order
 pub mod places
+pub mod stacking

@@ -17,7 +17,9 @@ pub mod order;
 pub mod owning;
 pub(crate) mod places;
 pub mod reduce;
+pub mod stacking;
 pub mod subviews;
+mod tri;
 pub mod zip;
 
 pub use crate::base::array::{
@@ -36,4 +38,5 @@ pub use crate::base::slice::Slice;
 pub use crate::base::storage::{CowRepr, Data, DataMut, DataOwned, OwnedRepr, ViewRepr};
 pub use crate::elements::{IntegerElem, LinalgScalar, ProductElem, ScalarOperand, SumElem, Valued};
 pub use crate::ops::scalar_left;
+pub use crate::stacking::{StackError, concatenate, stack};
 pub use crate::zip::{FoldWhile, IntoBroadcast, IntoNdProducer, NdProducer, Shaped, Zip};

@@ -6,7 +6,7 @@ ghost use Rattle.std.specs.Iterator.SizeHint.{IsExactHint, IsWithinCount};
 ghost use Rattle.ndarray.specs.Index.{InBox, size, IsRowOrder};
 ghost use Rattle.ndarray.specs.Limits.{IsWithinLimit};
 ghost use Rattle.ndarray.specs.Orders.{box_in, IsBoxIn};
-ghost use Rattle.ndarray.specs.order.Ranks.{rank_in, axis_in, TakesRow};
+ghost use Rattle.ndarray.specs.order.Ranks.{rank_in, axis_in, walk_rest, TakesRow, WalkStands};
 
 use crate::base::dimension::{Dim, Ix1, Lengths};
 use crate::base::layout::{Layout, default_strides};
@@ -154,6 +154,19 @@ pub(crate) struct Row<D> {
 }
 
 impl<D: Lengths> Walk<D> {
+    /// `count` index lists of the box in the order, from `index` on.
+    pub(crate) fn starting_at(dim: D, order: Order, index: D, count: usize) -> Self
+        requires { WalkStands order (D.numbers dim) (D.numbers index) count }
+        ensures { result ≡ walk_rest order (D.numbers dim) (D.numbers index) count }
+    {
+        Walk {
+            dim,
+            index,
+            left: count,
+            order,
+        }
+    }
+
     /// The same once more.
     pub(crate) fn again(&self) -> Self
         ensures { result ≡ self.now }

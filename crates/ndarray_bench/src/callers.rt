@@ -7,14 +7,16 @@ ghost use Rattle.std.specs.List.{fold, list_all, list_any};
 ghost use Rattle.ndarray.specs.AlongAxis.{Cumulates, IsDifference, one_further};
 ghost use Rattle.ndarray.specs.Elementwise.{CanCombine, Combines};
 ghost use Rattle.ndarray.specs.Grid.{arranged, cell};
+ghost use Rattle.ndarray.specs.Index.{InBox};
 ghost use Rattle.ndarray.specs.Integers.{int_products, int_sums};
+ghost use Rattle.ndarray.specs.Joining.{stacked};
 ghost use Rattle.ndarray.specs.Subviews.{lane};
 ghost use Rattle.ndarray.specs.Sums.{total, total_by};
 ghost use Rattle.ndarray_bench.specs.Callers.{half_at, sum_at, sum_below};
 ghost use Rattle.ndarray_bench.specs.Residue.{modulus, modulus_pos, residue_products, residue_sums};
 
 use crate::residue::Residue;
-use ndarray::{Array, ArrayBase, Axis, Data, DimMax, Dimension, Ix1, Ix2, Zip};
+use ndarray::{Array, ArrayBase, Axis, Data, DimMax, Dimension, Ix1, Ix2, StackError, Zip, stack};
 use std::alloc::{AllocError, Global};
 
 /// Half of each cell, rounded down, whatever keeps the cells and however they lie.
@@ -141,4 +143,16 @@ pub fn residue_running_products<const M: u32, S: Data<Elem = Residue<M>>, D: Dim
     ensures { IfOk result (Cumulates (λ x p z. z ≡ (residue_products (modulus M) (modulus_pos M)).op x p) axis.0 a.now) }
 {
     a.cumprod(alloc, axis)
+}
+
+/// The table of two rows of numbers of one length.
+pub fn two_rows(
+    alloc: Global,
+    first: &Array<i64, Ix1>,
+    second: &Array<i64, Ix1>,
+) -> Result<Array<i64, Ix2>, StackError>
+    ensures table { IfOk result (λ t. t ≡ stacked 0 (first.now ∷ second.now ∷ [])) }
+    ensures second_row { IfOk result (λ t. (j : ℕ) → InBox t.lengths (1 ∷ j ∷ []) → cell t (1 ∷ j ∷ []) ≡ cell second.now (j ∷ [])) }
+{
+    stack(alloc, Axis(0), &[first.view(), second.view()])
 }

@@ -4,6 +4,7 @@ mod along;
 mod answer;
 mod calls;
 mod items;
+mod joining;
 mod layouts;
 mod lists;
 mod operators;

@@ -14,6 +14,10 @@ pub record BuilderState (A : Type 0) : Type 0 where
 abbrev pub pushed_to : {A : Type 0} → BuilderState A → A → BuilderState A
 pushed_to p x = record { lengths = p.lengths; order = p.order; cells = p.cells ++ x ∷ [] }
 
+-- the same with some cells more
+abbrev pub pushed_all : {A : Type 0} → BuilderState A → List A → BuilderState A
+pushed_all p xs = record { lengths = p.lengths; order = p.order; cells = p.cells ++ xs }
+
 -- lengths within the limit, and a capacity for all of their cells
 pub record HasRoom (ns : List ℕ) (capacity : ℕ) : Type 0 where
   pub limit : IsWithinLimit ns

@@ -1,10 +1,12 @@
 //! The walk that the iterators over cells stand on.
 
-ghost use Rattle.std.specs.Prelude.{◌≡◌, [], ◌<◌, ◌^◌, length, ⊤, IfSome, MatchOption};
+ghost use Rattle.std.specs.Prelude.{◌≡◌, [], ◌+◌, ◌<◌, ◌≤◌, ◌^◌, length, take, drop, ⊤, IfSome, MatchOption};
 ghost use Rattle.std.specs.Iterator.{YieldsFirstRef, YieldsLastRef, UpTo, item_count};
 ghost use Rattle.std.specs.Iterator.SizeHint.{IsExactHint, IsWithinCount};
 ghost use Rattle.ndarray.specs.Grid.{IsGrid, HasCells};
+ghost use Rattle.ndarray.specs.Index.{InBox, size};
 ghost use Rattle.ndarray.specs.base.Strided.{SplitsOffRow};
+ghost use Rattle.ndarray.specs.order.Ranks.{rank};
 ghost use Rattle.ndarray.specs.Orders.{HasInOrder, cells_in};
 ghost use Rattle.ndarray.specs.declared.base.shape.Order.TheVariants.{RowMajor};
 
@@ -55,6 +57,20 @@ impl<'a, A, D: Lengths> ElementsBase<'a, A, D> {
         ensures whole { IsGrid v.entry }
     {
         let walk = Walk::new(v.raw_dim(), order);
+        ElementsBase {
+            row: v.no_cells(),
+            view: v,
+            walk,
+        }
+    }
+
+    /// `count` cells of a view in row order, from that at `index` on.
+    pub(crate) fn starting_at(v: ArrayView<'a, A, D>, index: D, count: usize) -> Self
+        requires within { 0 < count → InBox v.lengths (D.numbers index) }
+        requires fits { 0 < count → rank v.lengths (D.numbers index) + count ≤ size v.lengths }
+        ensures { result ≡ take count (drop (rank v.entry.lengths (D.numbers index)) v.entry.cells) }
+    {
+        let walk = Walk::starting_at(v.raw_dim(), Order::RowMajor, index, count);
         ElementsBase {
             row: v.no_cells(),
             view: v,

@@ -253,7 +253,7 @@ pub fn push_answer(text: &mut String, alloc: Global, array: Owned) -> Result<(),
 }
 
 /// Appends an answer to other answers, unless it is the same.
-fn push_text(text: &mut String, next: &str) -> Result<(), AllocError> {
+pub fn push_text(text: &mut String, next: &str) -> Result<(), AllocError> {
     if text.as_str() == next {
         return Ok(());
     }

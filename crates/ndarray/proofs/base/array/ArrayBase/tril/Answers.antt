@@ -1,0 +1,12 @@
+use Rattle.std.proofs.Common.{◌≡◌, ◌∙◌, ap, subst, w64}
+use Rattle.std.specs.Int.{cast_signed, cast_unsigned}
+use Rattle.std.specs.Prelude.{IfOk}
+use Rattle.std.proofs.lemmas.Int.{to_z-of_z}
+use Rattle.ndarray.specs.Triangles.{lower_triangle}
+use Rattle.ndarray.proofs.cells.Diagonals.{lower-is}
+use Rattle.ndarray.proofs.base.array.ArrayBase.tril.Goals as goal
+
+pub returns-clause-cells : goal.returns-clause-cells
+returns-clause-cells g c =
+    let same = lower-is (cast_signed w64 (cast_unsigned w64 c.args.k)) g.A.Zero.zero c.args.self.now c.diagonals.ensures.limit ∙ ap (λ k. lower_triangle k g.A.Zero.zero c.args.self.now) (to_z-of_z w64 c.args.k c.ranges.k) in
+    subst (λ h. IfOk c.diagonals.result (λ r. r ≡ h)) same c.diagonals.ensures.cells

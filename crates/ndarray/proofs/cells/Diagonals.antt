@@ -1,0 +1,137 @@
+-- Diagonals of the last two axes that are kept.
+use Rattle.std.proofs.Common.{◌≡◌, ◌-◌, ◌<◌, ◌≤◌, ◌^◌, ◌⊎◌, inl, inr, ℕ, List, [], ◌∷◌, Option, Some, Bool, true, false, length, get_or, refl, sym, ◌∙◌, ap, arith, subst}
+use Rattle.std.specs.Prelude.{ℤ, pos, negsuc, ◌≤ℤ◌, int_le, T, ◌&&◌, All, filter_map, if◌then◌else◌}
+use Rattle.std.proofs.lemmas.Bool.{cases_lt, le-ltb, lt-ltb}
+use Rattle.std.proofs.lemmas.Int.{ints}
+use Rattle.std.proofs.lemmas.List.Elements.{All-head}
+use Rattle.ndarray.specs.Grid.{Grid, IsGrid, cell, grid, tabulate, tabulated}
+use Rattle.ndarray.specs.Index.{InBox, row_order, size}
+use Rattle.ndarray.specs.Limits.{nonzero_size}
+use Rattle.ndarray.specs.Triangles.{column_minus_row, diagonals_kept, lower_triangle, upper_triangle}
+use Rattle.ndarray.proofs.boxes.Boxes.{InBox-length, InBox-get}
+use Rattle.ndarray.proofs.boxes.Orders.{length-row_order, row_order-is}
+use Rattle.ndarray.proofs.boxes.Sizes.{length-fits}
+use Rattle.ndarray.proofs.cells.Cells.{along-first, cell-Some, length-along, tabulate-same}
+use Rattle.ndarray.proofs.lists.Elements.{length-filter_map_all}
+use Rattle.std.proofs.lemmas.List.{get_or_default}
+
+module _ {A : Type 0} (keeps : ℤ → Bool) (zero_cell : A) (g : Grid A) where
+  -- the cell on a diagonal that is kept, else zero
+  abbrev pub kept_at : List ℕ → Option A
+  kept_at is = if keeps (column_minus_row is) then cell g is else Some zero_cell
+
+  module _ (whole : IsGrid g) where
+    kept-Some : (is : List ℕ) → InBox g.lengths is → (x : A) × (kept_at is ≡ Some x)
+    kept-Some is b = either (keeps (column_minus_row is)) (cell-Some g whole is b)
+      where
+        either : (t : Bool) → (x : A) × (cell g is ≡ Some x) → (x : A) × ((if t then cell g is else Some zero_cell) ≡ Some x)
+        either true s = s
+        either false s = (zero_cell, refl)
+
+    pub length-kept : (ys : List (List ℕ)) → All (InBox g.lengths) ys → length (filter_map kept_at ys) ≡ length ys
+    length-kept ys h = length-filter_map_all kept_at ys (λ k d lt. kept-Some (get_or ys k d) (h k d lt))
+
+    pub length-all_kept : length (filter_map kept_at (row_order g.lengths)) ≡ size g.lengths
+    length-all_kept = length-kept (row_order g.lengths) (row_order-is g.lengths).within ∙ length-row_order g.lengths
+
+    -- the next cell, and the one that takes its place
+    pub next-cell : (ys later : List (List ℕ)) (is : List ℕ) (x : A) (xs rest : List A) → All (InBox g.lengths) ys → ys ≡ is ∷ later → xs ≡ filter_map (cell g) ys → xs ≡ x ∷ rest → InBox g.lengths is × (cell g is ≡ Some x) × (rest ≡ filter_map (cell g) later)
+    next-cell ys later is x xs rest within e cells f =
+        let b : InBox g.lengths is = All-head (InBox g.lengths) is later (subst (All (InBox g.lengths)) e within) in
+        let (y, at) = cell-Some g whole is b in
+        let same : x ∷ rest ≡ y ∷ filter_map (cell g) later = sym f ∙ (cells ∙ along-first g ys later is y e at) in
+        let here : x ≡ y = cc in
+        (b, at ∙ ap (λ v. Some v) (sym here), (cc))
+
+    pub next-kept : (ys later : List (List ℕ)) (is : List ℕ) (y : A) → ys ≡ is ∷ later → kept_at is ≡ Some y → filter_map kept_at ys ≡ y ∷ filter_map kept_at later
+    next-kept ys later is y e s = rw (e, s) refl
+
+    -- nothing is left
+    pub none-kept : (ys : List (List ℕ)) (xs : List A) → All (InBox g.lengths) ys → xs ≡ filter_map (cell g) ys → (ys ≡ []) ⊎ (xs ≡ []) → filter_map kept_at ys ≡ []
+    none-kept ys xs within cells none =
+        let kept = length-kept ys within in
+        let long = length-along g whole ys within in
+        empty (filter_map kept_at ys)
+        (elim none [
+          | inl e ↦ (let z = ap length e in omega (arith, kept, z))
+          | inr e ↦ (let z = ap length (sym cells ∙ e) in omega (arith, kept, long, z))
+        ])
+      where
+        empty : (zs : List A) → length zs ≡ 0 → zs ≡ []
+        empty [] e = refl
+        empty (z ∷ zs) e = absurd (omega (arith, e))
+
+    -- the array of all of them
+    pub diagonals-of : (r : Grid A) → 2 ≤ length g.lengths → r.lengths ≡ g.lengths → r.cells ≡ filter_map kept_at (row_order g.lengths) → r ≡ diagonals_kept keeps zero_cell g
+    unfolding tabulated
+    diagonals-of r axes lengths cells =
+        ap (λ ns. grid ns r.cells) lengths
+        ∙ (ap (grid g.lengths) cells
+        ∙ sym (ap (λ t. if t then g else grid g.lengths (filter_map kept_at (row_order g.lengths))) (le-ltb (length g.lengths) 2 axes)))
+
+  pub kept-one : (is : List ℕ) (x : A) → cell g is ≡ Some x → kept_at is ≡ Some (if keeps (column_minus_row is) then x else zero_cell)
+  kept-one is x e = either (keeps (column_minus_row is))
+    where
+      either : (t : Bool) → (if t then cell g is else Some zero_cell) ≡ Some (if t then x else zero_cell)
+      either true = e
+      either false = refl
+
+-- indices of a shape within the limit fit a signed word
+pub indices-fit : (ns is : List ℕ) → nonzero_size ns < 2 ^ 63 → InBox ns is → All (λ i. i < 2 ^ 63) is
+indices-fit ns is limit b k d lt =
+    let l = InBox-length ns is b in
+    let here = InBox-get ns is k b (omega (arith, l, lt)) in
+    let fits = length-fits ns k (omega (arith, l, lt)) limit in
+    let same = get_or_default is k 0 d lt in
+    omega (arith, here, fits, same)
+
+-- what is kept by two tests that agree at each index list
+module _ {A : Type 0} (keeps others : ℤ → Bool) (zero_cell : A) (g : Grid A) (agree : (is : List ℕ) → InBox g.lengths is → 2 ≤ length g.lengths → keeps (column_minus_row is) ≡ others (column_minus_row is)) where
+  pub diagonals-alike : diagonals_kept keeps zero_cell g ≡ diagonals_kept others zero_cell g
+  diagonals-alike = elim (cases_lt (length g.lengths) 2) [
+    | inl few ↦
+        ap (λ t. if t then g else tabulate g.lengths (kept_at keeps zero_cell g)) (lt-ltb (length g.lengths) 2 few)
+        ∙ sym (ap (λ t. if t then g else tabulate g.lengths (kept_at others zero_cell g)) (lt-ltb (length g.lengths) 2 few))
+    | inr axes ↦
+        ap (λ t. if t then g else tabulate g.lengths (kept_at keeps zero_cell g)) (le-ltb (length g.lengths) 2 axes)
+        ∙ (tabulate-same g.lengths g.lengths (kept_at keeps zero_cell g) (kept_at others zero_cell g) refl
+        (λ is b. ap (λ t. if t then cell g is else Some zero_cell) (agree is b axes))
+        ∙ sym (ap (λ t. if t then g else tabulate g.lengths (kept_at others zero_cell g)) (le-ltb (length g.lengths) 2 axes)))
+  ]
+
+-- the difference of two indices is a signed word
+module _ (ns is : List ℕ) (limit : nonzero_size ns < 2 ^ 63) (b : InBox ns is) (axes : 2 ≤ length ns) where
+  pub difference-fits : (negsuc (2 ^ 63 - 1) ≤ℤ column_minus_row is) × (column_minus_row is ≤ℤ pos (2 ^ 63 - 1))
+  difference-fits =
+      let l = InBox-length ns is b in
+      let fit = indices-fit ns is limit b in
+      let column : get_or is (length is - 1) 0 < 2 ^ 63 = fit (length is - 1) 0 (omega arith) in
+      let row : get_or is (length is - 2) 0 < 2 ^ 63 = fit (length is - 2) 0 (omega arith) in
+      (omega (arith, ints), omega (arith, ints))
+
+passed : (x y : ℤ) → x ≤ℤ y → int_le x y ≡ true
+passed x y h = of_T (int_le x y) h.le
+  where
+    of_T : (t : Bool) → T t → t ≡ true
+    of_T true h = refl
+    of_T false h = absurd h
+
+and-true : (t : Bool) → (t && true) ≡ t
+and-true true = refl
+and-true false = refl
+
+-- a bound that every difference of indices keeps
+module _ {A : Type 0} (k : ℤ) (zero_cell : A) (g : Grid A) (limit : nonzero_size g.lengths < 2 ^ 63) where
+  pub upper-is : diagonals_kept (λ d. int_le k d && int_le d (pos 9223372036854775807)) zero_cell g ≡ upper_triangle k zero_cell g
+  upper-is =
+      diagonals-alike (λ d. int_le k d && int_le d (pos 9223372036854775807)) (λ d. int_le k d) zero_cell g
+      (λ is b axes.
+      let d : ℤ = column_minus_row is in
+      ap (λ t. int_le k d && t) (passed d (pos 9223372036854775807) (difference-fits g.lengths is limit b axes).1) ∙ and-true (int_le k d))
+
+  pub lower-is : diagonals_kept (λ d. int_le (negsuc 9223372036854775807) d && int_le d k) zero_cell g ≡ lower_triangle k zero_cell g
+  lower-is =
+      diagonals-alike (λ d. int_le (negsuc 9223372036854775807) d && int_le d k) (λ d. int_le d k) zero_cell g
+      (λ is b axes.
+      let d : ℤ = column_minus_row is in
+      ap (λ t. t && int_le d k) (passed (negsuc 9223372036854775807) d (difference-fits g.lengths is limit b axes).0))

@@ -1,0 +1,5 @@
+-- Arrays joined along an axis, and stacked.
+pub mod Blocks
+pub mod Errors
+pub mod Joined
+pub mod OuterAxes

@@ -1,0 +1,91 @@
+-- Lists of blocks, and what stands at each place of them.
+use Rattle.std.proofs.Common.{◌≡◌, ℕ, ◌+◌, ◌*◌, ◌<◌, ◌≤◌, suc, zero, List, [], ◌∷◌, ◌++◌, length, take, drop, get_or, refl, sym, ◌∙◌, ap, arith, append-nil, append_assoc}
+use Rattle.std.specs.Prelude.{flat_map, slice_get, sum_by, All}
+use Rattle.std.proofs.Math.Seq.{drop-cons}
+use Rattle.std.proofs.lemmas.List.{length-append, length-drop, length-take-le}
+use Rattle.std.proofs.lemmas.List.Elements.{All-head, All-tail}
+use Rattle.std.proofs.lemmas.List.Sums.{sum_by-cons}
+use Rattle.ndarray.specs.Grid.{Grid}
+use Rattle.ndarray.specs.Index.{size}
+use Rattle.ndarray.specs.base.Builder.{BuilderState, pushed_all, pushed_to}
+use Rattle.ndarray.specs.order.Ranks.{rank}
+use Rattle.ndarray.specs.stacking.Blocks.{block_at, blocks_at}
+
+module _ {X : Type 0} where
+  pub slice_get-first : (xs ys : List X) (k : ℕ) → k < length xs → slice_get (xs ++ ys) k ≡ slice_get xs k
+  slice_get-first [] ys k lt = absurd (omega arith)
+  slice_get-first (x ∷ xs) ys zero lt = refl
+  slice_get-first (x ∷ xs) ys (suc k) lt = slice_get-first xs ys k (omega arith)
+
+  pub slice_get-rest : (xs ys : List X) (k : ℕ) → slice_get (xs ++ ys) (length xs + k) ≡ slice_get ys k
+  slice_get-rest [] ys k = let e : 0 + k ≡ k = omega arith in ap (slice_get ys) e
+  slice_get-rest (x ∷ xs) ys k = let e : suc (length xs) + k ≡ suc (length xs + k) = omega arith in ap (slice_get (x ∷ (xs ++ ys))) e ∙ slice_get-rest xs ys k
+
+  pub length-part : (xs : List X) (from n : ℕ) → from + n ≤ length xs → length (take n (drop from xs)) ≡ n
+  length-part xs from n le = let l = length-drop from xs in length-take-le n (drop from xs) (omega arith)
+
+  pub part-same : (n m from to : ℕ) (xs ys : List X) → n ≡ m → from ≡ to → xs ≡ ys → take n (drop from xs) ≡ take m (drop to ys)
+  part-same n m from to xs ys e f c = ap (λ k. take k (drop from xs)) e ∙ (ap (λ k. take m (drop k xs)) f ∙ ap (λ zs. take m (drop to zs)) c)
+
+module _ {X Y : Type 0} (f : X → List Y) (m : ℕ) where
+  -- blocks of one length
+  pub length-same_blocks : (xs : List X) → All (λ x. length (f x) ≡ m) xs → length (flat_map f xs) ≡ length xs * m
+  length-same_blocks [] each = omega arith
+  length-same_blocks (x ∷ xs) each =
+      let e = All-head (λ y. length (f y) ≡ m) x xs each in
+      let h = length-same_blocks xs (All-tail (λ y. length (f y) ≡ m) x xs each) in
+      let s = length-append (f x) (flat_map f xs) in
+      omega arith
+
+  -- place r of block k
+  pub slice_get-same_blocks : (xs : List X) (k r : ℕ) (d : X) → All (λ x. length (f x) ≡ m) xs → k < length xs → r < m → slice_get (flat_map f xs) (k * m + r) ≡ slice_get (f (get_or xs k d)) r
+  slice_get-same_blocks [] k r d each lt below = absurd (omega arith)
+  slice_get-same_blocks (x ∷ xs) zero r d each lt below =
+      let e = All-head (λ y. length (f y) ≡ m) x xs each in
+      let there : 0 * m + r ≡ r = omega arith in
+      ap (slice_get (f x ++ flat_map f xs)) there ∙ slice_get-first (f x) (flat_map f xs) r (omega arith)
+  slice_get-same_blocks (x ∷ xs) (suc k) r d each lt below =
+      let e = All-head (λ y. length (f y) ≡ m) x xs each in
+      let there : suc k * m + r ≡ length (f x) + (k * m + r) = omega arith in
+      ap (slice_get (f x ++ flat_map f xs)) there
+      ∙ (slice_get-rest (f x) (flat_map f xs) (k * m + r) ∙ slice_get-same_blocks xs k r d (All-tail (λ y. length (f y) ≡ m) x xs each) (omega arith) below)
+
+-- blocks of several lengths, each a multiple of one number
+pub length-blocks : {X Y : Type 0} (f : X → List Y) (v : X → ℕ) (s : ℕ) (xs : List X) → All (λ x. length (f x) ≡ v x * s) xs → length (flat_map f xs) ≡ sum_by v xs * s
+length-blocks f v s [] each = omega arith
+length-blocks f v s (x ∷ xs) each =
+    let e = All-head (λ y. length (f y) ≡ v y * s) x xs each in
+    let h = length-blocks f v s xs (All-tail (λ y. length (f y) ≡ v y * s) x xs each) in
+    let c = ap (λ n. n * s) (sum_by-cons v x xs) in
+    let l = length-append (f x) (flat_map f xs) in
+    omega arith
+
+module _ {A : Type 0} where
+  -- ---- the blocks of a list of arrays
+
+  pub block-is : (a : ℕ) (is js ns : List ℕ) (g view : Grid A) (count : ℕ) (cells : List A) → cells ≡ take count (drop (rank view.lengths js) view.cells) → count ≡ size (drop a ns) → ns ≡ g.lengths → view ≡ g → js ≡ is → cells ≡ block_at a is g
+  block-is a is js ns g view count cells e many lengths seen index =
+      e
+      ∙ part-same count (size (drop a g.lengths)) (rank view.lengths js) (rank g.lengths is) view.cells g.cells (many ∙ ap (λ ms. size (drop a ms)) lengths)
+      (ap (λ h. rank h.lengths js) seen ∙ ap (rank g.lengths) index) (ap (λ h. h.cells) seen)
+
+  pub to-come : (a : ℕ) (is : List ℕ) (gs : List (Grid A)) (i : ℕ) (g : Grid A) (cells : List A) → i < length gs → g ≡ get_or gs i g → cells ≡ block_at a is g → blocks_at a is (drop i gs) ≡ cells ++ blocks_at a is (drop (i + 1) gs)
+  to-come a is gs i g cells lt here e =
+      let next : suc i ≡ i + 1 = omega arith in
+      ap (blocks_at a is) (drop-cons gs i g lt ∙ (ap (λ x. x ∷ drop (suc i) gs) (sym here) ∙ ap (λ n. g ∷ drop n gs) next))
+      ∙ ap (λ xs. xs ++ blocks_at a is (drop (i + 1) gs)) (sym e)
+
+  -- ---- an array that is filled with cells
+
+  pub pushed-one : (p : BuilderState A) (x : A) (xs : List A) → pushed_all (pushed_to p x) xs ≡ pushed_all p (x ∷ xs)
+  pushed-one p x xs = ap (λ ys. record { lengths = p.lengths; order = p.order; cells = ys }) (append_assoc p.cells (x ∷ []) xs)
+
+  pub pushed-more : (p : BuilderState A) (xs ys : List A) → pushed_all (pushed_all p xs) ys ≡ pushed_all p (xs ++ ys)
+  pushed-more p xs ys = ap (λ zs. record { lengths = p.lengths; order = p.order; cells = zs }) (append_assoc p.cells xs ys)
+
+  pub pushed-none : (p : BuilderState A) → pushed_all p [] ≡ p
+  pushed-none p = ap (λ zs. record { lengths = p.lengths; order = p.order; cells = zs }) (append-nil p.cells)
+
+  -- of two that end alike, as many cells are to come
+  pub pushed-length : (p q : BuilderState A) (xs ys : List A) → pushed_all p xs ≡ pushed_all q ys → length p.cells + length xs ≡ length q.cells + length ys
+  pushed-length p q xs ys e = sym (length-append p.cells xs) ∙ (ap (λ s. length s.cells) e ∙ length-append q.cells ys)

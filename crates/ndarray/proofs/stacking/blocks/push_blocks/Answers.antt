@@ -1,0 +1,45 @@
+use Rattle.std.proofs.Common.{◌≡◌, ◌∙◌, ◌+◌, ap, sym, arith, length, drop}
+use Rattle.std.proofs.lemmas.Bool.{false≢true}
+use Rattle.std.proofs.lemmas.List.{length-append}
+use Rattle.ndarray.specs.Index.{size}
+use Rattle.ndarray.specs.base.Builder.{pushed_all}
+use Rattle.ndarray.specs.stacking.Blocks.{blocks_at}
+use Rattle.ndarray.proofs.joining.Blocks.{block-is, pushed-length, pushed-more, to-come}
+use Rattle.ndarray.proofs.stacking.blocks.push_blocks.Goals as goal
+
+pub push_clones-requires-clause-room : goal.push_clones-requires-clause-room
+push_clones-requires-clause-room g c =
+    let block = block-is c.args.axis _ _ _ c.array-item.result _ _ c.starting_at-cells.result c.starting_at-cells.ensures c.block_len-count.ensures c.raw_dim.ensures.lengths c.again.ensures.same c.copied.ensures.value in
+    let come = to-come c.args.axis (g.D.Lengths.numbers c.args.index.now) c.args.arrays.now c.loop-array.array-index c.array-item.result c.starting_at-cells.result c.loop-array-test.true c.array-item.is block in
+    let i = c.loop-array.invariant in
+    let all : length c.loop-array.builder.cells + length (blocks_at c.args.axis (g.D.Lengths.numbers c.args.index.now) (drop c.loop-array.array-index c.args.arrays.now)) ≡ length c.args.builder.now.cells + length (blocks_at c.args.axis (g.D.Lengths.numbers c.args.index.now) c.args.arrays.now) = pushed-length _ _ _ _ i.pushed in
+    let one = ap length come ∙ length-append c.starting_at-cells.result _ in
+    let same : size c.loop-array.builder.lengths ≡ size c.args.builder.now.lengths = ap (λ p. size p.lengths) i.pushed in
+    let room = c.requires.room in
+    omega arith
+
+pub returns-in_err-push_clones-clause-none : goal.returns-in_err-push_clones-clause-none
+returns-in_err-push_clones-clause-none g c = λ none.
+    let block = block-is c.args.axis _ _ _ c.array-item.result _ _ c.starting_at-cells.result c.starting_at-cells.ensures c.block_len-count.ensures c.raw_dim.ensures.lengths c.again.ensures.same c.copied.ensures.value in
+    let come = to-come c.args.axis (g.D.Lengths.numbers c.args.index.now) c.args.arrays.now c.loop-array.array-index c.array-item.result c.starting_at-cells.result c.loop-array-test.true c.array-item.is block in
+    let i = c.loop-array.invariant in
+    let all : length c.loop-array.builder.cells + length (blocks_at c.args.axis (g.D.Lengths.numbers c.args.index.now) (drop c.loop-array.array-index c.args.arrays.now)) ≡ length c.args.builder.now.cells + length (blocks_at c.args.axis (g.D.Lengths.numbers c.args.index.now) c.args.arrays.now) = pushed-length _ _ _ _ i.pushed in
+    let one = ap length come ∙ length-append c.starting_at-cells.result _ in
+    let grown = i.grown in
+    absurd (false≢true (c.in_err-push_clones.ensures.none (omega arith)))
+
+pub loop-array-preserved : goal.loop-array-preserved
+loop-array-preserved g c =
+    let block = block-is c.args.axis _ _ _ c.array-item.result _ _ c.starting_at-cells.result c.starting_at-cells.ensures c.block_len-count.ensures c.raw_dim.ensures.lengths c.again.ensures.same c.copied.ensures.value in
+    let come = to-come c.args.axis (g.D.Lengths.numbers c.args.index.now) c.args.arrays.now c.loop-array.array-index c.array-item.result c.starting_at-cells.result c.loop-array-test.true c.array-item.is block in
+    let i = c.loop-array.invariant in
+    let p = c.loop-array.builder in
+    let pushed = c.in_ok-push_clones.ensures.pushed in
+    let more = ap (λ q. length q.cells) pushed in
+    let one = length-append p.cells c.starting_at-cells.result in
+    let grown = i.grown in
+    record {
+      pushed = ap (λ q. pushed_all q (blocks_at c.args.axis (g.D.Lengths.numbers c.args.index.now) (drop (c.loop-array.array-index + 1) c.args.arrays.now))) pushed
+          ∙ (pushed-more p c.starting_at-cells.result _ ∙ (ap (pushed_all p) (sym come) ∙ i.pushed));
+      grown = omega arith;
+    }

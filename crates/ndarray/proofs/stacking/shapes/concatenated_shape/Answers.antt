@@ -1,0 +1,42 @@
+use Rattle.std.proofs.Common.{◌≡◌, ◌<◌, ◌∙◌, Some, ap, sym, arith, length, set, true, refl}
+use Rattle.std.specs.Prelude.{slice_index, sum_by}
+use Rattle.std.specs.List.{list_all}
+use Rattle.ndarray.specs.Joining.{is_same_but_along, shapes_of}
+use Rattle.ndarray.specs.stacking.Blocks.{outer_lengths}
+use Rattle.ndarray.proofs.joining.Errors.{axes-below, concatenate-joins, concatenate-overflow, too-long}
+use Rattle.ndarray.proofs.stacking.shapes.concatenated_shape.Goals as goal
+
+pub total_len-requires : goal.total_len-requires
+total_len-requires g c =
+    let ns = c.in-Some.first.now.lengths in
+    let own = c.raw_dim-first.ensures.lengths in
+    let below : c.args.axis.0 < length ns = c.if-not-axis_ok.ensures.0 refl in
+    let same : list_all (is_same_but_along c.args.axis.0 ns) (shapes_of c.in-Some.others.now) ≡ true =
+    ap (λ ms. list_all (is_same_but_along c.args.axis.0 ms) (shapes_of c.in-Some.others.now)) (sym own) ∙ sym c.if-not-are_same_but_along.ensures.value in
+    axes-below c.args.axis.0 c.args.arrays.now c.in-Some.first.now c.in-Some.others.now c.in-Some.ensures.cases.0 below same
+
+pub returns-in_default-total_len : goal.returns-in_default-total_len
+returns-in_default-total_len g c =
+    let ns = c.in-Some.first.now.lengths in
+    let own = c.raw_dim-first.ensures.lengths in
+    let below : c.args.axis.0 < length ns = c.if-not-axis_ok.ensures.0 refl in
+    let same : list_all (is_same_but_along c.args.axis.0 ns) (shapes_of c.in-Some.others.now) ≡ true =
+    ap (λ ms. list_all (is_same_but_along c.args.axis.0 ms) (shapes_of c.in-Some.others.now)) (sym own) ∙ sym c.if-not-are_same_but_along.ensures.value in
+    let much = rw c.in_default-total_len.is at c.total_len.ensures in
+    concatenate-overflow c.args.axis.0 c.args.arrays.now c.in-Some.first.now c.in-Some.others.now c.in-Some.ensures.cases.0 below same
+    (too-long ns c.args.axis.0 _ below (omega (arith, much)))
+    ∙ ap (λ e. Some e.kind) (sym c.from_kind-in_default-total_len.ensures)
+
+pub returns : goal.returns
+returns g c =
+    let ns = c.in-Some.first.now.lengths in
+    let own = c.raw_dim-first.ensures.lengths in
+    let below : c.args.axis.0 < length ns = c.if-not-axis_ok.ensures.0 refl in
+    let same : list_all (is_same_but_along c.args.axis.0 ns) (shapes_of c.in-Some.others.now) ≡ true =
+    ap (λ ms. list_all (is_same_but_along c.args.axis.0 ms) (shapes_of c.in-Some.others.now)) (sym own) ∙ sym c.if-not-are_same_but_along.ensures.value in
+    let total = sum_by (λ ms. slice_index ms c.args.axis.0) (shapes_of c.args.arrays.now) in
+    let lengths : g.D.Lengths.numbers c.set_axis.new.self ≡ set ns c.args.axis.0 total =
+    c.set_axis.ensures ∙ (ap (λ l. set l c.args.axis.0 c.in-Some-total_len.len) (c.copied-dim.ensures.value ∙ own) ∙ ap (set ns c.args.axis.0) c.in-Some-total_len.ensures) in
+    concatenate-joins c.args.axis.0 c.args.arrays.now c.in-Some.first.now c.in-Some.others.now c.in-Some.ensures.cases.0 below same _ _
+    (c.outer_dim-outer.ensures ∙ ap (outer_lengths c.args.axis.0) own)
+    lengths (c.if-not-size_ok.ensures.0 refl) c.raw_dim-first.ensures.limit c.raw_dim-first.ensures.whole (c.if-not-are_same_but_along.ensures.whole refl)

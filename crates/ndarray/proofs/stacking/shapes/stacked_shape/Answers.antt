@@ -1,0 +1,51 @@
+use Rattle.std.proofs.Common.{◌≡◌, ◌<◌, ◌≤◌, ◌∙◌, Some, ap, sym, subst, arith, length, insert, set, true, refl}
+use Rattle.std.specs.List.{list_all}
+use Rattle.std.proofs.lemmas.Bool.{false≢true}
+use Rattle.ndarray.specs.Grid.{same_index}
+use Rattle.ndarray.specs.Joining.{shapes_of}
+use Rattle.ndarray.specs.Limits.{IsWithinLimit}
+use Rattle.ndarray.specs.stacking.Blocks.{outer_lengths}
+use Rattle.ndarray.proofs.joining.Errors.{set-inserted, stack-joins, stack-overflow}
+use Rattle.ndarray.proofs.stacking.shapes.stacked_shape.Goals as goal
+
+pub returns-then-not-size_ok : goal.returns-then-not-size_ok
+returns-then-not-size_ok g c =
+    let ns = c.in-Some.first.now.lengths in
+    let n = length c.args.arrays.now in
+    let own = c.raw_dim-first.ensures.lengths in
+    let e = ap length own in
+    let axis = c.if-axis-ndim.false in
+    let axes = c.ndim.ensures.value in
+    let most : c.args.axis.0 ≤ length ns = omega arith in
+    let below = c.if-ndim-ge32.false in
+    let axes_again = c.ndim-2.ensures.value in
+    let few : length ns < 32 = omega arith in
+    let same : list_all (same_index ns) (shapes_of c.in-Some.others.now) ≡ true = ap (λ ms. list_all (same_index ms) (shapes_of c.in-Some.others.now)) (sym own) ∙ sym c.if-not-are_same.ensures.value in
+    let lengths : g.D.Larger.Lengths.numbers c.set_axis.new.self ≡ insert ns c.args.axis.0 n =
+    c.set_axis.ensures
+    ∙ (ap (λ l. set l c.args.axis.0 n) (c.insert_axis-dim.ensures ∙ ap (λ ms. insert ms c.args.axis.0 1) own)
+    ∙ set-inserted ns c.args.axis.0 1 n most) in
+    stack-overflow c.args.axis.0 c.args.arrays.now c.in-Some.first.now c.in-Some.others.now c.in-Some.ensures.cases.0 most same few
+    (λ limit. false≢true (c.if-not-size_ok.ensures.1 (subst IsWithinLimit (sym lengths) limit)))
+    ∙ ap (λ e. Some e.kind) (sym c.from_kind-then-not-size_ok.ensures)
+
+pub returns : goal.returns
+returns g c =
+    let ns = c.in-Some.first.now.lengths in
+    let n = length c.args.arrays.now in
+    let own = c.raw_dim-first.ensures.lengths in
+    let e = ap length own in
+    let axis = c.if-axis-ndim.false in
+    let axes = c.ndim.ensures.value in
+    let most : c.args.axis.0 ≤ length ns = omega arith in
+    let below = c.if-ndim-ge32.false in
+    let axes_again = c.ndim-2.ensures.value in
+    let few : length ns < 32 = omega arith in
+    let same : list_all (same_index ns) (shapes_of c.in-Some.others.now) ≡ true = ap (λ ms. list_all (same_index ms) (shapes_of c.in-Some.others.now)) (sym own) ∙ sym c.if-not-are_same.ensures.value in
+    let lengths : g.D.Larger.Lengths.numbers c.set_axis.new.self ≡ insert ns c.args.axis.0 n =
+    c.set_axis.ensures
+    ∙ (ap (λ l. set l c.args.axis.0 n) (c.insert_axis-dim.ensures ∙ ap (λ ms. insert ms c.args.axis.0 1) own)
+    ∙ set-inserted ns c.args.axis.0 1 n most) in
+    stack-joins c.args.axis.0 c.args.arrays.now c.in-Some.first.now c.in-Some.others.now c.in-Some.ensures.cases.0 most same few _ _
+    (c.outer_dim-outer.ensures ∙ ap (outer_lengths c.args.axis.0) own)
+    lengths (c.if-not-size_ok.ensures.0 refl) c.raw_dim-first.ensures.limit c.raw_dim-first.ensures.whole (c.if-not-are_same.ensures.whole refl)

@@ -1,0 +1,2 @@
+-- What only `stacking` speaks of.
+pub mod Blocks

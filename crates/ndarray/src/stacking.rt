@@ -1,0 +1,86 @@
+//! Arrays joined along an axis, or stacked along a new one.
+
+ghost use Rattle.std.specs.Prelude.{◌≡◌, ◌↔◌, length, Err, IfOk, IsOk, None, Some};
+ghost use Rattle.ndarray.specs.Elementwise.{ClonesAreEqual};
+ghost use Rattle.ndarray.specs.Errors.{refusal};
+ghost use Rattle.ndarray.specs.Grid.{IsGrid};
+ghost use Rattle.ndarray.specs.Index.{size};
+ghost use Rattle.ndarray.specs.Joining.{concatenate_error, concatenated, concatenated_lengths, shapes_of, stack_error, stacked, stacked_lengths};
+ghost use Rattle.ndarray.specs.declared.base.error.ErrorKind.{ErrorKind};
+ghost use Rattle.ndarray.specs.declared.stacking.error.StackError.TheVariants.{Shape, Memory};
+
+mod blocks;
+mod error;
+mod macros;
+mod shapes;
+
+use crate::base::array::{Array, ArrayView};
+use crate::base::axis::Axis;
+use crate::base::dimension::{Dimension, RemoveAxis};
+use crate::stacking::blocks::joined_blocks;
+pub use crate::stacking::error::StackError;
+use crate::stacking::shapes::{concatenated_shape, stacked_shape};
+use std::alloc::{AllocError, Global};
+
+/// The array of clones of the cells of several arrays, one after another along an axis.
+///
+/// The error is, as the first that holds: `Unsupported` without arrays; `OutOfBounds` for an axis that the first array
+/// does not have; `IncompatibleShape` where an array has another number of axes than the first one, or another length
+/// on an axis that is not the joined one; `Overflow` where the nonzero lengths of the result multiply to more than
+/// `isize::MAX`. Where none of these holds it is allocation failure, for the array or for a clone. Requires that a
+/// clone that is made equals its source.
+///
+/// ```
+/// let a = ArrayView::from_shape((2, 2), &[1, 2, 3, 4])?;
+/// let b = ArrayView::from_shape((2, 1), &[5, 6])?;
+/// concatenate(alloc, Axis(1), &[a, b])?; // [[1, 2, 5], [3, 4, 6]]
+/// ```
+pub fn concatenate<A: Clone + Drop, D: RemoveAxis>(
+    alloc: Global,
+    axis: Axis,
+    arrays: &[ArrayView<'_, A, D>],
+) -> Result<Array<A, D>, StackError>
+    requires clones { ClonesAreEqual A.is_clone }
+    ensures refused { (k : ErrorKind) → (result ≡ Err (Shape (refusal k))) ↔ (concatenate_error axis.0 (shapes_of arrays.now) ≡ Some k) }
+    ensures memory { (e : AllocError) → result ≡ Err (Memory e) → concatenate_error axis.0 (shapes_of arrays.now) ≡ None }
+    ensures cells { IfOk result (λ r. r ≡ concatenated axis.0 arrays.now) }
+    ensures whole { IfOk result IsGrid }
+    ensures axes { IfOk result (λ r. D.has_axes (length r.lengths)) }
+    ensures empty { concatenate_error axis.0 (shapes_of arrays.now) ≡ None → size (concatenated_lengths axis.0 (shapes_of arrays.now)) ≡ 0 → IsOk result }
+{
+    let shape = concatenated_shape(axis, arrays)?;
+    let joined = joined_blocks(alloc, axis.0, arrays, shape)?;
+    Ok(joined)
+}
+
+/// The array of clones of the cells of several arrays along a new axis, whose index names the array.
+///
+/// The error is, as the first that holds: `Unsupported` without arrays; `OutOfBounds` for an axis above the number of
+/// axes of the first array; `IncompatibleShape` where shapes are unequal; `RangeLimited` where the result would have more
+/// than 32 axes; `Overflow` where its nonzero lengths multiply to more than `isize::MAX`. Where none of these holds it is
+/// allocation failure, for the array or for a clone. Requires that a clone that is made equals its source.
+///
+/// ```
+/// let a = ArrayView::from_shape(2, &[1, 2])?;
+/// let b = ArrayView::from_shape(2, &[3, 4])?;
+/// stack(alloc, Axis(1), &[a, b])?; // [[1, 3], [2, 4]]
+/// ```
+pub fn stack<A: Clone + Drop, D: Dimension>(
+    alloc: Global,
+    axis: Axis,
+    arrays: &[ArrayView<'_, A, D>],
+) -> Result<Array<A, D::Larger>, StackError>
+where
+    D::Larger: RemoveAxis,
+    requires clones { ClonesAreEqual A.is_clone }
+    ensures refused { (k : ErrorKind) → (result ≡ Err (Shape (refusal k))) ↔ (stack_error axis.0 (shapes_of arrays.now) ≡ Some k) }
+    ensures memory { (e : AllocError) → result ≡ Err (Memory e) → stack_error axis.0 (shapes_of arrays.now) ≡ None }
+    ensures cells { IfOk result (λ r. r ≡ stacked axis.0 arrays.now) }
+    ensures whole { IfOk result IsGrid }
+    ensures axes { IfOk result (λ r. D.Larger.has_axes (length r.lengths)) }
+    ensures empty { stack_error axis.0 (shapes_of arrays.now) ≡ None → size (stacked_lengths axis.0 (shapes_of arrays.now)) ≡ 0 → IsOk result }
+{
+    let shape = stacked_shape(axis, arrays)?;
+    let joined = joined_blocks(alloc, axis.0, arrays, shape)?;
+    Ok(joined)
+}

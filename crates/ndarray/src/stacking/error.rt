@@ -1,0 +1,44 @@
+//! Why arrays are not joined.
+
+ghost use Rattle.std.specs.Prelude.{◌≡◌};
+ghost use Rattle.ndarray.specs.declared.stacking.error.StackError.TheVariants.{Shape, Memory};
+
+use crate::base::error::ShapeError;
+use std::alloc::AllocError;
+use std::{error, fmt};
+
+/// Why arrays are not joined: their shapes, or allocation failure.
+#[derive(Clone, Copy, PartialEq, Eq, Debug)]
+pub enum StackError {
+    /// What is wrong with the axis or the shapes.
+    Shape(ShapeError),
+    /// The array, or the clone of a cell, was not allocated.
+    Memory(AllocError),
+}
+
+impl From<ShapeError> for StackError {
+    ghost from_gives = { λ x y. y ≡ Shape x };
+
+    fn from(error: ShapeError) -> StackError {
+        StackError::Shape(error)
+    }
+}
+
+impl From<AllocError> for StackError {
+    ghost from_gives = { λ x y. y ≡ Memory x };
+
+    fn from(error: AllocError) -> StackError {
+        StackError::Memory(error)
+    }
+}
+
+impl fmt::Display for StackError {
+    fn fmt<W: fmt::Write>(&self, f: &mut fmt::Formatter<W>) -> fmt::Result {
+        match *self {
+            StackError::Shape(error) => write!(f, "{error}"),
+            StackError::Memory(error) => write!(f, "{error}"),
+        }
+    }
+}
+
+impl error::Error for StackError {}
