@@ -2,6 +2,7 @@
 pub mod Answers
 pub mod Collecting
 pub mod OneAxisProducers
+pub mod OverwrittenParts
 pub mod Parts
 pub mod Producers
 pub mod Refinement

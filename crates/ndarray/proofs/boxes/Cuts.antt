@@ -4,7 +4,7 @@ use Rattle.std.specs.Prelude.{flat_map}
 use Rattle.std.specs.List.{range_with_len}
 use Rattle.std.proofs.lemmas.Bool.{cases_eq}
 use Rattle.std.proofs.lemmas.Grind.{get_or-set_at}
-use Rattle.std.proofs.lemmas.List.{append-nil, append_assoc, map-append, length-reverse, length-set, get_or-reverse, get_or-set_other, reverse-reverse, set-get_or, ext_get_or}
+use Rattle.std.proofs.lemmas.List.{append-nil, append_assoc, map-append, length-reverse, length-set, get_or-reverse, get_or-set_other, set-get_or, ext_get_or}
 use Rattle.std.proofs.lemmas.List.Sums.{sum_by-cons}
 use Rattle.std.proofs.lemmas.Simd.{map-map}
 use Rattle.ndarray.specs.Index.{InBox, row_order, column_order}

@@ -1,5 +1,5 @@
 -- Turns over one part of some places, seen as turns over all of them.
-use Rattle.std.proofs.Common.{◌≡◌, ◌⊎◌, ℕ, ◌+◌, ◌-◌, ◌<◌, ◌≤◌, List, [], ◌∷◌, ◌++◌, length, map, get_or, set, sum, Result, Ok, Err, MatchResult, refl, sym, subst, ◌∙◌, ap, arith, inl, inr}
+use Rattle.std.proofs.Common.{◌≡◌, ℕ, ◌-◌, ◌<◌, List, [], ◌∷◌, ◌++◌, map, get_or, set, sum, Result, Ok, Err, MatchResult, refl, sym, subst, ◌∙◌, ap, arith, inl, inr}
 use Rattle.std.specs.List.{FoldsTo, AllByRecursion}
 use Rattle.std.proofs.lemmas.List.{append_assoc, append-nil, map-append}
 use Rattle.ndarray.specs.Index.{InBox}
@@ -83,7 +83,7 @@ module _ {P A : Type 0} (goes : P → A → P → Type 0) (o : Order) {ns ks ms 
   first-lengths : ms ≡ set ks axis index
   first-lengths = let none : index - 0 ≡ index = omega arith in low.lengths ∙ ap (set ks axis) none
 
-  boxes : map (counted_from axis 0) (box_in o ms) ++ map (counted_from axis index) (box_in o ls) ≡ box_in o ns
+  pub boxes : map (counted_from axis 0) (box_in o ms) ++ map (counted_from axis index) (box_in o ls) ≡ box_in o ns
   boxes =
       let le = cut.whole in
       let c = box_in-cut o ks axis index cut.slowest (omega arith) in

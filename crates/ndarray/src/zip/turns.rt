@@ -33,8 +33,8 @@ pub(crate) trait Turn<X>: Drop + Sized {
 /// What has taken all items of a producer, and whether these lay side by side, all or in parts.
 #[derive(Drop)]
 pub(crate) struct Taken<T> {
-    turn: T,
-    flat: bool,
+    pub(crate) turn: T,
+    pub(crate) flat: bool,
 }
 
 /// Has all items of a producer taken in an order, one after another.
@@ -95,7 +95,7 @@ pub(crate) fn flat_unless<P: NdProducer>(p: P, order: Order, apart: bool) -> Res
 }
 
 /// What has taken the items of a run, which are flat or not.
-fn note_flat<T, E>(ran: Result<T, E>, flat: bool) -> Result<Taken<T>, E>
+pub(crate) fn note_flat<T, E>(ran: Result<T, E>, flat: bool) -> Result<Taken<T>, E>
     ensures { MatchResult result (λ taken. ran ≡ Ok taken.turn) (λ stop. ran ≡ Err stop) }
 {
     match ran {
