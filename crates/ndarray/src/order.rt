@@ -63,6 +63,7 @@ pub(crate) struct Cut {
 /// The cut of a box in two halves that come one after the other in the order: at the middle of the slowest axis that is
 /// longer than 1. There is none where each index of that axis has but a few index lists, since a step of a walk
 /// costs less than a cut.
+#[inline(always)]
 pub(crate) fn middle_of<D: Lengths>(order: Order, dim: &D) -> Option<Cut>
     requires { IsWithinLimit (D.numbers dim.now) }
     ensures { IfSome result (λ cut. IsCut order (D.numbers dim.now) cut.axis.0 cut.index cut.rest) }
@@ -72,7 +73,7 @@ pub(crate) fn middle_of<D: Lengths>(order: Order, dim: &D) -> Option<Cut>
         let axis = axis_at(order, ndim, ndim - 1 - turn);
         let len = dim.axis(axis);
         if len > 1 {
-            if dim.size() / len < 16 {
+            if dim.size() < len.saturating_mul(16) {
                 return None;
             }
             let index = len / 2;

@@ -87,6 +87,7 @@ fn take_parts<P: NdProducer, T: Turn<P::Item>>(
 }
 
 /// The flat form, where the items lie side by side in the order and the producer is not known to be `apart`.
+#[inline(always)]
 pub(crate) fn flat_unless<P: NdProducer>(p: P, order: Order, apart: bool) -> Result<P::Flat, P>
     ensures flat { IfOk result (λ flat. P.flat_form p order flat) }
     ensures back { IfErr result (λ q. IsRefinedBy (P.lengths p) (P.yields_at p) (P.lengths q) (P.yields_at q)) }
@@ -95,6 +96,7 @@ pub(crate) fn flat_unless<P: NdProducer>(p: P, order: Order, apart: bool) -> Res
 }
 
 /// What has taken the items of a run, which are flat or not.
+#[inline(always)]
 pub(crate) fn note_flat<T, E>(ran: Result<T, E>, flat: bool) -> Result<Taken<T>, E>
     ensures { MatchResult result (λ taken. ran ≡ Ok taken.turn) (λ stop. ran ≡ Err stop) }
 {
