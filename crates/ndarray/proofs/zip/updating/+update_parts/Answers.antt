@@ -1,9 +1,8 @@
-use Rattle.std.proofs.Common.{◌≡◌, ◌∙◌, ◌++◌, ℕ, List, Option, arith, ap, sym, subst, length, map, take, drop, Some, Ok, Err, Result}
+use Rattle.std.proofs.Common.{◌≡◌, ◌∙◌, ◌++◌, ℕ, List, Option, arith, ap, sym, subst, length, map, take, drop, Some, Ok, Err}
 use Rattle.std.proofs.lemmas.List.{length-take-le}
 use Rattle.ndarray.specs.Index.{size}
 use Rattle.ndarray.specs.Orders.{box_in}
-use Rattle.ndarray.specs.Runs.{MayGather}
-use Rattle.ndarray.specs.Updates.{answers, is_beside, OverwritesTo}
+use Rattle.ndarray.specs.Updates.{is_beside, OverwritesTo}
 use Rattle.ndarray.specs.order.Cuts.{IsCut, counted_from}
 use Rattle.ndarray.proofs.runs.OverwrittenParts.{fits-first, along-first, along-rest, may-overwrite-first, may-overwrite-rest, first-refused, rest-overwrote}
 use Rattle.ndarray.proofs.runs.Parts.{first-smaller, rest-smaller, noted, follows-noted}
