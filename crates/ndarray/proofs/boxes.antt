@@ -1,5 +1,6 @@
 -- Shapes and their boxes of index lists, and the orders in which these come.
 pub mod Boxes
+pub mod Cuts
 pub mod Orders
 pub mod ShiftedBoxes
 pub mod Sizes

@@ -1,6 +1,9 @@
 -- Runs of closures over the items of producers.
 pub mod Answers
+pub mod Collecting
 pub mod OneAxisProducers
+pub mod OverwrittenParts
+pub mod Parts
 pub mod Producers
 pub mod Refinement
 pub mod RunsThrough

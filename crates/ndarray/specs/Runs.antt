@@ -1,5 +1,5 @@
 -- Runs of a closure over the items of producers: chains of calls, one for each index list in turn.
-use Rattle.std.specs.Prelude.{◌≡◌, ◌⊎◌, ℕ, List, [], ◌∷◌, ◌++◌, Bool}
+use Rattle.std.specs.Prelude.{◌≡◌, ◌⊎◌, ℕ, List, [], ◌∷◌, ◌++◌, Bool, Result, Ok, Err}
 use Rattle.std.specs.List.{FoldsTo}
 use Rattle.ndarray.specs.Grid.{Grid}
 use Rattle.ndarray.specs.Orders.{box_in, cells_in, HasInOrder}
@@ -23,10 +23,18 @@ module _ {P A : Type 0} (yields_at : List ℕ → A → Type 0) where
   abbrev pub TakesAt : (P → A → Type 0) → P → List ℕ → Type 0
   TakesAt takes p i = (x : A) → yields_at i x → takes p x
 
+  -- a turn at an item of i stops with e
+  abbrev pub StopsAt : {E : Type 0} → (P → A → E → Type 0) → P → List ℕ → E → Type 0
+  StopsAt stops p i e = (x : A) × yields_at i x × stops p x e
+
 -- Turns that go on led from p to some q. Then the places were at their end and `ended` holds of q, or the turn at the next one stopped.
 abbrev pub RunsUntil : {P X : Type 0} → (P → X → P → Type 0) → (P → X → Type 0) → (P → Type 0) → P → List X → Type 0
 RunsUntil {P} {X} goes stops ended p is = (done : List X) × (q : P) × FoldsTo goes p done q
     × (((done ≡ is) × ended q) ⊎ ((i : X) × (rest : List X) × (done ++ (i ∷ rest) ≡ is) × stops q i))
+
+-- the turns led from p up to the end, and r has the state there, or up to a turn that stopped, and r has what it stopped with
+abbrev pub EndsOrStops : {P X E : Type 0} → (P → X → P → Type 0) → (P → X → E → Type 0) → P → List X → Result P E → Type 0
+EndsOrStops {E = E} goes stops p is r = RunsUntil goes (λ q i. (e : E) × (r ≡ Err e) × stops q i e) (λ q. r ≡ Ok q) p is
 
 -- a call that takes the total from p.1 to q.1
 abbrev pub FoldTurn : {F A B : Type 0} → (F → B → A → B → F → Type 0) → F × B → A → F × B → Type 0

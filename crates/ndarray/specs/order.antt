@@ -1,2 +1,3 @@
 -- What only `order` speaks of.
+pub mod Cuts
 pub mod Ranks

@@ -6,8 +6,10 @@ ghost use Rattle.std.specs.Iterator.SizeHint.{IsExactHint, IsWithinCount};
 ghost use Rattle.ndarray.specs.Index.{InBox, size, IsRowOrder};
 ghost use Rattle.ndarray.specs.Limits.{IsWithinLimit};
 ghost use Rattle.ndarray.specs.Orders.{box_in, IsBoxIn};
+ghost use Rattle.ndarray.specs.order.Cuts.{IsCut};
 ghost use Rattle.ndarray.specs.order.Ranks.{rank_in, axis_in, walk_rest, TakesRow, WalkStands};
 
+use crate::base::axis::Axis;
 use crate::base::dimension::{Dim, Ix1, Lengths};
 use crate::base::layout::{Layout, default_strides};
 pub use crate::base::shape::Order;
@@ -48,6 +50,41 @@ pub(crate) fn axis_at(order: Order, ndim: usize, p: usize) -> usize
         Order::RowMajor => ndim - 1 - p,
         Order::ColumnMajor => p,
     }
+}
+
+/// Where a box is cut in two: at an index of an axis.
+#[derive(Clone, Copy)]
+pub(crate) struct Cut {
+    pub(crate) axis: Axis,
+    pub(crate) index: usize,
+    pub(crate) rest: usize,
+}
+
+/// The cut of a box in two halves that come one after the other in the order: at the middle of the slowest axis that is
+/// longer than 1. There is none where each index of that axis has but a few index lists, since a step of a walk
+/// costs less than a cut.
+#[inline(always)]
+pub(crate) fn middle_of<D: Lengths>(order: Order, dim: &D) -> Option<Cut>
+    requires { IsWithinLimit (D.numbers dim.now) }
+    ensures { IfSome result (λ cut. IsCut order (D.numbers dim.now) cut.axis.0 cut.index cut.rest) }
+{
+    let ndim = dim.ndim();
+    for turn in 0..ndim {
+        let axis = axis_at(order, ndim, ndim - 1 - turn);
+        let len = dim.axis(axis);
+        if len > 1 {
+            if dim.size() < len.saturating_mul(16) {
+                return None;
+            }
+            let index = len / 2;
+            return Some(Cut {
+                axis: Axis(axis),
+                index,
+                rest: len - index,
+            });
+        }
+    }
+    None
 }
 
 /// How many index lists make a row, of those that are left on an axis. Where the axis is short it is one, since

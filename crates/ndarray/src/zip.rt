@@ -17,6 +17,7 @@ mod joining;
 pub mod pair;
 pub mod producer;
 mod subviews;
+mod turns;
 pub(crate) mod units;
 pub(crate) mod updating;
 mod views;

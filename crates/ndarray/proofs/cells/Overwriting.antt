@@ -3,9 +3,7 @@ use Rattle.std.proofs.Common.{◌≡◌, ℕ, ◌+◌, ◌≤◌, ◌<◌, List,
 use Rattle.std.specs.Prelude.{slice_get}
 use Rattle.std.proofs.lemmas.List.{length-drop, length-map, drop-drop, drop-set-lt, get_or-drop}
 use Rattle.std.proofs.lemmas.Option.{slice_get-get_or, slice_get_past}
-use Rattle.ndarray.specs.Grid.{Grid, cell}
 use Rattle.ndarray.specs.Producers.{YieldsInTurn, YieldsInTurnFrom}
-use Rattle.ndarray.specs.Updates.{is_cell}
 
 module _ {A : Type 0} (xs : List A) where
   -- from the place k on, the element there comes next
@@ -23,35 +21,35 @@ module _ {A : Type 0} (xs : List A) where
   past : (k : ℕ) → drop k xs ≡ [] → slice_get xs k ≡ None
   past k e = let l = length-drop k xs in let n : length (drop k xs) ≡ 0 = ap (length {A = A}) e in slice_get_past xs k (omega arith)
 
-  module _ (g : Grid A) where
-    from : (is : List (List ℕ)) (k : ℕ) (zs : List A) → drop k xs ≡ zs → map (cell g) is ≡ map Some zs → YieldsInTurnFrom element_step (is_cell g) k is
+  module _ (at : List ℕ → Option A) where
+    from : (is : List (List ℕ)) (k : ℕ) (zs : List A) → drop k xs ≡ zs → map at is ≡ map Some zs → YieldsInTurnFrom element_step (λ i x. at i ≡ Some x) k is
     from [] k [] e m = λ x j s. (let f = past k e in let h = s.0 in cc)
     from [] k (z ∷ zs) e m = cc
     from (i ∷ is) k [] e m = cc
     from (i ∷ is) k (z ∷ zs) e m = (
       (λ j s. let l = length-drop k xs in let n : length (drop k xs) ≡ length (z ∷ zs) = ap (length {A = A}) e in omega arith),
       (λ x j s.
-          let here : cell g i ≡ Some z = cc in
-          let later : map (cell g) is ≡ map Some zs = cc in
+          let here : at i ≡ Some z = cc in
+          let later : map at is ≡ map Some zs = cc in
           let same : Some x ≡ Some z = sym s.0 ∙ first-of k z zs e in
-          (here ∙ sym same, subst (λ l. YieldsInTurnFrom element_step (is_cell g) l is) (sym s.1) (from is (k + 1) zs (sym (drop-drop 1 k xs) ∙ ap (drop 1) e) later))),
+          (here ∙ sym same, subst (λ l. YieldsInTurnFrom element_step (λ i x. at i ≡ Some x) l is) (sym s.1) (from is (k + 1) zs (sym (drop-drop 1 k xs) ∙ ap (drop 1) e) later))),
     )
 
     -- the cells along the index lists, one after another
-    pub YieldsInTurn-elements : {is : List (List ℕ)} → map (cell g) is ≡ map Some xs → YieldsInTurn element_step (is_cell g) 0 is
+    pub YieldsInTurn-elements : {is : List (List ℕ)} → map at is ≡ map Some xs → YieldsInTurn element_step (λ i x. at i ≡ Some x) 0 is
     YieldsInTurn-elements {is} m = record { from = from is 0 xs refl m }
 
     -- which are as many
-    pub length-elements : (is : List (List ℕ)) → map (cell g) is ≡ map Some xs → length is ≡ length xs
-    length-elements is m = sym (length-map is (cell g)) ∙ (ap (length {A = Option A}) m ∙ length-map xs (λ x. Some x))
+    pub length-elements : (is : List (List ℕ)) → map at is ≡ map Some xs → length is ≡ length xs
+    length-elements is m = sym (length-map is at) ∙ (ap (length {A = Option A}) m ∙ length-map xs (λ x. Some x))
 
   module _ (ys : List A) (k : ℕ) (same : drop k ys ≡ drop k xs) where
     -- the element at k is not yet overwritten
     pub element_at : (x : A) → k < length xs → element_step k (Some (get_or ys k x)) (k + 1)
     element_at x lt =
         let zero : k ≡ k + 0 = omega arith in
-        let at : (zs : List A) → get_or zs k x ≡ get_or (drop k zs) 0 x = λ zs. ap (λ j. get_or zs j x) zero ∙ sym (get_or-drop k zs 0 x) in
-        (slice_get-get_or xs k x lt ∙ ap (λ z. Some z) (at xs ∙ (ap (λ l. get_or l 0 x) (sym same) ∙ sym (at ys))), refl)
+        let here : (zs : List A) → get_or zs k x ≡ get_or (drop k zs) 0 x = λ zs. ap (λ j. get_or zs j x) zero ∙ sym (get_or-drop k zs 0 x) in
+        (slice_get-get_or xs k x lt ∙ ap (λ z. Some z) (here xs ∙ (ap (λ l. get_or l 0 x) (sym same) ∙ sym (here ys))), refl)
 
     -- and those behind it stay as they are
     pub rest_kept : (r : A) → drop (k + 1) (set ys k r) ≡ drop (k + 1) xs
@@ -71,6 +69,6 @@ module _ {S X : Type 0} (next : S → Option X → S → Type 0) (yields_at : Li
           (omega arith, subst (λ l. YieldsInTurn next yields_at u l) (sym behind) (record { from = (v.1 x u st).1 }))
 
 -- and so an element is
-pub element_left : {S X A : Type 0} (next : S → Option X → S → Type 0) (yields_at : List ℕ → X → Type 0) (is : List (List ℕ)) (k : ℕ) {t u : S} {x : X} (xs : List A) (g : Grid A)
-    → YieldsInTurn next yields_at t (drop k is) → next t (Some x) u → map (cell g) is ≡ map Some xs → k < length xs
-element_left next yields_at is k xs g w st m = let room = (item_came next yields_at is k w st).0 in let many = length-elements xs g is m in omega arith
+pub element_left : {S X A : Type 0} (next : S → Option X → S → Type 0) (yields_at : List ℕ → X → Type 0) (is : List (List ℕ)) (k : ℕ) {t u : S} {x : X} (xs : List A) (at : List ℕ → Option A)
+    → YieldsInTurn next yields_at t (drop k is) → next t (Some x) u → map at is ≡ map Some xs → k < length xs
+element_left next yields_at is k xs at w st m = let room = (item_came next yields_at is k w st).0 in let many = length-elements xs at is m in omega arith

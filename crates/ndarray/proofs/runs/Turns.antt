@@ -1,11 +1,11 @@
 -- Turns over the items that a run gives, seen as turns over the index lists at which they stand.
-use Rattle.std.proofs.Common.{◌≡◌, ℕ, List, [], ◌∷◌, ◌++◌, Option, Some, None, refl, sym, subst, ◌∙◌, append-nil, inl, inr, append_assoc}
+use Rattle.std.proofs.Common.{◌≡◌, ℕ, List, [], ◌∷◌, ◌++◌, Option, Some, None, Ok, Err, refl, sym, subst, ◌∙◌, append-nil, inl, inr, append_assoc}
 use Rattle.std.proofs.lemmas.Fn.{FoldsTo-push}
 use Rattle.std.specs.List.{FoldsTo}
 use Rattle.ndarray.specs.Orders.{box_in}
 use Rattle.ndarray.specs.Producers.{YieldsInTurn, YieldsInTurnFrom, IsRefinedBy}
 use Rattle.ndarray.specs.declared.base.shape.Order.{Order}
-use Rattle.ndarray.specs.Runs.{RunsUntil, MayTurnAt, TurnAt, TakesAt}
+use Rattle.ndarray.specs.Runs.{RunsUntil, MayTurnAt, TurnAt, TakesAt, StopsAt, EndsOrStops}
 
 module _ {S A P : Type 0} (next : S → Option A → S → Type 0) (yields_at : List ℕ → A → Type 0) (turn : P → A → P → Type 0) where
   -- turns at the items so far led from p to q, and t gives those of the other index lists
@@ -67,6 +67,14 @@ module _ {S A P : Type 0} (next : S → Option A → S → Type 0) (yields_at : 
   pub stopped_at : {is : List (List ℕ)} {t u : S} {p q : P} {x : A} (Stop : P → A → Type 0) (ended : P → Type 0) → Reached is t p q → next t (Some x) u → Stop q x
       → RunsUntil (TurnAt yields_at turn) (λ r i. (y : A) × yields_at i y × Stop r y) ended p is
   stopped_at {q = q} {x = x} Stop ended b st h = let k = found b st in (k.done, q, k.turns, inr (k.place, k.rest, k.parts, (x, k.stands, h)))
+
+  -- the same of turns that stop with a value
+  module _ {E : Type 0} (stops : P → A → E → Type 0) where
+    pub ends_at : {is : List (List ℕ)} {t u : S} {p q : P} → Reached is t p q → next t None u → EndsOrStops (TurnAt yields_at turn) (StopsAt yields_at stops) p is (Ok q)
+    ends_at {is} {q = q} b st = (is, q, at_end b st, inl (refl, refl))
+
+    pub stops_at : {is : List (List ℕ)} {t u : S} {p q : P} {x : A} (e : E) → Reached is t p q → next t (Some x) u → stops q x e → EndsOrStops (TurnAt yields_at turn) (StopsAt yields_at stops) p is (Err e)
+    stops_at {q = q} {x = x} e b st h = let k = found b st in (k.done, q, k.turns, inr (k.place, k.rest, k.parts, (e, refl, (x, k.stands, h))))
 
 -- what a run of a producer gives at index lists, one that shows no less gives
 gives_as : {S A : Type 0} (next : S → Option A → S → Type 0) (yields_at other_yields_at : List ℕ → A → Type 0) → ((i : List ℕ) (x : A) → other_yields_at i x → yields_at i x)

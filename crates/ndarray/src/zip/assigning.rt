@@ -1,11 +1,9 @@
 //! Arrays whose cells become what a closure answers at the items of a producer.
 
-ghost use Rattle.std.specs.Prelude.{◌≡◌, length};
-ghost use Rattle.ndarray.specs.Grid.{IsGrid};
-ghost use Rattle.ndarray.specs.Orders.{box_in};
-ghost use Rattle.ndarray.specs.Index.{size};
+ghost use Rattle.std.specs.Prelude.{◌≡◌, MatchResult};
+ghost use Rattle.ndarray.specs.Grid.{Grid, IsGrid};
+ghost use Rattle.ndarray.specs.Orders.{box_in, HasInOrder};
 ghost use Rattle.ndarray.specs.Runs.{MayGather, Gathers, Collects};
-ghost use Rattle.ndarray.specs.declared.base.shape.Order.{Order};
 
 use crate::base::array::ArrayBase;
 use crate::base::dimension::Lengths;
@@ -14,7 +12,8 @@ use crate::order::{Order, Walk};
 use crate::zip::calls::ItemCall;
 use crate::zip::pair::PairRun;
 use crate::zip::producer::NdProducer;
-use std::marker::PhantomData;
+use crate::zip::updating::{CellCall, update_parts};
+use std::alloc::AllocError;
 
 /// The order in which a producer and an array to assign to are walked together.
 pub(crate) fn assigning_order<P: NdProducer, S: DataMut, D: Lengths>(
@@ -40,26 +39,12 @@ pub(crate) fn assign_items<
     ensures ran { Collects (P.yields_at p) C.call_gives order (P.lengths p) f into.new }
     ensures whole { IsGrid into.new }
 {
-    match p.try_flat(order) {
-        Ok(flat) => {
-            let answers: Answers<P, P::Flat, C> = Answers {
-                flat,
-                f,
-                producer: PhantomData,
-            };
-            match into.write_cells_in(order, answers) {
-                Ok(()) => {}
-                Err(answers) => {
-                    let Answers {
-                        flat,
-                        f,
-                        producer: _,
-                    } = answers;
-                    assign_each(P::from_flat(flat), order, into, f);
-                }
-            }
+    match into.write_cells_in(order, Answers { p, order, f }) {
+        Ok(()) => {}
+        Err(answers) => {
+            let Answers { p, order: _, f } = answers;
+            assign_each(p, order, into, f);
         }
-        Err(p) => assign_each(p, order, into, f),
     }
 }
 
@@ -88,32 +73,39 @@ fn assign_each<P: NdProducer, R: Drop, S: DataMut<Elem = R>, C: ItemCall<P::Item
     }
 }
 
-/// What a closure answers at the items of a producer in its flat form.
+/// What a closure answers at the items of a producer in an order.
 #[derive(Drop)]
-struct Answers<P, F, C> {
-    flat: F,
+struct Answers<P, C> {
+    p: P,
+    order: Order,
     f: C,
-    producer: PhantomData<P>,
 }
 
-impl<P: NdProducer, R: Drop, C: ItemCall<P::Item, Out = R>> CellWriter<R, ()>
-    for Answers<P, P::Flat, C> {
-    ghost can_write = { λ w xs. (p : P) × ((o : Order) × (P.flat_form p o w.flat × MayGather (P.yields_at p) C.call_gives C.can_call (box_in o (P.lengths p)) w.f × (size (P.lengths p) ≡ length xs))) };
+impl<P: NdProducer, R: Drop, C: ItemCall<P::Item, Out = R>> CellWriter<R, ()> for Answers<P, C> {
+    ghost can_write = { λ w xs. (g : Grid R) × ((P.lengths w.p ≡ g.lengths) × HasInOrder w.order g xs × MayGather (P.yields_at w.p) C.call_gives C.can_call (box_in w.order (P.lengths w.p)) w.f) };
 
-    ghost writes = { λ w xs _ ys. (p : P) (o : Order) → P.flat_form p o w.flat → Gathers (P.yields_at p) C.call_gives (box_in o (P.lengths p)) w.f ys };
+    ghost writes = { λ w xs _ ys. (g : Grid R) → P.lengths w.p ≡ g.lengths → HasInOrder w.order g xs → Gathers (P.yields_at w.p) C.call_gives (box_in w.order (P.lengths w.p)) w.f ys };
 
     fn write(self, slice: &mut [R]) {
-        let Answers {
-            flat,
-            mut f,
-            producer: _,
-        } = self;
-        let mut run = P::run_flat(flat);
-        let mut k = 0;
-        while let Some(x) = run.next() {
-            let r = f.call(x);
-            slice[k] = r;
-            k += 1;
+        let Answers { p, order, f } = self;
+        match update_parts(slice, p, order, false, Anew(f)) {
+            Ok(_written) => {}
+            Err(_refused) => unreachable!(),
         }
+    }
+}
+
+/// A closure of an item, as one of the cell before and the item, which is never refused.
+#[derive(Drop)]
+struct Anew<C>(C);
+
+impl<A: Drop, X, C: ItemCall<X, Out = A>> CellCall<A, X> for Anew<C> {
+    ghost can_call = { λ c t. C.can_call c.0 t.1 };
+
+    ghost call_gives = { λ c t r d. MatchResult r (λ a. C.call_gives c.0 t.1 a d.0) (λ _. ⊥) };
+
+    #[inline(always)]
+    fn call(&mut self, _cell: &A, item: X) -> Result<A, AllocError> {
+        Ok(self.0.call(item))
     }
 }

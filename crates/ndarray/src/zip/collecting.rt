@@ -1,6 +1,7 @@
 //! Arrays of what a closure answers at the items of a producer.
 
-ghost use Rattle.std.specs.Prelude.{◌≡◌, IfOk, IsOk, length, MatchResult};
+ghost use Rattle.std.specs.Prelude.{◌≡◌, ◌<◌, IfOk, IsOk, Err, length, MatchResult};
+ghost use Rattle.ndarray.specs.base.Builder.{pushed_to};
 ghost use Rattle.ndarray.specs.Grid.{IsGrid};
 ghost use Rattle.ndarray.specs.Index.{size};
 ghost use Rattle.ndarray.specs.Orders.{box_in};
@@ -9,9 +10,11 @@ ghost use Rattle.ndarray.specs.Updates.{answers};
 
 use crate::base::array::Array;
 use crate::base::builder::ArrayBuilder;
+use crate::base::dimension::Lengths;
 use crate::order::Order;
 use crate::zip::calls::ItemCall;
 use crate::zip::producer::NdProducer;
+use crate::zip::turns::{Turn, take_items};
 use std::alloc::{AllocError, Global};
 use std::marker::Model;
 
@@ -36,30 +39,46 @@ pub(crate) fn try_collect_items<
     P: NdProducer,
     R: Drop,
     C: ItemCall<P::Item, Out = Result<R, AllocError>>,
->(alloc: Global, p: P, order: Order, mut f: C) -> Result<Array<R, P::Dim>, AllocError>
+>(alloc: Global, p: P, order: Order, f: C) -> Result<Array<R, P::Dim>, AllocError>
     requires callable { MayGather (P.yields_at p) (answers C.call_gives) C.can_call (box_in order (P.lengths p)) f }
     ensures ran { IfOk result (λ g. Collects (P.yields_at p) (answers C.call_gives) order (P.lengths p) f g) }
     ensures axes { IfOk result (λ g. P.Dim.has_axes (length g.lengths)) }
     ensures whole { IfOk result IsGrid }
     ensures empty { size (P.lengths p) ≡ 0 → IsOk result }
 {
-    let mut builder = ArrayBuilder::with_capacity(alloc, p.raw_dim(), order)?;
-    match p.try_flat(order) {
-        Ok(flat) => {
-            let mut run = P::run_flat(flat);
-            while let Some(y) = run.next() {
-                let r = f.call(y)?;
-                builder.push(r);
+    let builder = ArrayBuilder::with_capacity(alloc, p.raw_dim(), order)?;
+    match take_items(p, order, Collecting { builder, f }) {
+        Ok(collected) => Ok(collected.builder.finish()),
+        Err(refused) => Err(refused),
+    }
+}
+
+/// An array that is being filled with what a closure answers.
+#[derive(Drop)]
+struct Collecting<R, D: Lengths, C> {
+    builder: ArrayBuilder<R, D>,
+    f: C,
+}
+
+impl<X, R: Drop, D: Lengths, C: ItemCall<X, Out = Result<R, AllocError>>> Turn<X>
+    for Collecting<R, D, C> {
+    type Stop = AllocError;
+
+    ghost can_take = { λ s x. C.can_call s.f x × (length s.builder.cells < size s.builder.lengths) };
+
+    ghost goes = { λ s x t. (r : R) × (answers C.call_gives s.f x r t.f × (t.builder ≡ pushed_to s.builder r)) };
+
+    ghost stops = { λ s x e. (h : C) × C.call_gives s.f x (Err e) h };
+
+    #[inline(always)]
+    fn take(self, item: X) -> Result<Collecting<R, D, C>, AllocError> {
+        let Collecting { mut builder, mut f } = self;
+        match f.call(item) {
+            Ok(answer) => {
+                builder.push(answer);
+                Ok(Collecting { builder, f })
             }
-            Ok(builder.finish())
-        }
-        Err(p) => {
-            let mut run = p.run(order);
-            while let Some(x) = run.next() {
-                let r = f.call(x)?;
-                builder.push(r);
-            }
-            Ok(builder.finish())
+            Err(refused) => Err(refused),
         }
     }
 }

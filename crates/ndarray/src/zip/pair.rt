@@ -36,6 +36,7 @@ impl<P: NdProducer, Q: NdProducer> NdProducer for Pair<P, Q> {
         self.first.raw_dim()
     }
 
+    #[inline(always)]
     fn split_at(self, axis: Axis, index: usize) -> (Self, Self) {
         let Pair { first, second } = self;
         let (first_low, first_high) = first.split_at(axis, index);
@@ -70,6 +71,7 @@ impl<P: NdProducer, Q: NdProducer> NdProducer for Pair<P, Q> {
         self.first.tendency().saturating_add(self.second.tendency())
     }
 
+    #[inline(always)]
     fn try_flat(self, order: Order) -> Result<(P::Flat, Q::Flat), Self> {
         let Pair { first, second } = self;
         match first.try_flat(order) {
@@ -84,6 +86,7 @@ impl<P: NdProducer, Q: NdProducer> NdProducer for Pair<P, Q> {
         }
     }
 
+    #[inline(always)]
     fn from_flat(flat: (P::Flat, Q::Flat)) -> Self {
         let (first, second) = flat;
         let first = P::from_flat(first);

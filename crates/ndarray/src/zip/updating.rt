@@ -1,21 +1,24 @@
 //! Arrays whose cells become what calls answer at them and at the items of a producer, up to the first error.
 
-ghost use Rattle.std.specs.Prelude.{◌≡◌, Result};
+ghost use Rattle.std.specs.Prelude.{◌≡◌, ℕ, List, length, map, Option, Some, Result, Ok, Err, MatchResult};
+ghost use Rattle.std.specs.Iterator.{IsFinite};
 ghost use Rattle.ndarray.specs.Calls.{can_call_by_ref2, call_gives_by_ref2};
 ghost use Rattle.ndarray.specs.Grid.{Grid, IsGrid};
 ghost use Rattle.ndarray.specs.Orders.{box_in, HasInOrder};
+ghost use Rattle.ndarray.specs.Producers.{YieldsInTurn};
 ghost use Rattle.ndarray.specs.Runs.{MayGather};
-ghost use Rattle.ndarray.specs.Updates.{is_cell_beside, answers, OverwritesUntil, UpdatesUntil};
+ghost use Rattle.ndarray.specs.Updates.{is_beside, is_cell_beside, answers, OverwritesUntil, OverwritesTo, UpdatesUntil};
 ghost use Rattle.ndarray.specs.declared.base.shape.Order.{Order};
 ghost use Rattle.std.specs.declared.alloc.AllocError.{AllocError};
 
 use crate::base::array::ArrayBase;
+use crate::base::dimension::Lengths;
 use crate::base::storage::{CellWriter, DataMut};
-use crate::order::{Order, Walk};
+use crate::order::{Order, Walk, middle_of};
 use crate::zip::assigning::assigning_order;
 use crate::zip::producer::NdProducer;
+use crate::zip::turns::{Taken, flat_unless, note_flat};
 use std::alloc::AllocError;
-use std::marker::PhantomData;
 
 /// What answers the new cell at an old one and an item beside it, or an error.
 pub(crate) trait CellCall<A, X>: Drop {
@@ -58,26 +61,12 @@ pub(crate) fn try_update<P: NdProducer, A: Drop, S: DataMut<Elem = A>, C: CellCa
     ensures whole { IsGrid array.new }
 {
     let order = assigning_order(&other, array);
-    match other.try_flat(order) {
-        Ok(flat) => {
-            let updates: Updates<P, P::Flat, C> = Updates {
-                flat,
-                f,
-                producer: PhantomData,
-            };
-            match array.write_cells_in(order, updates) {
-                Ok(updated) => updated,
-                Err(updates) => {
-                    let Updates {
-                        flat,
-                        f,
-                        producer: _,
-                    } = updates;
-                    try_update_each(array, P::from_flat(flat), order, f)
-                }
-            }
+    match array.write_cells_in(order, Updates { other, order, f }) {
+        Ok(updated) => updated,
+        Err(updates) => {
+            let Updates { other, order: _, f } = updates;
+            try_update_each(array, other, order, f)
         }
-        Err(other) => try_update_each(array, other, order, f),
     }
 }
 
@@ -104,33 +93,88 @@ fn try_update_each<P: NdProducer, A: Drop, S: DataMut<Elem = A>, C: CellCall<A, 
     Ok(())
 }
 
-/// What a call answers at the elements of a slice and the items of a producer in its flat form.
+/// What a call answers at the elements of a slice and the items of a producer in an order.
 #[derive(Drop)]
-struct Updates<P, F, C> {
-    flat: F,
+struct Updates<P, C> {
+    other: P,
+    order: Order,
     f: C,
-    producer: PhantomData<P>,
 }
 
 impl<P: NdProducer, A: Drop, C: CellCall<A, P::Item>> CellWriter<A, Result<(), AllocError>>
-    for Updates<P, P::Flat, C> {
-    ghost can_write = { λ w xs. (p : P) × ((g : Grid A) × ((o : Order) × (P.flat_form p o w.flat × (P.lengths p ≡ g.lengths) × HasInOrder o g xs × MayGather (is_cell_beside g (P.yields_at p)) (answers C.call_gives) C.can_call (box_in o g.lengths) w.f))) };
+    for Updates<P, C> {
+    ghost can_write = { λ w xs. (g : Grid A) × ((P.lengths w.other ≡ g.lengths) × HasInOrder w.order g xs × MayGather (is_cell_beside g (P.yields_at w.other)) (answers C.call_gives) C.can_call (box_in w.order g.lengths) w.f) };
 
-    ghost writes = { λ w xs r ys. (p : P) (g : Grid A) (o : Order) → P.flat_form p o w.flat → P.lengths p ≡ g.lengths → HasInOrder o g xs → OverwritesUntil (is_cell_beside g (P.yields_at p)) C.call_gives (box_in o g.lengths) w.f xs r ys };
+    ghost writes = { λ w xs r ys. (g : Grid A) → P.lengths w.other ≡ g.lengths → HasInOrder w.order g xs → OverwritesUntil (is_cell_beside g (P.yields_at w.other)) C.call_gives (box_in w.order g.lengths) w.f xs r ys };
 
     fn write(self, slice: &mut [A]) -> Result<(), AllocError> {
-        let Updates {
-            flat,
-            mut f,
-            producer: _,
-        } = self;
-        let mut run = P::run_flat(flat);
-        let mut k = 0;
-        while let Some(item) = run.next() {
-            let answer = f.call(&slice[k], item)?;
-            slice[k] = answer;
-            k += 1;
+        let Updates { other, order, f } = self;
+        match update_parts(slice, other, order, false, f) {
+            Ok(_updated) => Ok(()),
+            Err(refused) => Err(refused),
         }
-        Ok(())
     }
+}
+
+/// Leaves in each element of a slice what a call answers at it and the item beside it of a producer in the order, up to
+/// the first error. A producer whose items do not lie side by side is cut as in
+/// [`take_items`](crate::zip::turns::take_items), and the slice with it; it is not tried whole where it is `apart`.
+pub(crate) fn update_parts<P: NdProducer, A: Drop, C: CellCall<A, P::Item>>(
+    slice: &mut [A],
+    p: P,
+    order: Order,
+    apart: bool,
+    f: C,
+) -> Result<Taken<C>, AllocError>
+    requires can { (at : List ℕ → Option A) × ((map at (box_in order (P.lengths p)) ≡ map Some slice.old) × MayGather (is_beside at (P.yields_at p)) (answers C.call_gives) C.can_call (box_in order (P.lengths p)) f) }
+    ensures ran { (at : List ℕ → Option A) → map at (box_in order (P.lengths p)) ≡ map Some slice.old → MatchResult result (λ u. OverwritesTo (is_beside at (P.yields_at p)) C.call_gives (box_in order (P.lengths p)) f slice.old (Ok u.turn) slice.new) (λ e. OverwritesTo (is_beside at (P.yields_at p)) C.call_gives (box_in order (P.lengths p)) f slice.old (Err e) slice.new) }
+    ensures as_long { length slice.new ≡ length slice.old }
+{
+    let p = match flat_unless(p, order, apart) {
+        Ok(flat) => {
+            return note_flat(update_run::<P, _, _, _>(slice, P::run_flat(flat), f), true);
+        }
+        Err(p) => p,
+    };
+    let Some(cut) = middle_of(order, &p.raw_dim()) else {
+        return note_flat(update_run::<P, _, _, _>(slice, p.run(order), f), false);
+    };
+    let (first, rest) = p.split_at(cut.axis, cut.index);
+    let (here, others) = slice.split_at_mut(first.raw_dim().size());
+    match update_parts(here, first, order, cut.index > 1, f) {
+        Err(refused) => Err(refused),
+        Ok(Taken { turn: f, flat }) => {
+            if flat {
+                update_parts(others, rest, order, cut.rest > 1, f)
+            } else {
+                // Where the first part has no flat parts, the rest is not cut again.
+                note_flat(update_run::<P, _, _, _>(others, rest.run(order), f), false)
+            }
+        }
+    }
+}
+
+/// The same of a run over a producer, one item after another.
+#[inline(always)]
+fn update_run<P: NdProducer, R: Iterator<Item = P::Item> + Drop, A: Drop, C: CellCall<A, P::Item>>(
+    slice: &mut [A],
+    mut run: R,
+    mut f: C,
+) -> Result<C, AllocError>
+    requires can_next { R.can_next run }
+    requires finite { IsFinite (R.remaining run) }
+    requires can { (p : P) × ((o : Order) × ((at : List ℕ → Option A) × (YieldsInTurn R.next_gives (P.yields_at p) run (box_in o (P.lengths p)) × (map at (box_in o (P.lengths p)) ≡ map Some slice.old) × MayGather (is_beside at (P.yields_at p)) (answers C.call_gives) C.can_call (box_in o (P.lengths p)) f))) }
+    ensures ran { (p : P) (o : Order) (at : List ℕ → Option A) → YieldsInTurn R.next_gives (P.yields_at p) run (box_in o (P.lengths p)) → map at (box_in o (P.lengths p)) ≡ map Some slice.old → OverwritesTo (is_beside at (P.yields_at p)) C.call_gives (box_in o (P.lengths p)) f slice.old result slice.new }
+    ensures as_long { length slice.new ≡ length slice.old }
+{
+    let mut k = 0;
+    while let Some(item) = run.next() {
+        let answer = match f.call(&slice[k], item) {
+            Ok(answer) => answer,
+            Err(refused) => return Err(refused),
+        };
+        slice[k] = answer;
+        k += 1;
+    }
+    Ok(f)
 }

@@ -31,6 +31,7 @@ impl<'a, A, D: Lengths> NdProducer for ArrayView<'a, A, D> {
         self.raw_dim()
     }
 
+    #[inline(always)]
     fn split_at(self, axis: Axis, index: usize) -> (Self, Self) {
         self.split_at(axis, index)
     }
@@ -49,6 +50,7 @@ impl<'a, A, D: Lengths> NdProducer for ArrayView<'a, A, D> {
         self.layout_tendency()
     }
 
+    #[inline(always)]
     fn try_flat(self, order: Order) -> Result<(Self, &'a [A]), Self> {
         match self.slice_in(order) {
             Some(slice) => Ok((self, slice)),

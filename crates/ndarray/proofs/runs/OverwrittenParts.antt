@@ -1,0 +1,201 @@
+-- Elements of a slice that are overwritten part by part.
+use Rattle.std.proofs.Common.{◌≡◌, ℕ, ◌≤◌, zero, suc, List, [], ◌∷◌, ◌++◌, length, map, take, drop, get_or, Option, Some, Result, Ok, Err, refl, sym, subst, ◌∙◌, ap, arith, inl, inr}
+use Rattle.std.specs.List.{FoldsTo}
+use Rattle.std.proofs.lemmas.List.{append_assoc, append-nil, map-append, length-append, length-map, take-map, drop-map, take-append-drop, drop-drop}
+use Rattle.std.proofs.lemmas.Simd.{map-map}
+use Rattle.std.proofs.Math.Seq.{take-append_seam, drop-append_seam}
+use Rattle.ndarray.specs.Index.{size}
+use Rattle.ndarray.specs.Orders.{box_in}
+use Rattle.ndarray.specs.Producers.{IsPart, IsRefinedBy}
+use Rattle.ndarray.specs.Runs.{MayTurnAt, TurnAt, TakesAt, StopsAt, EndsOrStops, GatherTurn, MayGather}
+use Rattle.ndarray.specs.Updates.{answers, is_beside, OverwritesTo, OverwritesUntil}
+use Rattle.ndarray.specs.order.Cuts.{IsCut, counted_from}
+use Rattle.ndarray.specs.declared.base.shape.Order.{Order}
+use Rattle.ndarray.proofs.boxes.Orders.{length-box_in}
+use Rattle.ndarray.proofs.runs.Parts.{boxes, may-first, may-rest, first-stopped, both-ran, ran-Ok}
+use Rattle.ndarray.proofs.runs.RunsThrough.{may_via, runs_via}
+use Rattle.ndarray.proofs.runs.Turns.{Reached, found}
+
+module _ {F X A E : Type 0} (yields_at : List ℕ → X → Type 0) (call_gives : F → X → Result A E → F → Type 0) where
+  -- all calls were answered
+  pub overwrote : {is : List (List ℕ)} {f h : F} {ys : List A} (xs : List A) → FoldsTo {P = F × List A} (TurnAt yields_at (GatherTurn (answers call_gives))) (f, []) is (h, ys) → OverwritesTo yields_at call_gives is f xs (Ok h) ys
+  overwrote {is} {f} {h} {ys} xs w = (is, (h, ys), w, inl (refl, refl))
+
+  -- the call at an item that came was refused
+  pub refused-there : {S : Type 0} (next : S → Option X → S → Type 0) {is : List (List ℕ)} {t u : S} {f h k : F} {zs xs ys : List A} {x : X} {e : E}
+      → Reached next yields_at (GatherTurn (answers call_gives)) is t (f, []) (h, zs) → next t (Some x) u → call_gives h x (Err e) k → ys ≡ zs ++ drop (length zs) xs → OverwritesTo yields_at call_gives is f xs (Err e) ys
+  refused-there next {is} {t} {u} {f} {h} {k} {zs} {xs} {ys} {x} {e} b st call kept =
+      let w = found next yields_at (GatherTurn (answers call_gives)) b st in
+      (w.done, (h, zs), w.turns, inr (w.place, w.rest, w.parts, (e, refl, (x, w.stands, (k, (call, kept))))))
+
+  -- what the outcome without the closure tells
+  pub OverwritesUntil-Ok : (is : List (List ℕ)) (f h : F) (xs ys : List A) → OverwritesTo yields_at call_gives is f xs (Ok h) ys → OverwritesUntil yields_at call_gives is f xs (Ok tt) ys
+  OverwritesUntil-Ok is f h xs ys w =
+      let (done, q, turns, how) = w in
+      elim how [
+        | inl a ↦ (done, q, turns, inl (a.0, (refl, (let one : (h, ys) ≡ q = cc in ap (λ (p : F × List A). p.1) one))))
+        | inr a ↦ (let (i, rest, parts, s) = a in let (e, never, more) = s in cc)
+      ]
+
+  pub OverwritesUntil-Err : (is : List (List ℕ)) (f : F) (e : E) (xs ys : List A) → OverwritesTo yields_at call_gives is f xs (Err e) ys → OverwritesUntil yields_at call_gives is f xs (Err e) ys
+  OverwritesUntil-Err is f e xs ys w =
+      let (done, q, turns, how) = w in
+      elim how [
+        | inl a ↦ (let never = a.1 in cc)
+        | inr a ↦
+            (let (i, rest, parts, s) = a in
+            let (d, same, (x, stands, (h, call))) = s in
+            let one : e ≡ d = cc in
+            (done, q, turns, inr (i, rest, parts, (x, stands, (d, h, ap (λ z. Err z) one, call.0, call.1)))))
+      ]
+
+  -- the turns of an outcome that is no error
+  pub overwrote-all : (is : List (List ℕ)) (f h : F) (xs ys : List A) → OverwritesTo yields_at call_gives is f xs (Ok h) ys → FoldsTo {P = F × List A} (TurnAt yields_at (GatherTurn (answers call_gives))) (f, []) is (h, ys)
+  overwrote-all is f h xs ys w = ran-Ok (TurnAt yields_at (GatherTurn (answers call_gives))) (StopsAt yields_at (λ (q : F × List A) x e. (k : F) × (call_gives q.0 x (Err e) k × (ys ≡ q.1 ++ drop (length q.1) xs)))) (f, []) (h, ys) is w
+
+  -- calls that are never refused
+  pub refused-never : ((f : F) (x : X) (e : E) (h : F) → call_gives f x (Err e) h → ⊥) → (is : List (List ℕ)) (f : F) (e : E) (xs ys : List A) → OverwritesTo yields_at call_gives is f xs (Err e) ys → ⊥
+  refused-never never is f e xs ys w =
+      let (done, q, turns, how) = w in
+      elim how [
+        | inl a ↦ (let other = a.1 in cc)
+        | inr a ↦ (let (i, rest, parts, s) = a in let (d, same, (x, stands, (h, call))) = s in never q.0 x d h call.0)
+      ]
+
+-- the elements in two parts, as the box is cut
+module _ {A X : Type 0} (o : Order) {ns ks ms ls : List ℕ} {yields_at shown first rest : List ℕ → X → Type 0} {axis index more : ℕ}
+    (less : IsRefinedBy ns yields_at ks shown) (cut : IsCut o ks axis index more) (low : IsPart axis 0 index ks shown ms first) (high : IsPart axis index (get_or ks axis 0) ks shown ls rest)
+    (at : List ℕ → Option A) (xs : List A) (along : map at (box_in o ns) ≡ map Some xs) where
+  abbrev pub at-first : List ℕ → Option A
+  at-first i = at (counted_from axis 0 i)
+
+  abbrev pub at-rest : List ℕ → Option A
+  at-rest i = at (counted_from axis index i)
+
+  halves : map at-first (box_in o ms) ++ map at-rest (box_in o ls) ≡ map Some xs
+  halves =
+      let ones : List (List ℕ) = map (counted_from axis 0) (box_in o ms) in
+      let others : List (List ℕ) = map (counted_from axis index) (box_in o ls) in
+      ap (λ l. l ++ map at-rest (box_in o ls)) (sym (map-map at (counted_from axis 0) (box_in o ms)))
+      ∙ (ap (λ l. map at ones ++ l) (sym (map-map at (counted_from axis index) (box_in o ls)))
+      ∙ (sym (map-append at ones others) ∙ (ap (map at) (boxes {P = ℕ} {A = X} (λ p x q. p ≡ q) o less cut low high) ∙ along)))
+
+  first-many : length (map at-first (box_in o ms)) ≡ size ms
+  first-many = length-map (box_in o ms) at-first ∙ length-box_in o ms
+
+  pub fits-first : size ms ≤ length xs
+  fits-first =
+      let e = ap (length {A = Option A}) halves in
+      let a = length-append (map at-first (box_in o ms)) (map at-rest (box_in o ls)) in
+      let b = length-map xs (λ x. Some x) in
+      let c = first-many in
+      omega arith
+
+  pub along-first : map at-first (box_in o ms) ≡ map Some (take (size ms) xs)
+  along-first =
+      sym (take-append_seam (map at-first (box_in o ms)) (map at-rest (box_in o ls)))
+      ∙ (ap (take (length (map at-first (box_in o ms)))) halves ∙ (ap (λ n. take n (map Some xs)) first-many ∙ take-map (λ x. Some x) (size ms) xs))
+
+  pub along-rest : map at-rest (box_in o ls) ≡ map Some (drop (size ms) xs)
+  along-rest =
+      sym (drop-append_seam (map at-first (box_in o ms)) (map at-rest (box_in o ls)))
+      ∙ (ap (drop (length (map at-first (box_in o ms)))) halves ∙ (ap (λ n. drop n (map Some xs)) first-many ∙ drop-map (λ x. Some x) (size ms) xs))
+
+  beside-less : IsRefinedBy ns (is_beside at yields_at) ks (is_beside at shown)
+  beside-less = record { lengths = less.lengths; items = λ i x s. (s.0, less.items i x.1 s.1) }
+
+  beside-low : IsPart axis 0 index ks (is_beside at shown) ms (is_beside at-first first)
+  beside-low = record { lengths = low.lengths; items = λ js b x. ((λ s. (s.0, (low.items js b x.1).0 s.1)), (λ s. (s.0, (low.items js b x.1).1 s.1))) }
+
+  beside-high : IsPart axis index (get_or ks axis 0) ks (is_beside at shown) ls (is_beside at-rest rest)
+  beside-high = record { lengths = high.lengths; items = λ js b x. ((λ s. (s.0, (high.items js b x.1).0 s.1)), (λ s. (s.0, (high.items js b x.1).1 s.1))) }
+
+  module _ {F E : Type 0} (call_gives : F → A × X → Result A E → F → Type 0) (f : F) where
+    abbrev Turn : F × List A → A × X → F × List A → Type 0
+    Turn = GatherTurn (answers call_gives)
+
+    abbrev Stop : List A → List A → F × List A → A × X → E → Type 0
+    Stop old new q x e = (h : F) × (call_gives q.0 x (Err e) h × (new ≡ q.1 ++ drop (length q.1) old))
+
+    pub may-overwrite-first : (can_call : F → A × X → Type 0) → MayGather (is_beside at yields_at) (answers call_gives) can_call (box_in o ns) f → MayGather (is_beside at-first first) (answers call_gives) can_call (box_in o ms) f
+    may-overwrite-first can_call m = may-first Turn o beside-less cut beside-low beside-high (λ p x. can_call p.0 x) (f, []) m
+
+    -- an outcome under a weaker word for its stop
+    stops-less : {S T : F × List A → A × X → E → Type 0} (yields : List ℕ → A × X → Type 0) (p : F × List A) (is : List (List ℕ)) (r : Result (F × List A) E)
+        → ((q : F × List A) (x : A × X) (e : E) → S q x e → T q x e) → EndsOrStops (TurnAt yields Turn) (StopsAt yields S) p is r → EndsOrStops (TurnAt yields Turn) (StopsAt yields T) p is r
+    stops-less yields p is r weaker w =
+        let (done, q, turns, how) = w in
+        (done, q, turns, elim how [ inl a ↦ inl a | inr a ↦ (let (i, rest, parts, s) = a in let (e, same, (x, stands, stop)) = s in inr (i, rest, parts, (e, same, (x, stands, weaker q x e stop)))) ])
+
+    -- a call in the first part was refused, and the rest stays
+    pub first-refused : (e : E) (ys : List A) → length ys ≡ size ms → OverwritesTo (is_beside at-first first) call_gives (box_in o ms) f (take (size ms) xs) (Err e) ys
+        → OverwritesTo (is_beside at yields_at) call_gives (box_in o ns) f xs (Err e) (ys ++ drop (size ms) xs)
+    first-refused e ys many w =
+        let n = size ms in
+        first-stopped Turn o beside-less cut beside-low beside-high (Stop xs (ys ++ drop n xs)) (f, []) e
+        (stops-less (is_beside at-first first) (f, []) (box_in o ms) (Err e)
+        (λ q x d s. (
+          s.0,
+          (
+            s.1.0,
+            (let here = s.1.1 in
+                let l : length ys ≡ length (q.1 ++ drop (length q.1) (take n xs)) = ap (length {A = A}) here in
+                let la = length-append q.1 (drop (length q.1) (take n xs)) in
+                ap (λ l. l ++ drop n xs) here
+                ∙ (append_assoc q.1 (drop (length q.1) (take n xs)) (drop n xs)
+                ∙ ap (λ l. q.1 ++ l) (drop-seam (length q.1) n xs (omega arith)))),
+          ),
+        ))
+        w)
+      where
+        drop-seam : (k n : ℕ) (l : List A) → k ≤ n → drop k (take n l) ++ drop n l ≡ drop k l
+        drop-seam zero n l le = take-append-drop n l
+        drop-seam (suc k) zero l le = absurd (omega arith)
+        drop-seam (suc k) (suc n) [] le = refl
+        drop-seam (suc k) (suc n) (x ∷ l) le = drop-seam k n l (omega arith)
+
+    module _ (h : F) (ys : List A) (many : length ys ≡ size ms) (ran : OverwritesTo (is_beside at-first first) call_gives (box_in o ms) f (take (size ms) xs) (Ok h) ys) where
+      abbrev behind : F × List A → F × List A
+      behind q = (q.0, ys ++ q.1)
+
+      turn-behind : (p : F × List A) (i : List ℕ) (q : F × List A) → TurnAt (is_beside at-rest rest) Turn p i q → TurnAt (is_beside at-rest rest) Turn (behind p) i (behind q)
+      turn-behind p i q t =
+          let (x, stands, (r, e, call)) = t in
+          (x, stands, (r, ap (λ l. ys ++ l) e ∙ sym (append_assoc ys p.1 (r ∷ [])), call))
+
+      ran-first : (S : F × List A → A × X → E → Type 0) → EndsOrStops (TurnAt (is_beside at-first first) Turn) (StopsAt (is_beside at-first first) S) (f, []) (box_in o ms) (Ok (h, ys))
+      ran-first S =
+          let (done, q, turns, how) = ran in
+          (done, q, turns, elim how [ inl a ↦ inl a | inr a ↦ (let (i, others, parts, s) = a in let (e, never, stop) = s in cc) ])
+
+      pub may-overwrite-rest : (can_call : F → A × X → Type 0) → MayGather (is_beside at yields_at) (answers call_gives) can_call (box_in o ns) f → MayGather (is_beside at-rest rest) (answers call_gives) can_call (box_in o ls) h
+      may-overwrite-rest can_call m =
+          let there = may-rest Turn o beside-less cut beside-low beside-high (Stop xs xs) (f, []) (h, ys) (ran-first (Stop xs xs)) (λ p x. can_call p.0 x) m in
+          may_via {P = F × List A} {Q = F × List A} (TurnAt (is_beside at-rest rest) Turn) (TurnAt (is_beside at-rest rest) Turn) behind turn-behind
+          (TakesAt (is_beside at-rest rest) (λ p x. can_call p.0 x)) (TakesAt (is_beside at-rest rest) (λ p x. can_call p.0 x)) (λ p i c. c) (box_in o ls) (h, [])
+          (subst (λ l. MayTurnAt {P = F × List A} (TurnAt (is_beside at-rest rest) Turn) (TakesAt (is_beside at-rest rest) (λ p x. can_call p.0 x)) (h, l) (box_in o ls)) (sym (append-nil ys)) there)
+
+      module _ (zs : List A) where
+        moved : (r : Result (F × List A) E) (s : Result (F × List A) E) → ((q : F × List A) → r ≡ Ok q → s ≡ Ok (behind q)) → ((e : E) → r ≡ Err e → s ≡ Err e)
+            → EndsOrStops (TurnAt (is_beside at-rest rest) Turn) (StopsAt (is_beside at-rest rest) (Stop (drop (size ms) xs) zs)) (h, []) (box_in o ls) r
+            → EndsOrStops (TurnAt (is_beside at-rest rest) Turn) (StopsAt (is_beside at-rest rest) (Stop xs (ys ++ zs))) (h, ys) (box_in o ls) s
+        moved r s ends stops w =
+            subst (λ l. EndsOrStops (TurnAt (is_beside at-rest rest) Turn) (StopsAt (is_beside at-rest rest) (Stop xs (ys ++ zs))) (h, l) (box_in o ls) s) (append-nil ys)
+            (runs_via {P = F × List A} {Q = F × List A} (TurnAt (is_beside at-rest rest) Turn) (TurnAt (is_beside at-rest rest) Turn) behind turn-behind
+            (λ q i. (e : E) × (r ≡ Err e) × StopsAt (is_beside at-rest rest) (Stop (drop (size ms) xs) zs) q i e) (λ q i. (e : E) × (s ≡ Err e) × StopsAt (is_beside at-rest rest) (Stop xs (ys ++ zs)) q i e) (λ q. r ≡ Ok q) (λ q. s ≡ Ok q)
+            (λ q i v.
+            let (e, same, (x, stands, (k, (call, kept)))) = v in
+            (e, stops e same, (x, stands, (k, (call, ap (λ l. ys ++ l) kept ∙ (sym (append_assoc ys q.1 (drop (length q.1) (drop (size ms) xs))) ∙ ap (λ l. (ys ++ q.1) ++ l) (past q.1)))))))
+            ends (box_in o ls) (h, []) w)
+          where
+            past : (q : List A) → drop (length q) (drop (size ms) xs) ≡ drop (length (ys ++ q)) xs
+            past q = let l = length-append ys q in drop-drop (length q) (size ms) xs ∙ ap (λ n. drop n xs) (omega (arith, many))
+
+        -- both parts are overwritten
+        pub rest-overwrote : (r : Result F E) → OverwritesTo (is_beside at-rest rest) call_gives (box_in o ls) h (drop (size ms) xs) r zs → OverwritesTo (is_beside at yields_at) call_gives (box_in o ns) f xs r (ys ++ zs)
+        rest-overwrote (Ok k) w =
+            both-ran Turn o beside-less cut beside-low beside-high (Stop xs (ys ++ zs)) (f, []) (h, ys) (ran-first (Stop xs (ys ++ zs))) (Ok (k, ys ++ zs))
+            (moved (Ok (k, zs)) (Ok (k, ys ++ zs)) (λ q e. (let one : (k, zs) ≡ q = cc in ap (λ p. Ok (behind p)) one)) (λ e never. cc) w)
+        rest-overwrote (Err d) w =
+            both-ran Turn o beside-less cut beside-low beside-high (Stop xs (ys ++ zs)) (f, []) (h, ys) (ran-first (Stop xs (ys ++ zs))) (Err d)
+            (moved (Err d) (Err d) (λ q never. cc) (λ e same. (let one : d ≡ e = cc in ap (λ z. Err z) one)) w)

@@ -1,0 +1,12 @@
+use Rattle.ndarray.specs.Orders.{box_in}
+use Rattle.ndarray.specs.Producers.{YieldsInTurn}
+use Rattle.ndarray.specs.declared.base.shape.Order.{Order}
+use Rattle.ndarray.proofs.runs.Turns.{Reached}
+use Rattle.ndarray.proofs.zip.turns.take_run.Given as goal
+
+abbrev pub invariant-loop-item : goal.invariant-loop-item
+invariant-loop-item g l =
+    (goal.iterator-loop-item g).can_next l.run
+    × (goal.iterator-loop-item g).is_finite l.run
+    × ((p : g.row.P.Denot) (o : Order) → YieldsInTurn (goal.iterator-loop-item g).next_gives (g.P.NdProducer.yields_at p) l.fn.run (box_in o (g.P.Shaped.lengths p))
+    → Reached (goal.iterator-loop-item g).next_gives (g.P.NdProducer.yields_at p) g.T.Turn.goes (box_in o (g.P.Shaped.lengths p)) l.run l.fn.turn l.turn)
