@@ -1,6 +1,7 @@
 -- Shapes and their boxes of index lists, and the orders in which these come.
 pub mod Boxes
 pub mod Orders
+pub mod ProductShapes
 pub mod ShiftedBoxes
 pub mod Sizes
 pub mod UniqueOrder
