@@ -2,6 +2,7 @@
 pub mod InnerSums
 pub mod IntegerSelections
 pub mod IntegerTests
+pub mod MagnitudeSums
 pub mod NonzeroProducts
 pub mod Rearrangements
 pub mod RunningSum

@@ -4,7 +4,7 @@ use Rattle.ndarray.specs.Algebra.{CommutativeMonoid}
 use Rattle.ndarray.specs.Grid.{Grid, IsGrid, cell}
 use Rattle.ndarray.specs.Index.{size}
 use Rattle.ndarray.specs.Limits.{IsWithinLimit}
-use Rattle.ndarray.specs.Matrices.{Matrix, inner_products, kronecker_product, matrix_product}
+use Rattle.ndarray.specs.Matrices.{Matrix, inner_products, matrix_product}
 use Rattle.ndarray.specs.Sums.{IsSummable}
 use Rattle.ndarray.specs.declared.elements.Valued.{Ghosts as ValuedGhosts}
 

@@ -4,6 +4,7 @@
 //! of row i of the left matrix with column j of the right one. Each call requires that every selection of the products of an
 //! inner sum has its sum in range, so that no order of adding leaves the range.
 
+mod dynamic;
 mod entries;
 mod general;
 mod inner;

@@ -1,9 +1,9 @@
 -- The lengths of products of vectors and matrices.
-use Rattle.std.proofs.Common.{◌≡◌, ℕ, zero, suc, ◌+◌, ◌*◌, ◌/◌, ◌%◌, ◌-◌, ◌<◌, ◌≤◌, ◌^◌, List, [], ◌∷◌, length, get_or, inl, inr, refl, sym, ap, ◌∙◌, subst, arith, ◌⊎◌, ◌↔◌}
-use Rattle.std.proofs.Math.Nat.{div-lt_iff_lt-mul, mod-lt, mul_comm}
+use Rattle.std.proofs.Common.{◌≡◌, ℕ, zero, suc, ◌*◌, ◌/◌, ◌%◌, ◌-◌, ◌<◌, ◌≤◌, ◌^◌, List, [], ◌∷◌, length, get_or, inl, inr, refl, sym, ap, ◌∙◌, subst, arith, ◌⊎◌}
+use Rattle.std.proofs.Math.Nat.{div-lt_iff_lt-mul, mod-lt}
 use Rattle.ndarray.specs.Index.{InBox}
-use Rattle.ndarray.specs.Limits.{IsWithinLimit, nonzero_size}
-use Rattle.ndarray.specs.Products.{HasOneOrTwoAxes, ShapesMultiply, ShapesMultiplyInto, kronecker_lengths, product_lengths}
+use Rattle.ndarray.specs.Limits.{IsWithinLimit}
+use Rattle.ndarray.specs.Products.{HasOneOrTwoAxes, ShapesMultiply, kronecker_lengths, product_lengths}
 use Rattle.ndarray.proofs.boxes.Sizes.{length-fits, nonzero-one_of}
 use Rattle.ndarray.proofs.cells.Matrices.{one-length, two-lengths}
 
@@ -84,3 +84,7 @@ block-in_second ns ms p q m r is two row column em er e =
     let a = quotient-below p (get_or ns 0 0) m (subst (λ k. p < get_or ns 0 0 * k) (sym em) row) in
     let b = quotient-below q (get_or ns 1 0) r (subst (λ k. q < get_or ns 1 0 * k) (sym er) column) in
     subst (InBox ms) (sym e) (in-two ms (p % m) (q % r) two (subst (λ k. p % m < k) em a.2) (subst (λ k. q % r < k) er b.2))
+
+pub two-of : (ns : List ℕ) → HasOneOrTwoAxes ns → (length ns ≡ 1 → ⊥) → length ns ≡ 2
+two-of ns (inl one) not_one = absurd (not_one one)
+two-of ns (inr two) not_one = two

@@ -30,7 +30,7 @@ product-some (z ∷ zs) = let k : 1 * 1 ≤ nonzero_magnitude z * magnitude_prod
 -- ---- the products of all selections
 
 -- a number that is negative shows that some negative number fits
-pub NegativeFits : (ℤ → Type 0) → ℤ → Type 0
+unfoldable pub NegativeFits : (ℤ → Type 0) → ℤ → Type 0
 NegativeFits fits z = (n : ℕ) → z ≡ negsuc n → (m : ℕ) × fits (negsuc m)
 
 pub negative-product : (fits : ℤ → Type 0) (a b : ℤ) → fits a → NegativeFits fits b → NegativeFits fits (a *ℤ b)

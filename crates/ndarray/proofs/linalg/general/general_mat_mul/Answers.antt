@@ -1,4 +1,4 @@
-use Rattle.std.proofs.Common.{◌∙◌, [], ◌∷◌, ap, arith, length, subst, sym}
+use Rattle.std.proofs.Common.{◌∙◌, [], ◌∷◌, ap, length, subst, sym}
 use Rattle.ndarray.specs.Index.{InBox}
 use Rattle.ndarray.specs.Products.{CanAddScaled, matrix_entries, matrix_of, product_of}
 use Rattle.ndarray.proofs.boxes.ProductShapes.{inner-two, lengths-two_two}

@@ -1,4 +1,3 @@
-use Rattle.std.proofs.Common.{drop}
 use Rattle.ndarray.proofs.sums.InnerSums.{RunningInner}
 use Rattle.ndarray.proofs.linalg.inner.inner.Given as goal
 

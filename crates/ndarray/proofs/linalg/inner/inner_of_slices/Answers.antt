@@ -1,4 +1,4 @@
-use Rattle.std.proofs.Common.{◌+◌, ◌∙◌, ap, arith, drop, inl, refl, subst, sym}
+use Rattle.std.proofs.Common.{◌+◌, ◌∙◌, ap, arith, drop, inl, refl}
 use Rattle.std.proofs.lemmas.List.{drop_all}
 use Rattle.ndarray.proofs.sums.InnerSums.{drop-next, inner-added, inner-end, inner-next, inner-product, inner-start}
 use Rattle.ndarray.proofs.linalg.inner.inner_of_slices.Goals as goal

@@ -1,5 +1,4 @@
 use Rattle.std.proofs.Common.{◌∙◌, ◌*◌, ap, arith, get_or}
-use Rattle.std.proofs.lemmas.Bool.{false≢true}
 use Rattle.ndarray.proofs.boxes.ProductShapes.{kronecker-rows_fit}
 use Rattle.ndarray.proofs.lists.Decisions.{says_no}
 use Rattle.ndarray.proofs.linalg.kronecker.kron_ok.Goals as goal
