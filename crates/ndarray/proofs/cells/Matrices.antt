@@ -1,16 +1,18 @@
 -- Rows and columns of an array as lists of values.
-use Rattle.std.proofs.Common.{◌≡◌, ℕ, zero, suc, ◌<◌, List, [], ◌∷◌, map, length, get_or, remove, insert, Option, Some, None, refl, sym, ap, ◌∙◌, subst, arith}
+use Rattle.std.proofs.Common.{◌≡◌, ℕ, zero, suc, ◌<◌, List, [], ◌∷◌, map, length, get_or, remove, insert, Option, Some, None, refl, sym, ap, ◌∙◌, subst, arith, add-one}
 use Rattle.std.specs.Prelude.{slice_get}
+use Rattle.std.specs.List.{range_with_len}
 use Rattle.std.specs.Option.{option_map}
 use Rattle.std.proofs.lemmas.List.{length-map}
 use Rattle.std.proofs.lemmas.Option.{slice_get-map}
 use Rattle.ndarray.specs.Grid.{Grid, IsGrid, cell}
-use Rattle.ndarray.specs.Index.{InBox, size}
+use Rattle.ndarray.specs.Index.{InBox, row_order, size}
 use Rattle.ndarray.specs.Matrices.{values_below}
 use Rattle.ndarray.specs.Products.{value_or}
 use Rattle.ndarray.specs.Views.{axis_item}
-use Rattle.ndarray.specs.order.Ranks.{rank}
+use Rattle.ndarray.specs.order.Ranks.{rank, row_from}
 use Rattle.ndarray.specs.declared.base.shape.Order.TheVariants.{RowMajor}
+use Rattle.ndarray.proofs.boxes.Orders.{row_order-one}
 use Rattle.ndarray.proofs.boxes.Walks.{rank_in-one}
 use Rattle.ndarray.proofs.cells.Cells.{cell-Some, cell-within, tabulate-cell}
 use Rattle.ndarray.proofs.lists.Elements.{same_from_slice_get}
@@ -78,3 +80,11 @@ module _ {A C : Type 0} (v : A → C) (d : C) where
         ∙ (ap (λ n. values_below n (λ k. value_or v d (cell r (k ∷ [])))) (ap (λ l. get_or l 0 0) ms)
         ∙ below-same (get_or g.lengths 0 0) _ _
         (λ k lt. ap (value_or v d) (ap (λ w. cell w (k ∷ [])) e ∙ tabulate-cell (remove g.lengths 1) (λ is. cell g (insert is 1 j)) (k ∷ []) (subst IsGrid e whole) (subst (λ l. InBox l (k ∷ [])) (sym (ap (λ l. remove l 1) ns)) (lt, tt)))))
+
+row-from : (i n : ℕ) → row_from (i ∷ []) 0 n ≡ map (λ k. k ∷ []) (range_with_len i n)
+row-from i zero = refl
+row-from i (suc n) = ap (λ l. (i ∷ []) ∷ l) (rw add-one (row-from (suc i) n))
+
+-- the index lists of a vector, one after another
+pub row-one : (n : ℕ) → row_from (0 ∷ []) 0 n ≡ row_order (n ∷ [])
+row-one n = row-from 0 n ∙ sym (row_order-one n)

@@ -7,11 +7,11 @@ ghost use Rattle.ndarray.specs.Sums.{IsSummable, total};
 
 use crate::base::array::{ArrayBase, ArrayView};
 use crate::base::axis::Axis;
-use crate::base::dimension::{Ix1, Ix2};
+use crate::base::dimension::{Dimension, Ix1, Ix2};
 use crate::base::storage::Data;
+use crate::base::strided::Strided;
 use crate::elements::LinalgScalar;
 use crate::linalg::entries::Entries;
-use crate::zip::pair::PairRun;
 
 /// The sum of the products of two vectors' cells, place by place, and zero where they have none. It allocates nothing.
 pub(crate) fn inner<A: LinalgScalar, S: Data<Elem = A>, S2: Data<Elem = A>>(
@@ -28,14 +28,27 @@ pub(crate) fn inner<A: LinalgScalar, S: Data<Elem = A>, S2: Data<Elem = A>>(
         }
     }
     let mut sum = A::zero();
-    let mut pairs = PairRun {
-        first: x.iter(),
-        second: y.iter(),
-    };
-    while let Some((a, b)) = pairs.next() {
+    let mut left = cells_of(x.view());
+    let mut right = cells_of(y.view());
+    while let Some(a) = left.next() {
+        let Some(b) = right.next() else {
+            unreachable!()
+        };
         sum = add_product(sum, *a, *b);
     }
     sum
+}
+
+/// The cells of a vector, one after another.
+#[inline(always)]
+fn cells_of<'a, A>(vector: ArrayView<'a, A, Ix1>) -> Strided<'a, A>
+    ensures { result ≡ vector.entry.cells }
+{
+    let len = vector.raw_dim().into_pattern();
+    if len == 0 {
+        return vector.no_cells();
+    }
+    vector.cells_along(&Ix1(0), 0, len)
 }
 
 /// The same of two slices.
