@@ -1,4 +1,4 @@
-use Rattle.std.proofs.Common.{◌≡◌, ◌∙◌, ◌∷◌, [], All, ap, filter_map, subst, sym}
+use Rattle.std.proofs.Common.{◌≡◌, ◌∙◌, All, ap, filter_map, subst, sym}
 use Rattle.ndarray.specs.Grid.{cell}
 use Rattle.ndarray.specs.Index.{InBox, row_order}
 use Rattle.ndarray.specs.order.Ranks.{row_from}

@@ -1,4 +1,4 @@
-use Rattle.std.proofs.Common.{◌∙◌, [], ◌∷◌, ap, arith, inl, length}
+use Rattle.std.proofs.Common.{◌∙◌, ap, arith, inl, length}
 use Rattle.ndarray.proofs.sums.InnerSums.{inner-added, inner-end, inner-next, inner-product, inner-start}
 use Rattle.ndarray.proofs.linalg.inner.inner.Goals as goal
 
