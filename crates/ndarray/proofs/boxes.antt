@@ -2,6 +2,7 @@
 pub mod Boxes
 pub mod Cuts
 pub mod Orders
+pub mod ProductShapes
 pub mod ShiftedBoxes
 pub mod Sizes
 pub mod UniqueOrder

@@ -9,7 +9,9 @@ pub mod Differences
 pub mod Elementwise
 pub mod IndexedCells
 pub mod LaneCells
+pub mod Matrices
 pub mod Overwriting
+pub mod Products
 pub mod RunningProducts
 pub mod UpdatedCells
 pub mod Updates

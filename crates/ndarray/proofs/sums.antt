@@ -1,6 +1,8 @@
 -- Sums of lists and of their selections.
+pub mod InnerSums
 pub mod IntegerSelections
 pub mod IntegerTests
+pub mod MagnitudeSums
 pub mod NonzeroProducts
 pub mod Rearrangements
 pub mod RunningSum

@@ -5,6 +5,7 @@ pub mod Calls
 pub mod Collected
 pub mod Dimensions
 pub mod Elementwise
+pub mod Entries
 pub mod Errors
 pub mod FixedAxes
 pub mod FoldWhiles
@@ -14,8 +15,10 @@ pub mod IntegerProducts
 pub mod Integers
 pub mod Joining
 pub mod Limits
+pub mod Matrices
 pub mod Orders
 pub mod Producers
+pub mod Products
 pub mod Runs
 pub mod Slices
 pub mod Subviews

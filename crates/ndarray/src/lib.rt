@@ -12,6 +12,7 @@
 pub mod base;
 pub mod elements;
 pub mod iter;
+pub mod linalg;
 mod ops;
 pub mod order;
 pub mod owning;

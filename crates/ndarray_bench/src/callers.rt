@@ -10,13 +10,18 @@ ghost use Rattle.ndarray.specs.Grid.{arranged, cell};
 ghost use Rattle.ndarray.specs.Index.{InBox};
 ghost use Rattle.ndarray.specs.Integers.{int_products, int_sums};
 ghost use Rattle.ndarray.specs.Joining.{stacked};
+ghost use Rattle.ndarray.specs.Products.{matrix_of, product_of, products_of};
 ghost use Rattle.ndarray.specs.Subviews.{lane};
 ghost use Rattle.ndarray.specs.Sums.{total, total_by};
 ghost use Rattle.ndarray_bench.specs.Callers.{half_at, sum_at, sum_below};
-ghost use Rattle.ndarray_bench.specs.Residue.{modulus, modulus_pos, residue_products, residue_sums};
+ghost use Rattle.ndarray_bench.specs.Residue.{Below, modulus, modulus_pos, residue_products, residue_sums};
 
 use crate::residue::Residue;
-use ndarray::{Array, ArrayBase, Axis, Data, DimMax, Dimension, Ix1, Ix2, StackError, Zip, stack};
+use ndarray::linalg::dot_ok;
+use ndarray::reduce::dot_fits;
+use ndarray::{
+    Array, ArrayBase, Axis, Data, DimMax, Dimension, Ix1, Ix2, StackError, Valued, Zip, stack,
+};
 use std::alloc::{AllocError, Global};
 
 /// Half of each cell, rounded down, whatever keeps the cells and however they lie.
@@ -155,4 +160,35 @@ pub fn two_rows(
     ensures second_row { IfOk result (λ t. (j : ℕ) → InBox t.lengths (1 ∷ j ∷ []) → cell t (1 ∷ j ∷ []) ≡ cell second.now (j ∷ [])) }
 {
     stack(alloc, Axis(0), &[first.view(), second.view()])
+}
+
+/// The inner sum of two vectors, or `None` where they are not of one length, or the absolute values of the products add up to
+/// more than the greatest `i64`.
+pub fn inner_sum<S: Data<Elem = i64>, T: Data<Elem = i64>>(
+    alloc: Global,
+    x: &ArrayBase<S, Ix1>,
+    y: &ArrayBase<T, Ix1>,
+) -> Option<i64>
+    ensures { IfSome result (λ s. s ≡ total int_sums (products_of int_products (λ z. z) x.now.cells y.now.cells)) }
+{
+    if dot_fits(x, y) {
+        Some(x.dot(alloc, y))
+    } else {
+        None
+    }
+}
+
+/// The product of two matrices of residues, which never leaves the range, or `None` where their shapes do not multiply.
+pub fn residue_product<const M: u32, S: Data<Elem = Residue<M>>, T: Data<Elem = Residue<M>>>(
+    alloc: Global,
+    a: &ArrayBase<S, Ix2>,
+    b: &ArrayBase<T, Ix2>,
+) -> Result<Option<Array<Residue<M>, Ix2>>, AllocError>
+    ensures { IfOk result (λ made. IfSome made (λ r. (i j : ℕ) (z : Below (modulus M)) → cell r (i ∷ j ∷ []) ≡ Some z → z ≡ (product_of ⟦<Residue<M> as Valued>⟧ (matrix_of ⟦<Residue<M> as Valued>⟧ a.now) (matrix_of ⟦<Residue<M> as Valued>⟧ b.now)).cell i j)) }
+{
+    if !dot_ok(a, b) {
+        return Ok(None);
+    }
+    let product = a.dot(alloc, b)?;
+    Ok(Some(product))
 }

@@ -9,6 +9,7 @@ mod layouts;
 mod lists;
 mod operators;
 mod owned;
+mod products;
 mod reading;
 mod shown;
 mod spelling;

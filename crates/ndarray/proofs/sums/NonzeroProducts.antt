@@ -30,10 +30,10 @@ product-some (z ∷ zs) = let k : 1 * 1 ≤ nonzero_magnitude z * magnitude_prod
 -- ---- the products of all selections
 
 -- a number that is negative shows that some negative number fits
-NegativeFits : (ℤ → Type 0) → ℤ → Type 0
+unfoldable pub NegativeFits : (ℤ → Type 0) → ℤ → Type 0
 NegativeFits fits z = (n : ℕ) → z ≡ negsuc n → (m : ℕ) × fits (negsuc m)
 
-negative-product : (fits : ℤ → Type 0) (a b : ℤ) → fits a → NegativeFits fits b → NegativeFits fits (a *ℤ b)
+pub negative-product : (fits : ℤ → Type 0) (a b : ℤ) → fits a → NegativeFits fits b → NegativeFits fits (a *ℤ b)
 unfolding NegativeFits
 negative-product fits (pos a) (pos b) fa hb n e = absurd (cc)
 negative-product fits (pos a) (negsuc b) fa hb n e = hb b refl
@@ -55,7 +55,7 @@ module _ (fits : ℤ → Type 0) (between : (x y z : ℤ) → fits x → fits z 
   selections keep [] f = (omega arith, λ n e. absurd (cc))
   selections keep (z ∷ zs) f = selection (keep 0) z (select (λ i. keep (suc i)) zs) zs f.0 (selections (λ i. keep (suc i)) zs f.1)
 
-  within : (t : ℤ) (n : ℕ) → unsigned_abs t ≤ n → fits (pos n) → NegativeFits fits t → fits t
+  pub within : (t : ℤ) (n : ℕ) → unsigned_abs t ≤ n → fits (pos n) → NegativeFits fits t → fits t
   unfolding NegativeFits
   within (pos m) n le h negative = between (pos 0) (pos m) (pos n) zero_fits h (omega (arith, ints)) (omega (arith, ints))
   within (negsuc m) zero le h negative = absurd (omega arith)

@@ -1,14 +1,16 @@
 //! Whether the sums and the products of an array's cells stay in their integer type.
 
-ghost use Rattle.std.specs.Prelude.{◌↔◌, IsTrue, map, pos, unsigned_abs};
+ghost use Rattle.std.specs.Prelude.{◌≡◌, ◌↔◌, ◌*ℤ◌, IsTrue, map, pos, unsigned_abs};
 ghost use Rattle.num_traits.specs.Laws.{Checks};
-ghost use Rattle.ndarray.specs.Sums.{IsSummableBy};
+ghost use Rattle.ndarray.specs.Products.{magnitude_sum, products_of};
+ghost use Rattle.ndarray.specs.Sums.{IsSummable, IsSummableBy};
 ghost use Rattle.ndarray.specs.Integers.{int_products, int_sums, magnitude_product, negative_sum, positive_sum};
 
 use crate::base::array::ArrayBase;
-use crate::base::dimension::Lengths;
+use crate::base::dimension::{Dimension, Ix1, Lengths};
 use crate::base::storage::Data;
 use crate::elements::IntegerElem;
+use crate::zip::pair::PairRun;
 use num_traits::PrimInt;
 
 impl<A: PrimInt, S: Data<Elem = A>, D: Lengths> ArrayBase<S, D> {
@@ -75,6 +77,59 @@ impl<A: IntegerElem, S: Data<Elem = A>, D: Lengths> ArrayBase<S, D> {
         }
         true
     }
+}
+
+/// Whether two vectors have the same length, and the absolute values of the products of their cells, place by place, add up to
+/// at most the type's greatest number. Then every selection of the products has its sum in the type, as their `dot` asks.
+///
+/// Requires nothing, and the test allocates nothing. It may say no where the product could be taken, as where large products
+/// of both signs stand beside each other.
+///
+/// ```
+/// assert!(dot_fits(&ArrayView::from_shape(2, &[127i8, 0])?, &ArrayView::from_shape(2, &[-1i8, 5])?));
+/// assert!(!dot_fits(&ArrayView::from_shape(2, &[100i8, 100])?, &ArrayView::from_shape(2, &[1i8, -1])?));
+/// ```
+pub fn dot_fits<A: IntegerElem, S: Data<Elem = A>, S2: Data<Elem = A>>(
+    x: &ArrayBase<S, Ix1>,
+    y: &ArrayBase<S2, Ix1>,
+) -> bool
+    ensures magnitudes { IsTrue result ↔ ((x.now.lengths ≡ y.now.lengths) × A.fits (pos (magnitude_sum (products_of int_products A.value x.now.cells y.now.cells)))) }
+    ensures selections { IsTrue result → (x.now.lengths ≡ y.now.lengths) × IsSummable int_sums A.fits (products_of int_products A.value x.now.cells y.now.cells) }
+{
+    let n = x.raw_dim().into_pattern();
+    let m = y.raw_dim().into_pattern();
+    if n != m {
+        return false;
+    }
+    let mut sum = A::zero();
+    let mut pairs = PairRun {
+        first: x.iter(),
+        second: y.iter(),
+    };
+    while let Some((a, b)) = pairs.next() {
+        a.tell_fits();
+        b.tell_fits();
+        let Some(size) = product_magnitude(*a, *b) else {
+            return false;
+        };
+        let Some(more) = sum.checked_add(&size) else {
+            return false;
+        };
+        sum = more;
+    }
+    true
+}
+
+/// The absolute value of a product, where the type has it.
+fn product_magnitude<A: IntegerElem>(x: A, y: A) -> Option<A>
+    ensures { Checks A.value A.fits (pos (unsigned_abs (A.value x *ℤ A.value y))) result }
+{
+    x.tell_fits();
+    y.tell_fits();
+    let Some(product) = x.checked_mul(&y) else {
+        return None;
+    };
+    magnitude(product)
 }
 
 /// The absolute value, where the type has it.

@@ -1,7 +1,7 @@
 //! What a row gives.
 
 use crate::rows::layouts::{Layout, Table};
-use crate::rows::{along, joining, operators, owned, reading, spelling, writing};
+use crate::rows::{along, joining, operators, owned, products, reading, spelling, writing};
 use std::alloc::{AllocError, Global};
 
 /// What the calls of a row give on a layout of its table: `TABLE | CALL | ..`.
@@ -122,6 +122,9 @@ fn read(alloc: Global, table: &Table, calls: &[&str]) -> Result<String, AllocErr
         return Ok(text);
     }
     if let Some(text) = joining::answer(alloc, table, calls)? {
+        return Ok(text);
+    }
+    if let Some(text) = products::answer(alloc, table, calls)? {
         return Ok(text);
     }
     match table.view() {

@@ -1,0 +1,90 @@
+-- The lengths of products of vectors and matrices.
+use Rattle.std.proofs.Common.{◌≡◌, ℕ, zero, suc, ◌*◌, ◌/◌, ◌%◌, ◌-◌, ◌<◌, ◌≤◌, ◌^◌, List, [], ◌∷◌, length, get_or, inl, inr, refl, sym, ap, ◌∙◌, subst, arith, ◌⊎◌}
+use Rattle.std.proofs.Math.Nat.{div-lt_iff_lt-mul, mod-lt}
+use Rattle.ndarray.specs.Index.{InBox}
+use Rattle.ndarray.specs.Limits.{IsWithinLimit}
+use Rattle.ndarray.specs.Products.{HasOneOrTwoAxes, ShapesMultiply, kronecker_lengths, product_lengths}
+use Rattle.ndarray.proofs.boxes.Sizes.{length-fits, nonzero-one_of}
+use Rattle.ndarray.proofs.cells.Matrices.{one-length, two-lengths}
+
+module _ (ns ms : List ℕ) where
+  pub lengths-two_two : length ns ≡ 2 → length ms ≡ 2 → product_lengths ns ms ≡ get_or ns 0 0 ∷ get_or ms 1 0 ∷ []
+  lengths-two_two p q = ap (λ l. product_lengths l ms) (two-lengths ns p) ∙ ap (product_lengths (get_or ns 0 0 ∷ get_or ns 1 0 ∷ [])) (two-lengths ms q)
+
+  pub lengths-two_one : length ns ≡ 2 → length ms ≡ 1 → product_lengths ns ms ≡ get_or ns 0 0 ∷ []
+  lengths-two_one p q = ap (λ l. product_lengths l ms) (two-lengths ns p) ∙ ap (product_lengths (get_or ns 0 0 ∷ get_or ns 1 0 ∷ [])) (one-length ms q)
+
+  pub lengths-one_two : length ns ≡ 1 → length ms ≡ 2 → product_lengths ns ms ≡ get_or ms 1 0 ∷ []
+  lengths-one_two p q = ap (λ l. product_lengths l ms) (one-length ns p) ∙ ap (product_lengths (get_or ns 0 0 ∷ [])) (two-lengths ms q)
+
+  pub lengths-one_one : length ns ≡ 1 → length ms ≡ 1 → product_lengths ns ms ≡ []
+  lengths-one_one p q = ap (λ l. product_lengths l ms) (one-length ns p) ∙ ap (product_lengths (get_or ns 0 0 ∷ [])) (one-length ms q)
+
+  -- the inner lengths
+  pub inner-two : length ns ≡ 2 → get_or ns (length ns - 1) 0 ≡ get_or ms 0 0 → get_or ns 1 0 ≡ get_or ms 0 0
+  inner-two p e = sym (ap (λ n. get_or ns (n - 1) 0) p) ∙ e
+
+  pub inner-one : length ns ≡ 1 → get_or ns (length ns - 1) 0 ≡ get_or ms 0 0 → get_or ns 0 0 ≡ get_or ms 0 0
+  inner-one p e = sym (ap (λ n. get_or ns (n - 1) 0) p) ∙ e
+
+  pub limit-two_two : length ns ≡ 2 → length ms ≡ 2 → ShapesMultiply ns ms → IsWithinLimit (get_or ns 0 0 ∷ get_or ms 1 0 ∷ [])
+  limit-two_two p q s = subst IsWithinLimit (lengths-two_two p q) s.limit
+
+  one-or-two : (ks : List ℕ) → 1 ≤ length ks → length ks ≤ 2 → HasOneOrTwoAxes ks
+  one-or-two [] a b = absurd (omega arith)
+  one-or-two (k ∷ []) a b = inl refl
+  one-or-two (k ∷ l ∷ []) a b = inr refl
+  one-or-two (k ∷ l ∷ m ∷ ks) a b = absurd (omega arith)
+
+  -- where one side is a vector, the lengths of the product are within the limit
+  module _ (nl : 1 ≤ length ns) (nh : length ns ≤ 2) (ml : 1 ≤ length ms) (mh : length ms ≤ 2) (inner : get_or ns (length ns - 1) 0 ≡ get_or ms 0 0) (left : IsWithinLimit ns) (right : IsWithinLimit ms) where
+    vector-limit : (length ns ≡ 1) ⊎ (length ms ≡ 1) → IsWithinLimit (product_lengths ns ms)
+    vector-limit (inl p) = elim (one-or-two ms ml mh) [
+      | inl q ↦ subst IsWithinLimit (sym (lengths-one_one p q)) (omega arith)
+      | inr q ↦ subst IsWithinLimit (sym (lengths-one_two p q)) (let k = nonzero-one_of ms 1 (omega (arith, q)) in omega (arith, k, right))
+    ]
+    vector-limit (inr q) = elim (one-or-two ns nl nh) [
+      | inl p ↦ subst IsWithinLimit (sym (lengths-one_one p q)) (omega arith)
+      | inr p ↦ subst IsWithinLimit (sym (lengths-two_one p q)) (let k = nonzero-one_of ns 0 (omega (arith, p)) in omega (arith, k, left))
+    ]
+
+    pub vector-shapes : (length ns ≡ 1) ⊎ (length ms ≡ 1) → ShapesMultiply ns ms
+    vector-shapes one = record { left = one-or-two ns nl nh; right = one-or-two ms ml mh; inner = inner; limit = vector-limit one }
+
+    pub matrix-shapes : length ns ≡ 2 → length ms ≡ 2 → IsWithinLimit (get_or ns 0 0 ∷ get_or ms 1 0 ∷ []) → ShapesMultiply ns ms
+    matrix-shapes p q limit = record { left = inr p; right = inr q; inner = inner; limit = subst IsWithinLimit (sym (lengths-two_two p q)) limit }
+
+-- lengths within the limit fit a word, each alone
+pub kronecker-rows_fit : (ns ms : List ℕ) → IsWithinLimit (kronecker_lengths ns ms) → get_or ns 0 0 * get_or ms 0 0 < 2 ^ 63
+kronecker-rows_fit ns ms h = length-fits (kronecker_lengths ns ms) 0 (omega arith) h
+
+pub kronecker-columns_fit : (ns ms : List ℕ) → IsWithinLimit (kronecker_lengths ns ms) → get_or ns 1 0 * get_or ms 1 0 < 2 ^ 63
+kronecker-columns_fit ns ms h = length-fits (kronecker_lengths ns ms) 1 (omega arith) h
+
+-- an index among l * m, as quotient and remainder by m
+pub quotient-below : (p l m : ℕ) → p < l * m → (0 < m) × (p / m < l) × (p % m < m)
+quotient-below p l zero h = absurd (let z : l * 0 ≡ 0 = omega arith in omega (arith, h, z))
+quotient-below p l (suc m) h = (omega arith, (div-lt_iff_lt-mul {k = suc m} {x = p} {y = l} (omega arith)).1 h, mod-lt p {m = suc m} (omega arith))
+
+pub in-two : (ns : List ℕ) (i j : ℕ) → length ns ≡ 2 → i < get_or ns 0 0 → j < get_or ns 1 0 → InBox ns (i ∷ j ∷ [])
+in-two ns i j p a b = subst (λ l. InBox l (i ∷ j ∷ [])) (sym (two-lengths ns p)) (a, (b, tt))
+
+pub in-one : (ns : List ℕ) (i : ℕ) → length ns ≡ 1 → i < get_or ns 0 0 → InBox ns (i ∷ [])
+in-one ns i p a = subst (λ l. InBox l (i ∷ [])) (sym (one-length ns p)) (a, tt)
+
+-- where the cells of a block lie: by the quotients in the first matrix, and by the remainders in the second
+pub block-in_first : (ns ms : List ℕ) (p q m r : ℕ) (is : List ℕ) → length ns ≡ 2 → p < get_or ns 0 0 * get_or ms 0 0 → q < get_or ns 1 0 * get_or ms 1 0 → m ≡ get_or ms 0 0 → r ≡ get_or ms 1 0 → is ≡ p / m ∷ q / r ∷ [] → InBox ns is
+block-in_first ns ms p q m r is two row column em er e =
+    let a = quotient-below p (get_or ns 0 0) m (subst (λ k. p < get_or ns 0 0 * k) (sym em) row) in
+    let b = quotient-below q (get_or ns 1 0) r (subst (λ k. q < get_or ns 1 0 * k) (sym er) column) in
+    subst (InBox ns) (sym e) (in-two ns (p / m) (q / r) two a.1 b.1)
+
+pub block-in_second : (ns ms : List ℕ) (p q m r : ℕ) (is : List ℕ) → length ms ≡ 2 → p < get_or ns 0 0 * get_or ms 0 0 → q < get_or ns 1 0 * get_or ms 1 0 → m ≡ get_or ms 0 0 → r ≡ get_or ms 1 0 → is ≡ p % m ∷ q % r ∷ [] → InBox ms is
+block-in_second ns ms p q m r is two row column em er e =
+    let a = quotient-below p (get_or ns 0 0) m (subst (λ k. p < get_or ns 0 0 * k) (sym em) row) in
+    let b = quotient-below q (get_or ns 1 0) r (subst (λ k. q < get_or ns 1 0 * k) (sym er) column) in
+    subst (InBox ms) (sym e) (in-two ms (p % m) (q % r) two (subst (λ k. p % m < k) em a.2) (subst (λ k. q % r < k) er b.2))
+
+pub two-of : (ns : List ℕ) → HasOneOrTwoAxes ns → (length ns ≡ 1 → ⊥) → length ns ≡ 2
+two-of ns (inl one) not_one = absurd (not_one one)
+two-of ns (inr two) not_one = two

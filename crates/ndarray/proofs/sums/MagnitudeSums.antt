@@ -1,0 +1,105 @@
+-- Sums of absolute values, and the sums of all selections.
+use Rattle.std.proofs.Common.{◌≡◌, ℕ, suc, Bool, true, false, cond, List, [], ◌∷◌, ◌+◌, ◌≤◌, refl, sym, ap, ◌∙◌, subst, arith}
+use Rattle.std.specs.Prelude.{ℤ, pos, negsuc, neg_ℤ, ◌+ℤ◌, ◌*ℤ◌, ◌≤ℤ◌, unsigned_abs}
+use Rattle.std.specs.List.{AllByRecursion}
+use Rattle.std.proofs.lemmas.Int.{ints}
+use Rattle.ndarray.specs.Integers.{int_sums}
+use Rattle.ndarray.specs.Products.{magnitude_sum}
+use Rattle.ndarray.specs.Sums.{total, select, IsSummable}
+use Rattle.ndarray.proofs.sums.NonzeroProducts.{NegativeFits, negative-product, within}
+
+own-negative : (fits : ℤ → Type 0) (z : ℤ) → fits z → NegativeFits fits z
+unfolding NegativeFits
+own-negative fits z f n e = (n, subst fits e f)
+
+-- a product that is negative shows that some negative number fits
+pub negative-of_fits : (fits : ℤ → Type 0) (a b : ℤ) → fits a → fits b → NegativeFits fits (a *ℤ b)
+negative-of_fits fits a b fa fb = negative-product fits a b fa (own-negative fits b fb)
+
+none-negative : (fits : ℤ → Type 0) → NegativeFits fits (pos 0)
+unfolding NegativeFits
+none-negative fits n e = absurd (cc)
+
+abs-sum : (a b : ℤ) → unsigned_abs (a +ℤ b) ≤ unsigned_abs a + unsigned_abs b
+abs-sum (pos a) (pos b) = omega (arith, ints)
+abs-sum (pos a) (negsuc b) = omega (arith, ints)
+abs-sum (negsuc a) (pos b) = omega (arith, ints)
+abs-sum (negsuc a) (negsuc b) = omega (arith, ints)
+
+negative-sum : (fits : ℤ → Type 0) (a b : ℤ) → NegativeFits fits a → NegativeFits fits b → NegativeFits fits (a +ℤ b)
+unfolding NegativeFits
+negative-sum fits (pos a) (pos b) ha hb n e = absurd (omega (arith, ints, e))
+negative-sum fits (pos a) (negsuc b) ha hb n e = hb b refl
+negative-sum fits (negsuc a) b ha hb n e = ha a refl
+
+module _ (fits : ℤ → Type 0) where
+  selection : (b : Bool) (z : ℤ) (ys zs : List ℤ) → NegativeFits fits z → (unsigned_abs (total int_sums ys) ≤ magnitude_sum zs) × NegativeFits fits (total int_sums ys)
+      → (unsigned_abs (total int_sums (cond b (z ∷ ys) ys)) ≤ magnitude_sum (z ∷ zs)) × NegativeFits fits (total int_sums (cond b (z ∷ ys) ys))
+  selection true z ys zs f h =
+      let s = abs-sum z (total int_sums ys) in
+      (omega (arith, s, h.0), negative-sum fits z (total int_sums ys) f h.1)
+  selection false z ys zs f h = (omega (arith, h.0), h.1)
+
+  selections : (keep : ℕ → Bool) (zs : List ℤ) → AllByRecursion (NegativeFits fits) zs → (unsigned_abs (total int_sums (select keep zs)) ≤ magnitude_sum zs) × NegativeFits fits (total int_sums (select keep zs))
+  selections keep [] f = (omega arith, none-negative fits)
+  selections keep (z ∷ zs) f = selection (keep 0) z (select (λ i. keep (suc i)) zs) zs f.0 (selections (λ i. keep (suc i)) zs f.1)
+
+  -- where the sum of the absolute values fits, so does that of every selection
+  pub magnitudes-summable : ((x y z : ℤ) → fits x → fits z → x ≤ℤ y → y ≤ℤ z → fits y) → ((m n : ℕ) → fits (negsuc m) → fits (pos n) → fits (neg_ℤ (pos n))) → fits (pos 0)
+      → (zs : List ℤ) → AllByRecursion (NegativeFits fits) zs → fits (pos (magnitude_sum zs)) → IsSummable int_sums fits zs
+  magnitudes-summable between negated zero_fits zs f h = λ keep. let s = selections keep zs f in within fits between negated zero_fits (total int_sums (select keep zs)) (magnitude_sum zs) s.0 h s.1
+
+-- the sum of the absolute values of whole before rest is n, and fits; and a type that has a negative number where one of rest is negative has one where one of whole is
+pub record AddedSoFar (fits : ℤ → Type 0) (whole rest : List ℤ) (sum : ℤ) : Type 0 where
+  number : ℕ
+  is_number : sum ≡ pos number
+  pub in_range : fits sum
+  total_is : number + magnitude_sum rest ≡ magnitude_sum whole
+  signs : AllByRecursion (NegativeFits fits) rest → AllByRecursion (NegativeFits fits) whole
+
+pub added-start : (fits : ℤ → Type 0) (whole rest : List ℤ) (sum : ℤ) → rest ≡ whole → sum ≡ pos 0 → fits (pos 0) → AddedSoFar fits whole rest sum
+added-start fits whole rest sum e none h = record {
+  number = 0;
+  is_number = none;
+  in_range = subst fits (sym none) h;
+  total_is = (let p = ap magnitude_sum e in omega (arith, p));
+  signs = λ f. subst (AllByRecursion (NegativeFits fits)) e f;
+}
+
+pub added-end : (fits : ℤ → Type 0) (whole rest : List ℤ) (sum : ℤ) → rest ≡ [] → AddedSoFar fits whole rest sum → fits (pos (magnitude_sum whole)) × AllByRecursion (NegativeFits fits) whole
+added-end fits whole rest sum none h =
+    let p = ap magnitude_sum none in
+    let t = h.total_is in
+    let n : h.number ≡ magnitude_sum whole = omega (arith, t, p) in
+    (subst fits (h.is_number ∙ ap pos n) h.in_range, h.signs (subst (AllByRecursion (NegativeFits fits)) (sym none) tt))
+
+-- the next number is z
+module _ (fits : ℤ → Type 0) (whole now rest : List ℤ) (z sum : ℤ) (next : now ≡ z ∷ rest) (sign : NegativeFits fits z) (h : AddedSoFar fits whole now sum) where
+  total-next : (h.number + unsigned_abs z) + magnitude_sum rest ≡ magnitude_sum whole
+  total-next = let p = ap magnitude_sum next in let t = h.total_is in omega (arith, p, t)
+
+  sum-is : (size : ℤ) → size ≡ pos (unsigned_abs z) → sum +ℤ size ≡ pos (h.number + unsigned_abs z)
+  sum-is size e = ap (λ t. t +ℤ size) h.is_number ∙ ap (λ t. pos h.number +ℤ t) e
+
+  pub added-next : (size more : ℤ) → size ≡ pos (unsigned_abs z) → more ≡ sum +ℤ size → fits (sum +ℤ size) → AddedSoFar fits whole rest more
+  added-next size more e f g = record {
+    number = h.number + unsigned_abs z;
+    is_number = f ∙ sum-is size e;
+    in_range = subst fits (sym f) g;
+    total_is = total-next;
+    signs = λ k. h.signs (subst (AllByRecursion (NegativeFits fits)) (sym next) (sign, k));
+  }
+
+  module _ (between : (x y z : ℤ) → fits x → fits z → x ≤ℤ y → y ≤ℤ z → fits y) (zero_fits : fits (pos 0)) where
+    below : (n m : ℕ) → n ≤ m → fits (pos m) → fits (pos n)
+    below n m le f = between (pos 0) (pos n) (pos m) zero_fits f (omega (arith, ints)) (omega (arith, ints))
+
+    -- the sum with the next number is too large, and so is the whole one
+    pub added-excess : (size : ℤ) → size ≡ pos (unsigned_abs z) → (fits (sum +ℤ size) → ⊥) → fits (pos (magnitude_sum whole)) → ⊥
+    added-excess size e excess f =
+        let t = total-next in
+        excess (subst fits (sym (sum-is size e)) (below (h.number + unsigned_abs z) (magnitude_sum whole) (omega (arith, t)) f))
+
+    -- the number has no absolute value in the type
+    pub size-excess : (fits (pos (unsigned_abs z)) → ⊥) → fits (pos (magnitude_sum whole)) → ⊥
+    size-excess excess f = let t = total-next in excess (below (unsigned_abs z) (magnitude_sum whole) (omega (arith, t)) f)

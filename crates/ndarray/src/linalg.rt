@@ -1,0 +1,17 @@
+//! Products of vectors and matrices.
+//!
+//! A product is defined on the values of the cells (`specs/Matrices.antt`): at row i and column j, the sum of the products
+//! of row i of the left matrix with column j of the right one. Each call requires that every selection of the products of an
+//! inner sum has its sum in range, so that no order of adding leaves the range.
+
+mod dynamic;
+mod entries;
+mod general;
+mod inner;
+mod kronecker;
+mod products;
+mod scaled_addition;
+
+pub use crate::linalg::general::{general_mat_mul, general_mat_vec_mul, mat_mul_ok, mat_vec_ok};
+pub use crate::linalg::kronecker::{kron, kron_ok};
+pub use crate::linalg::products::{Dot, dot_ok};

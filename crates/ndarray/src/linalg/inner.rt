@@ -1,0 +1,136 @@
+//! Inner sums: of the products of a row and a column, of which each entry of a product of matrices is one.
+
+ghost use Rattle.std.specs.Prelude.{◌≡◌, length};
+ghost use Rattle.ndarray.specs.Grid.{IsGrid};
+ghost use Rattle.ndarray.specs.Products.{CanSumInner, column_of, matrix_of, product_of, products_of, row_of};
+ghost use Rattle.ndarray.specs.Sums.{IsSummable, total};
+
+use crate::base::array::{ArrayBase, ArrayView};
+use crate::base::axis::Axis;
+use crate::base::dimension::{Dimension, Ix1, Ix2};
+use crate::base::storage::Data;
+use crate::base::strided::Strided;
+use crate::elements::LinalgScalar;
+use crate::linalg::entries::Entries;
+
+/// The sum of the products of two vectors' cells, place by place, and zero where they have none. It allocates nothing.
+pub(crate) fn inner<A: LinalgScalar, S: Data<Elem = A>, S2: Data<Elem = A>>(
+    x: &ArrayBase<S, Ix1>,
+    y: &ArrayBase<S2, Ix1>,
+) -> A
+    requires same { length x.now.cells ≡ length y.now.cells }
+    requires sums { IsSummable A.addition A.InRange (products_of A.multiplication A.meaning x.now.cells y.now.cells) }
+    ensures { A.meaning result ≡ total A.addition (products_of A.multiplication A.meaning x.now.cells y.now.cells) }
+{
+    if let Some(xs) = x.as_slice() {
+        if let Some(ys) = y.as_slice() {
+            return inner_of_slices(xs, ys);
+        }
+    }
+    let mut sum = A::zero();
+    let mut left = cells_of(x.view());
+    let mut right = cells_of(y.view());
+    while let Some(a) = left.next() {
+        let Some(b) = right.next() else {
+            unreachable!()
+        };
+        sum = add_product(sum, *a, *b);
+    }
+    sum
+}
+
+/// The cells of a vector, one after another.
+#[inline(always)]
+fn cells_of<'a, A>(vector: ArrayView<'a, A, Ix1>) -> Strided<'a, A>
+    ensures { result ≡ vector.entry.cells }
+{
+    let len = vector.raw_dim().into_pattern();
+    if len == 0 {
+        return vector.no_cells();
+    }
+    vector.cells_along(&Ix1(0), 0, len)
+}
+
+/// The same of two slices.
+fn inner_of_slices<A: LinalgScalar>(xs: &[A], ys: &[A]) -> A
+    requires same { length xs.now ≡ length ys.now }
+    requires sums { IsSummable A.addition A.InRange (products_of A.multiplication A.meaning xs.now ys.now) }
+    ensures { A.meaning result ≡ total A.addition (products_of A.multiplication A.meaning xs.now ys.now) }
+{
+    let mut sum = A::zero();
+    for k in 0..xs.len() {
+        sum = add_product(sum, xs[k], ys[k]);
+    }
+    sum
+}
+
+/// A sum, and a product added to it.
+#[inline(always)]
+fn add_product<A: LinalgScalar>(sum: A, x: A, y: A) -> A
+    requires product { A.InRange (A.multiplication.op (A.meaning x) (A.meaning y)) }
+    requires added { A.InRange (A.addition.op (A.meaning sum) (A.multiplication.op (A.meaning x) (A.meaning y))) }
+    ensures { A.meaning result ≡ A.addition.op (A.meaning sum) (A.multiplication.op (A.meaning x) (A.meaning y)) }
+{
+    sum + x * y
+}
+
+/// The inner sums of the rows of a matrix with the columns of another.
+#[derive(Drop)]
+pub(crate) struct RowsByColumns<'a, 'b, A> {
+    pub(crate) left: ArrayView<'a, A, Ix2>,
+    pub(crate) right: ArrayView<'b, A, Ix2>,
+}
+
+impl<'a, 'b, A: LinalgScalar> Entries<(usize, usize)> for RowsByColumns<'a, 'b, A> {
+    type Elem = A;
+
+    ghost can_compute = { λ s t. CanSumInner A.Valued (matrix_of A.Valued s.left) (matrix_of A.Valued s.right) t.0 t.1 × (length s.left.lengths ≡ 2) × (length s.right.lengths ≡ 2) };
+
+    ghost computes = { λ s t r. A.meaning r ≡ (product_of A.Valued (matrix_of A.Valued s.left) (matrix_of A.Valued s.right)).cell t.0 t.1 };
+
+    fn entry(&self, at: (usize, usize)) -> A {
+        let (i, j) = at;
+        inner(
+            &self.left.index_axis(Axis(0), i),
+            &self.right.index_axis(Axis(1), j),
+        )
+    }
+}
+
+/// The inner sums of the rows of a matrix with a vector.
+#[derive(Drop)]
+pub(crate) struct RowsByVector<'a, 'b, A> {
+    pub(crate) left: ArrayView<'a, A, Ix2>,
+    pub(crate) right: ArrayView<'b, A, Ix1>,
+}
+
+impl<'a, 'b, A: LinalgScalar> Entries<usize> for RowsByVector<'a, 'b, A> {
+    type Elem = A;
+
+    ghost can_compute = { λ s i. CanSumInner A.Valued (matrix_of A.Valued s.left) (column_of A.Valued s.right) i 0 × (length s.left.lengths ≡ 2) × (length s.right.lengths ≡ 1) × IsGrid s.right };
+
+    ghost computes = { λ s i r. A.meaning r ≡ (product_of A.Valued (matrix_of A.Valued s.left) (column_of A.Valued s.right)).cell i 0 };
+
+    fn entry(&self, at: usize) -> A {
+        inner(&self.left.index_axis(Axis(0), at), &self.right)
+    }
+}
+
+/// The inner sums of a vector with the columns of a matrix.
+#[derive(Drop)]
+pub(crate) struct VectorByColumns<'a, 'b, A> {
+    pub(crate) left: ArrayView<'a, A, Ix1>,
+    pub(crate) right: ArrayView<'b, A, Ix2>,
+}
+
+impl<'a, 'b, A: LinalgScalar> Entries<usize> for VectorByColumns<'a, 'b, A> {
+    type Elem = A;
+
+    ghost can_compute = { λ s j. CanSumInner A.Valued (row_of A.Valued s.left) (matrix_of A.Valued s.right) 0 j × (length s.left.lengths ≡ 1) × (length s.right.lengths ≡ 2) × IsGrid s.left };
+
+    ghost computes = { λ s j r. A.meaning r ≡ (product_of A.Valued (row_of A.Valued s.left) (matrix_of A.Valued s.right)).cell 0 j };
+
+    fn entry(&self, at: usize) -> A {
+        inner(&self.left, &self.right.index_axis(Axis(1), at))
+    }
+}

@@ -1,0 +1,159 @@
+//! Products of vectors and matrices by `dot`.
+
+ghost use Rattle.std.specs.Prelude.{◌≡◌, ◌↔◌, IsTrue};
+ghost use Rattle.ndarray.specs.Products.{HasSumsInRange, MakesColumn, MakesMatrix, MakesRow, ShapesMultiply, column_of, matrix_of, product_of, products_of, row_of};
+ghost use Rattle.ndarray.specs.Sums.{IsSummable, total};
+
+use crate::base::array::{Array, ArrayBase};
+use crate::base::dimension::{Dimension, Ix1, Ix2, Lengths};
+use crate::base::storage::Data;
+use crate::elements::LinalgScalar;
+use crate::linalg::entries::array_of;
+use crate::linalg::inner::{RowsByColumns, RowsByVector, VectorByColumns, inner};
+use std::alloc::{AllocError, Global};
+
+/// What has a product with `Rhs`: vectors and matrices, with vectors and matrices.
+pub trait Dot<Rhs> {
+    /// The product: an element for two vectors, else an array or allocation failure.
+    type Output;
+
+    // Whether the product may be asked for.
+    ghost can_dot: { Self → Rhs → Type 0 };
+
+    // Whether this is the product.
+    ghost dot_gives: { Self → Rhs → Self.Output → Type 0 };
+
+    /// The product of the two, with this one on the left.
+    ///
+    /// Requires shapes that multiply, which [`dot_ok`] tells, and that of the products of each inner sum every selection
+    /// has its sum in range, for which `dot_fits` of each row and column is enough.
+    fn dot(&self, alloc: Global, rhs: &Rhs) -> Self::Output
+        requires { can_dot self.now rhs.now }
+        ensures { dot_gives self.now rhs.now result };
+}
+
+/// Whether two arrays have a product: each has one or two axes, the last length of the left is the first length of the right, and
+/// the lengths of the product that are not 0 multiply to at most `isize::MAX`.
+pub fn dot_ok<S: Data, S2: Data, D: Dimension, E: Dimension>(
+    left: &ArrayBase<S, D>,
+    right: &ArrayBase<S2, E>,
+) -> bool
+    ensures { IsTrue result ↔ ShapesMultiply left.now.lengths right.now.lengths }
+{
+    let (left, right) = (left.raw_dim(), right.raw_dim());
+    let (ns, ms) = (left.slice(), right.slice());
+    let (n, m) = (ns.len(), ms.len());
+    if n == 0 || n > 2 || m == 0 || m > 2 || ns[n - 1] != ms[0] {
+        return false;
+    }
+    if n == 1 || m == 1 {
+        return true;
+    }
+    Ix2(ns[0], ms[1]).size_ok()
+}
+
+impl<A: LinalgScalar, S: Data<Elem = A>, S2: Data<Elem = A>> Dot<ArrayBase<S2, Ix1>>
+    for ArrayBase<S, Ix1> {
+    type Output = A;
+
+    ghost can_dot = { λ a b. (a.lengths ≡ b.lengths) × IsSummable A.addition A.InRange (products_of A.multiplication A.meaning a.cells b.cells) };
+
+    ghost dot_gives = { λ a b r. A.meaning r ≡ total A.addition (products_of A.multiplication A.meaning a.cells b.cells) };
+
+    fn dot(&self, _alloc: Global, rhs: &ArrayBase<S2, Ix1>) -> A {
+        inner(&self.view(), &rhs.view())
+    }
+}
+
+impl<A: LinalgScalar, S: Data<Elem = A>, S2: Data<Elem = A>> Dot<ArrayBase<S2, Ix2>>
+    for ArrayBase<S, Ix1> {
+    type Output = Result<Array<A, Ix1>, AllocError>;
+
+    ghost can_dot = { λ a b. ShapesMultiply a.lengths b.lengths × HasSumsInRange A.Valued (row_of A.Valued a) (matrix_of A.Valued b) };
+
+    ghost dot_gives = { λ a b r. MakesRow A.Valued (product_of A.Valued (row_of A.Valued a) (matrix_of A.Valued b)) r };
+
+    fn dot(&self, alloc: Global, rhs: &ArrayBase<S2, Ix2>) -> Result<Array<A, Ix1>, AllocError> {
+        let (_, n) = rhs.raw_dim().into_pattern();
+        let sums = VectorByColumns {
+            left: self.view(),
+            right: rhs.view(),
+        };
+        array_of(alloc, Ix1(n), sums)
+    }
+}
+
+impl<A: LinalgScalar, S: Data<Elem = A>, S2: Data<Elem = A>> Dot<ArrayBase<S2, Ix1>>
+    for ArrayBase<S, Ix2> {
+    type Output = Result<Array<A, Ix1>, AllocError>;
+
+    ghost can_dot = { λ a b. ShapesMultiply a.lengths b.lengths × HasSumsInRange A.Valued (matrix_of A.Valued a) (column_of A.Valued b) };
+
+    ghost dot_gives = { λ a b r. MakesColumn A.Valued (product_of A.Valued (matrix_of A.Valued a) (column_of A.Valued b)) r };
+
+    fn dot(&self, alloc: Global, rhs: &ArrayBase<S2, Ix1>) -> Result<Array<A, Ix1>, AllocError> {
+        let (m, _) = self.raw_dim().into_pattern();
+        let sums = RowsByVector {
+            left: self.view(),
+            right: rhs.view(),
+        };
+        array_of(alloc, Ix1(m), sums)
+    }
+}
+
+impl<A: LinalgScalar, S: Data<Elem = A>, S2: Data<Elem = A>> Dot<ArrayBase<S2, Ix2>>
+    for ArrayBase<S, Ix2> {
+    type Output = Result<Array<A, Ix2>, AllocError>;
+
+    ghost can_dot = { λ a b. ShapesMultiply a.lengths b.lengths × HasSumsInRange A.Valued (matrix_of A.Valued a) (matrix_of A.Valued b) };
+
+    ghost dot_gives = { λ a b r. MakesMatrix A.Valued (product_of A.Valued (matrix_of A.Valued a) (matrix_of A.Valued b)) r };
+
+    fn dot(&self, alloc: Global, rhs: &ArrayBase<S2, Ix2>) -> Result<Array<A, Ix2>, AllocError> {
+        let (m, _) = self.raw_dim().into_pattern();
+        let (_, n) = rhs.raw_dim().into_pattern();
+        let sums = RowsByColumns {
+            left: self.view(),
+            right: rhs.view(),
+        };
+        array_of(alloc, Ix2(m, n), sums)
+    }
+}
+
+impl<S: Data> ArrayBase<S, Ix1> {
+    /// The product with a vector or a matrix on the right, as [`Dot::dot`]. With a vector it is the sum of the products of
+    /// their cells, and allocates nothing.
+    ///
+    /// ```
+    /// let (x, y) = (ArrayView::from_shape(2, &[1i64, 2])?, ArrayView::from_shape(2, &[3i64, 4])?);
+    /// if dot_fits(&x, &y) {
+    ///     assert_eq!(x.dot(alloc, &y), 11);
+    /// }
+    /// ```
+    pub fn dot<Rhs>(&self, alloc: Global, rhs: &Rhs) -> <Self as Dot<Rhs>>::Output
+    where
+        Self: Dot<Rhs>,
+        requires { ⟦<ArrayBase<S, Ix1> as Dot<Rhs>>⟧.can_dot self.now rhs.now }
+        ensures { ⟦<ArrayBase<S, Ix1> as Dot<Rhs>>⟧.dot_gives self.now rhs.now result }
+    {
+        Dot::dot(self, alloc, rhs)
+    }
+}
+
+impl<S: Data> ArrayBase<S, Ix2> {
+    /// The product with a vector or a matrix on the right, as [`Dot::dot`].
+    ///
+    /// ```
+    /// let a = ArrayView::from_shape((2, 2), &[1i64, 2, 0, 1])?;
+    /// let b = ArrayView::from_shape((2, 2), &[1i64, 2, 2, 3])?;
+    /// a.dot(alloc, &b)?; // [[5, 8], [2, 3]]
+    /// ```
+    pub fn dot<Rhs>(&self, alloc: Global, rhs: &Rhs) -> <Self as Dot<Rhs>>::Output
+    where
+        Self: Dot<Rhs>,
+        requires { ⟦<ArrayBase<S, Ix2> as Dot<Rhs>>⟧.can_dot self.now rhs.now }
+        ensures { ⟦<ArrayBase<S, Ix2> as Dot<Rhs>>⟧.dot_gives self.now rhs.now result }
+    {
+        Dot::dot(self, alloc, rhs)
+    }
+}

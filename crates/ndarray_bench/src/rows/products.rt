@@ -1,0 +1,161 @@
+//! Products of a table with another, of residues modulo 2^32, so that no sum leaves the range.
+
+use crate::residue::Residue;
+use crate::rows::answer::spelled;
+use crate::rows::calls::ViewCall;
+use crate::rows::layouts::{LAYOUTS, Table};
+use crate::rows::reading::{kind, viewed};
+use crate::rows::shown::push_lengths;
+use crate::rows::writing::views_spelled;
+use ndarray::linalg::{Dot, dot_ok, kron, kron_ok};
+use ndarray::{Array, ArrayView, Dimension, Ix2, IxDyn};
+use std::alloc::{AllocError, Global};
+
+/// A view of residues.
+type View<'a> = ArrayView<'a, Residue<0>, IxDyn>;
+
+/// What a product gives on a table, after calls that view it; `None` where the call after those is none.
+///
+/// It is carried out with each layout of the right table. Answers that differ are joined by `or`.
+pub fn answer(alloc: Global, table: &Table, calls: &[&str]) -> Result<Option<String>, AllocError> {
+    let views = views_spelled(alloc, calls)?;
+    let [call] = calls.get(views.len()..).unwrap_or(&[]) else {
+        return Ok(None);
+    };
+    let words: Vec<&str> = call.split_whitespace().collect(alloc)?;
+    let Some((name, words)) = words.as_slice().split_first() else {
+        return Ok(None);
+    };
+    match *name {
+        "dot" => computed(alloc, table, views.as_slice(), Product::Dot, words).map(Some),
+        "kron" => computed(alloc, table, views.as_slice(), Product::Kron, words).map(Some),
+        _ => Ok(None),
+    }
+}
+
+/// A product.
+#[derive(Clone, Copy)]
+enum Product {
+    Dot,
+    Kron,
+}
+
+/// The residues of numbers. One that is no `u32` counts as 0.
+fn residues(alloc: Global, numbers: &[i64]) -> Result<Vec<Residue<0>>, AllocError> {
+    let mut residues = Vec::new(alloc);
+    for number in numbers {
+        residues.push(Residue::new(u32::try_from(*number).unwrap_or(0)))?;
+    }
+    Ok(residues)
+}
+
+/// What a product gives on a table, after calls that view it, and the words of its right side.
+fn computed(
+    alloc: Global,
+    table: &Table,
+    views: &[ViewCall],
+    product: Product,
+    words: &[&str],
+) -> Result<String, AllocError> {
+    let cells = residues(alloc, table.cells.as_slice())?;
+    let view = match table.view_of(cells.as_slice()) {
+        Ok(view) => view,
+        Err(error) => return kind(alloc, &error),
+    };
+    match all_viewed(view, views) {
+        Some(view) => with_tables(alloc, &view, product, words),
+        None => "refused".to_string(alloc),
+    }
+}
+
+/// The view that calls make of a view; `None` where a test of one of them says no.
+fn all_viewed<'a>(given: View<'a>, calls: &[ViewCall]) -> Option<View<'a>> {
+    let mut view = given;
+    for call in calls {
+        view = match viewed(view, *call) {
+            Ok(Some(next)) => next,
+            _ => return None,
+        };
+    }
+    Some(view)
+}
+
+/// What a product gives with a table, which these words spell, in each layout of it.
+fn with_tables(
+    alloc: Global,
+    left: &View<'_>,
+    product: Product,
+    words: &[&str],
+) -> Result<String, AllocError> {
+    let mut text = String::new(alloc);
+    for layout in LAYOUTS {
+        let Some(table) = spelled(alloc, words, *layout)? else {
+            return "not understood".to_string(alloc);
+        };
+        let cells = residues(alloc, table.cells.as_slice())?;
+        let answer = match table.view_of(cells.as_slice()) {
+            Ok(right) => between(alloc, left, product, &right)?,
+            Err(error) => kind(alloc, &error)?,
+        };
+        push_text(&mut text, answer.as_str())?;
+    }
+    Ok(text)
+}
+
+/// Appends an answer to other answers, unless it is the same.
+fn push_text(text: &mut String, next: &str) -> Result<(), AllocError> {
+    if text.as_str() == next {
+        return Ok(());
+    }
+    if !text.is_empty() {
+        text.push_str(" or ")?;
+    }
+    text.push_str(next)
+}
+
+/// What a product gives between two tables; `refused` where its test says no.
+fn between(
+    alloc: Global,
+    left: &View<'_>,
+    product: Product,
+    right: &View<'_>,
+) -> Result<String, AllocError> {
+    match product {
+        Product::Dot => dotted(alloc, left, right),
+        Product::Kron => kronecker(alloc, left, right),
+    }
+}
+
+/// What `dot` gives.
+fn dotted(alloc: Global, left: &View<'_>, right: &View<'_>) -> Result<String, AllocError> {
+    if dot_ok(left, right) {
+        shown(alloc, &Dot::dot(left, alloc, right)?)
+    } else {
+        "refused".to_string(alloc)
+    }
+}
+
+/// What `kron` gives on tables of two axes.
+fn kronecker(alloc: Global, left: &View<'_>, right: &View<'_>) -> Result<String, AllocError> {
+    let Ok(a) = left.view().into_dimensionality::<Ix2>() else {
+        return "refused".to_string(alloc);
+    };
+    let Ok(b) = right.view().into_dimensionality::<Ix2>() else {
+        return "refused".to_string(alloc);
+    };
+    if kron_ok(&a, &b) {
+        shown(alloc, &kron(alloc, &a, &b)?)
+    } else {
+        "refused".to_string(alloc)
+    }
+}
+
+/// The lengths of an array and its cells in row order.
+fn shown<D: Dimension>(alloc: Global, array: &Array<Residue<0>, D>) -> Result<String, AllocError> {
+    let mut text = String::new(alloc);
+    push_lengths(&mut text, array.shape())?;
+    for cell in array.iter() {
+        write!(&mut text, " {}", cell.number())?;
+    }
+    Ok(text)
+}
