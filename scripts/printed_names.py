@@ -57,6 +57,9 @@ def name_of_impl(module, header, homes):
         if said[0] == "Array" and "<" in of_trait and right in ([], ["Array"]):
             # Of an operator between an array and another one, or a scalar of any type, the parameters are told too.
             return f"{module}::ArrayAnyAny{name}{'' if right else 'Any'}"
+        if right and right == words(kind, names):
+            # Of a trait whose parameter is of the type's own form, it is told once.
+            said[1] = name
         return f"{module}::{said[0] or 'Any'}{said[1]}"
     own, *inside = words(kind)
     if own in homes and all(it in names for it in inside):
