@@ -1,10 +1,13 @@
 -- Joining arrays along an axis, or along a new one, and when that is an error.
-use Rattle.std.specs.Prelude.{ℕ, ◌+◌, ◌-◌, ◌^◌, Bool, not, nat_lt, if◌then◌else◌, List, [], ◌∷◌, length, map, sum_by, insert, remove, slice_get, slice_index, slice_set, Option, Some, None, option_and_then}
+use Rattle.std.specs.Prelude.{ℕ, ◌+◌, ◌-◌, ◌^◌, Bool, not, nat_lt, if◌then◌else◌, List, [], ◌∷◌, length, map, sum_by, insert, remove, slice_get, slice_index, slice_set, Option, Some, None, codes, option_and_then}
 use Rattle.std.specs.List.{list_all}
+use Rattle.ndarray.specs.Errors.{refusal_text}
 use Rattle.ndarray.specs.Grid.{Grid, cell, same_index, tabulate}
 use Rattle.ndarray.specs.Limits.{nonzero_size}
 use Rattle.ndarray.specs.declared.base.error.ErrorKind.{ErrorKind}
 use Rattle.ndarray.specs.declared.base.error.ErrorKind.TheVariants.{IncompatibleShape, RangeLimited, OutOfBounds, Unsupported, Overflow}
+use Rattle.ndarray.specs.declared.stacking.error.StackError.{StackError}
+use Rattle.ndarray.specs.declared.stacking.error.StackError.TheVariants.{Shape, Memory}
 
 -- the lengths of each array
 abbrev pub shapes_of : {A : Type 0} → List (Grid A) → List (List ℕ)
@@ -65,3 +68,8 @@ stack_error axis (ns ∷ nss) =
     else if nat_lt 32 (length ns + 1) then Some RangeLimited
     else if not (is_within_limit (stacked_lengths axis (ns ∷ nss))) then Some Overflow
     else None
+
+-- what is written of an error of joining arrays
+abbrev pub stack_error_text : StackError → List ℕ
+stack_error_text (Shape e) = refusal_text e
+stack_error_text (Memory e) = codes "memory allocation failed"

@@ -1,6 +1,7 @@
 //! Why arrays are not joined.
 
-ghost use Rattle.std.specs.Prelude.{◌≡◌};
+ghost use Rattle.std.specs.Prelude.{◌≡◌, Some};
+ghost use Rattle.ndarray.specs.Joining.{stack_error_text};
 ghost use Rattle.ndarray.specs.declared.stacking.error.StackError.TheVariants.{Shape, Memory};
 
 use crate::base::error::ShapeError;
@@ -33,10 +34,12 @@ impl From<AllocError> for StackError {
 }
 
 impl fmt::Display for StackError {
+    ghost output = { λ e. Some (stack_error_text e) };
+
     fn fmt<W: fmt::Write>(&self, f: &mut fmt::Formatter<W>) -> fmt::Result {
         match *self {
             StackError::Shape(error) => write!(f, "{error}"),
-            StackError::Memory(error) => write!(f, "{error}"),
+            StackError::Memory(_) => f.write_str("memory allocation failed"),
         }
     }
 }
