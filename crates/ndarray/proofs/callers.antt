@@ -3,6 +3,9 @@ pub mod Collecting
 pub mod Differences
 pub mod Elementwise
 pub mod Folding
+pub mod Joining
 pub mod Lanes
+pub mod Products
 pub mod RowOrder
 pub mod Testing
+pub mod Triangles

@@ -1,2 +1,3 @@
 mod Grants
+pub mod FibonacciPowers
 pub mod PairedProducts

@@ -1,3 +1,4 @@
 pub mod Callers
+pub mod Fibonacci
 pub mod PairedProducts
 pub mod Residue

@@ -3,6 +3,8 @@
 use std::hint::black_box;
 use std::time::Instant;
 
+const PRODUCTS: [&str; 2] = ["product", "product_best_order"];
+
 const NAMES: [&str; 36] = [
     "sum", "sum_axis_rows", "sum_axis_columns", "iter", "iter_transposed", "iter_stepped", "iter_mut", "indexed_iter", "indexed_iter_mut",
     "to_owned", "to_owned_column_major", "into_iter_of_a_copy", "windows_3x3", "axis_iter", "columns", "zip_one_fold", "zip_one_for_each", "zip_two_fold",
@@ -17,7 +19,8 @@ fn main() {
     let words: Vec<usize> = std::env::args().skip(1).map(|it| it.parse().unwrap()).collect();
     let (n, turns) = (words[0], words[1]);
     let (mut a, b, c) = (vec![3i64; n * n], vec![4i64; n * n], vec![5i64; n * n]);
-    for name in NAMES {
+    let names: &[&str] = if n <= 256 { &PRODUCTS } else { &NAMES };
+    for name in names {
         let (mut best, mut answers) = (u128::MAX, 0i64);
         for _ in 0..turns {
             let start = Instant::now();
@@ -166,6 +169,26 @@ fn walk(name: &str, n: usize, a: &mut [i64], b: &[i64], c: &[i64]) -> i64 {
             let mut made = Vec::with_capacity(n * n);
             for cells in a.chunks(n) {
                 made.extend(cells.iter().zip(row).map(|(x, y)| x.wrapping_add(*y)));
+            }
+            return made[n + 1];
+        }
+        "product" => {
+            let mut made = Vec::with_capacity(n * n);
+            for row in b.chunks(n) {
+                for j in 0..n {
+                    made.push(row.iter().enumerate().fold(0, |sum: i64, (k, x)| sum.wrapping_add(x.wrapping_mul(c[k * n + j]))));
+                }
+            }
+            return made[n + 1];
+        }
+        "product_best_order" => {
+            let mut made = vec![0i64; n * n];
+            for (sums, row) in made.chunks_mut(n).zip(b.chunks(n)) {
+                for (x, other) in row.iter().zip(c.chunks(n)) {
+                    for (sum, y) in sums.iter_mut().zip(other) {
+                        *sum = sum.wrapping_add(x.wrapping_mul(*y));
+                    }
+                }
             }
             return made[n + 1];
         }

@@ -1,18 +1,19 @@
 //! Functions that a user would write over the library, each with what it computes as its contract. docs/CALLING.md
 //! goes through them.
 
-ghost use Rattle.std.specs.Prelude.{◌≡◌, ◌<◌, ◌∷◌, [], ◌+ℤ◌, ◌-ℤ◌, ℕ, ℤ, List, Some, length, max, nat_lt, slice_index, IfOk, IfSome, FitsSigned};
+ghost use Rattle.std.specs.Prelude.{◌≡◌, ◌<◌, ◌≤◌, ◌^◌, ◌∷◌, [], ◌++◌, ◌+ℤ◌, ◌-ℤ◌, ℕ, ℤ, List, Some, length, max, nat_lt, pos, replicate, slice_index, IfOk, IfSome, IsTrue, FitsSigned};
 ghost use Rattle.std.specs.Int.{w64};
 ghost use Rattle.std.specs.List.{fold, list_all, list_any};
 ghost use Rattle.ndarray.specs.AlongAxis.{Cumulates, IsDifference, one_further};
 ghost use Rattle.ndarray.specs.Elementwise.{CanCombine, Combines};
-ghost use Rattle.ndarray.specs.Grid.{arranged, cell};
+ghost use Rattle.ndarray.specs.Grid.{IsGrid, arranged, cell, one_axis};
 ghost use Rattle.ndarray.specs.Index.{InBox};
 ghost use Rattle.ndarray.specs.Integers.{int_products, int_sums};
 ghost use Rattle.ndarray.specs.Joining.{stacked};
 ghost use Rattle.ndarray.specs.Products.{matrix_of, product_of, products_of};
 ghost use Rattle.ndarray.specs.Subviews.{lane};
-ghost use Rattle.ndarray.specs.Sums.{total, total_by};
+ghost use Rattle.ndarray.specs.Sums.{IsSummable, total, total_by};
+ghost use Rattle.ndarray.specs.Views.{axis_item};
 ghost use Rattle.ndarray_bench.specs.Callers.{half_at, sum_at, sum_below};
 ghost use Rattle.ndarray_bench.specs.Residue.{Below, modulus, modulus_pos, residue_products, residue_sums};
 
@@ -20,7 +21,8 @@ use crate::residue::Residue;
 use ndarray::linalg::dot_ok;
 use ndarray::reduce::dot_fits;
 use ndarray::{
-    Array, ArrayBase, Axis, Data, DimMax, Dimension, Ix1, Ix2, StackError, Valued, Zip, stack,
+    Array, ArrayBase, ArrayView, Axis, Data, DimMax, Dimension, Ix1, Ix2, StackError, Valued, Zip,
+    concatenate, stack,
 };
 use std::alloc::{AllocError, Global};
 
@@ -162,6 +164,41 @@ pub fn two_rows(
     stack(alloc, Axis(0), &[first.view(), second.view()])
 }
 
+/// Two vectors, one behind the other, whatever keeps their cells and however they lie.
+pub fn appended<S: Data<Elem = i64>, T: Data<Elem = i64>>(
+    alloc: Global,
+    first: &ArrayBase<S, Ix1>,
+    second: &ArrayBase<T, Ix1>,
+) -> Result<Array<i64, Ix1>, StackError>
+    ensures { IfOk result (λ r. r ≡ one_axis (first.now.cells ++ second.now.cells)) }
+{
+    concatenate(alloc, Axis(0), &[first.view(), second.view()])
+}
+
+/// A signal with zeros behind it.
+pub fn padded<S: Data<Elem = i64>>(
+    alloc: Global,
+    signal: &ArrayBase<S, Ix1>,
+    more: usize,
+) -> Result<Array<i64, Ix1>, StackError>
+    requires { more < 2 ^ 63 }
+    ensures { IfOk result (λ p. p ≡ one_axis (signal.now.cells ++ replicate more (pos 0))) }
+{
+    let zeros: Array<i64, Ix1> = Array::zeros(alloc, more)?;
+    appended(alloc, signal, &zeros)
+}
+
+/// The cells of a table on and below its diagonal, and zero above it.
+pub fn lower_part<S: Data<Elem = i64>>(
+    alloc: Global,
+    a: &ArrayBase<S, Ix2>,
+) -> Result<Array<i64, Ix2>, AllocError>
+    ensures kept { IfOk result (λ l. (i j : ℕ) → InBox a.now.lengths (i ∷ j ∷ []) → j ≤ i → cell l (i ∷ j ∷ []) ≡ cell a.now (i ∷ j ∷ [])) }
+    ensures zero { IfOk result (λ l. (i j : ℕ) → InBox a.now.lengths (i ∷ j ∷ []) → i < j → cell l (i ∷ j ∷ []) ≡ Some (pos 0)) }
+{
+    a.tril(alloc, 0)
+}
+
 /// The inner sum of two vectors, or `None` where they are not of one length, or the absolute values of the products add up to
 /// more than the greatest `i64`.
 pub fn inner_sum<S: Data<Elem = i64>, T: Data<Elem = i64>>(
@@ -191,4 +228,34 @@ pub fn residue_product<const M: u32, S: Data<Elem = Residue<M>>, T: Data<Elem = 
     }
     let product = a.dot(alloc, b)?;
     Ok(Some(product))
+}
+
+/// A matrix times a vector, or `None` where the lengths do not meet, or the absolute values of the products of some row with
+/// the vector add up to more than the greatest `i64`.
+pub fn matrix_times_vector<S: Data<Elem = i64>, T: Data<Elem = i64>>(
+    alloc: Global,
+    a: &ArrayBase<S, Ix2>,
+    x: &ArrayBase<T, Ix1>,
+) -> Result<Option<Array<i64, Ix1>>, AllocError>
+    ensures { IfOk result (λ made. IfSome made (λ r. (i : ℕ) (z : ℤ) → cell r (i ∷ []) ≡ Some z → z ≡ total int_sums (products_of int_products (λ y. y) (axis_item a.now 0 i).cells x.now.cells))) }
+{
+    let (a, x) = (a.view(), x.view());
+    if !dot_ok(&a, &x) || !rows_fit(&a, &x) {
+        return Ok(None);
+    }
+    let product = a.dot(alloc, &x)?;
+    Ok(Some(product))
+}
+
+/// Whether each row of a matrix and a vector pass `dot_fits`.
+fn rows_fit(a: &ArrayView<'_, i64, Ix2>, x: &ArrayView<'_, i64, Ix1>) -> bool
+    requires { length a.now.lengths ≡ 2 }
+    ensures { IsTrue result → (i : ℕ) → i < slice_index a.now.lengths 0 → IsGrid (axis_item a.now 0 i) × IsSummable int_sums (FitsSigned w64) (products_of int_products (λ y. y) (axis_item a.now 0 i).cells x.now.cells) }
+{
+    for i in 0..a.len_of(Axis(0)) {
+        if !dot_fits(&a.index_axis(Axis(0), i), x) {
+            return false;
+        }
+    }
+    true
 }

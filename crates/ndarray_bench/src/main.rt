@@ -6,6 +6,7 @@
 #![tactic(auto)]
 
 pub mod callers;
+pub mod fibonacci;
 pub mod refusing;
 pub mod residue;
 mod rows;

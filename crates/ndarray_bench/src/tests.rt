@@ -11,6 +11,7 @@ mod ops;
 mod order;
 mod owned;
 mod refusing;
+mod residues;
 mod shown;
 mod writing;
 mod zip;

@@ -1,7 +1,9 @@
 -- Diagonals of the last two axes that are kept.
 use Rattle.std.proofs.Common.{◌≡◌, ◌-◌, ◌<◌, ◌≤◌, ◌^◌, ◌⊎◌, inl, inr, ℕ, List, [], ◌∷◌, Option, Some, Bool, true, false, length, get_or, refl, sym, ◌∙◌, ap, arith, subst}
 use Rattle.std.specs.Prelude.{ℤ, pos, negsuc, ◌≤ℤ◌, int_le, T, ◌&&◌, All, filter_map, if◌then◌else◌}
-use Rattle.std.proofs.lemmas.Bool.{cases_lt, le-ltb, lt-ltb}
+use Rattle.std.proofs.Math.Bool.{and-true}
+use Rattle.std.proofs.lemmas.Bool.{cases_lt, false_from_ne_true, le-ltb, lt-ltb}
+use Rattle.std.proofs.lemmas.Float.{T_from_true}
 use Rattle.std.proofs.lemmas.Int.{ints}
 use Rattle.std.proofs.lemmas.List.Elements.{All-head}
 use Rattle.ndarray.specs.Grid.{Grid, IsGrid, cell, grid, tabulate, tabulated}
@@ -109,16 +111,16 @@ module _ (ns is : List ℕ) (limit : nonzero_size ns < 2 ^ 63) (b : InBox ns is)
       let row : get_or is (length is - 2) 0 < 2 ^ 63 = fit (length is - 2) 0 (omega arith) in
       (omega (arith, ints), omega (arith, ints))
 
-passed : (x y : ℤ) → x ≤ℤ y → int_le x y ≡ true
-passed x y h = of_T (int_le x y) h.le
+-- what a test of whole numbers answers
+pub int_le-true : (x y : ℤ) → x ≤ℤ y → int_le x y ≡ true
+int_le-true x y h = of_T (int_le x y) h.le
   where
     of_T : (t : Bool) → T t → t ≡ true
     of_T true h = refl
     of_T false h = absurd h
 
-and-true : (t : Bool) → (t && true) ≡ t
-and-true true = refl
-and-true false = refl
+pub int_le-false : (x y : ℤ) → (x ≤ℤ y → ⊥) → int_le x y ≡ false
+int_le-false x y above = false_from_ne_true (int_le x y) (λ e. above (record { le = T_from_true (int_le x y) e }))
 
 -- a bound that every difference of indices keeps
 module _ {A : Type 0} (k : ℤ) (zero_cell : A) (g : Grid A) (limit : nonzero_size g.lengths < 2 ^ 63) where
@@ -127,11 +129,11 @@ module _ {A : Type 0} (k : ℤ) (zero_cell : A) (g : Grid A) (limit : nonzero_si
       diagonals-alike (λ d. int_le k d && int_le d (pos 9223372036854775807)) (λ d. int_le k d) zero_cell g
       (λ is b axes.
       let d : ℤ = column_minus_row is in
-      ap (λ t. int_le k d && t) (passed d (pos 9223372036854775807) (difference-fits g.lengths is limit b axes).1) ∙ and-true (int_le k d))
+      ap (λ t. int_le k d && t) (int_le-true d (pos 9223372036854775807) (difference-fits g.lengths is limit b axes).1) ∙ and-true (int_le k d))
 
   pub lower-is : diagonals_kept (λ d. int_le (negsuc 9223372036854775807) d && int_le d k) zero_cell g ≡ lower_triangle k zero_cell g
   lower-is =
       diagonals-alike (λ d. int_le (negsuc 9223372036854775807) d && int_le d k) (λ d. int_le d k) zero_cell g
       (λ is b axes.
       let d : ℤ = column_minus_row is in
-      ap (λ t. t && int_le d k) (passed (negsuc 9223372036854775807) d (difference-fits g.lengths is limit b axes).0))
+      ap (λ t. t && int_le d k) (int_le-true (negsuc 9223372036854775807) d (difference-fits g.lengths is limit b axes).0))

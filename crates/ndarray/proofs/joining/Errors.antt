@@ -5,6 +5,7 @@ use Rattle.std.specs.Cmp.Lexicographic.{pointwise}
 use Rattle.std.specs.List.{list_all}
 use Rattle.std.proofs.Math.Seq.{drop-cons}
 use Rattle.std.proofs.lemmas.Bool.{cases_lt, and_left, and_parts, le-ltb, lt-ltb, not_from_false, not_from_true}
+use Rattle.std.proofs.lemmas.List.Elements.{All-cons}
 use Rattle.std.proofs.lemmas.List.{get_or-set_same, get_or_default, length-map, length-set, set-set, set-get_or}
 use Rattle.ndarray.specs.Grid.{Grid, IsGrid, same_index}
 use Rattle.ndarray.specs.Joining.{concatenate_error, concatenated_lengths, is_same_but_along, is_within_limit, shapes_of, stack_error, stacked_lengths}
@@ -108,10 +109,6 @@ module _ {A : Type 0} where
         subst IsGrid (is ∙ (get_or_default gs i g d lt ∙ ap (λ n. get_or gs n d) (sym e))) w)
   ]
 
-  pub All-first : (P : Grid A → Type 0) (g : Grid A) (gs : List (Grid A)) → P g → All P gs → All P (g ∷ gs)
-  All-first P g gs h t zero d lt = h
-  All-first P g gs h t (suc k) d lt = t k d (omega arith)
-
   -- ---- the error of shapes of which only the size is left to see
 
   module _ (a : ℕ) (g : Grid A) (gs : List (Grid A)) where
@@ -165,7 +162,7 @@ module _ {A : Type 0} where
       pub axes-below : All (λ h. a < length h.lengths) gs
       axes-below =
           subst (All (λ h. a < length h.lengths)) (sym all)
-          (All-first (λ h. a < length h.lengths) g rest below
+          (All-cons (λ h. a < length h.lengths) g rest below
           (λ k d lt. let e = ap length (each-but_along a g.lengths rest same k d lt) ∙ length-set g.lengths a (get_or (get_or rest k d).lengths a 0) in omega (arith, e, below)))
 
       pub concatenate-overflow : (IsWithinLimit (set g.lengths a (sum_by (λ ns. get_or ns a 0) (shapes_of gs))) → ⊥) → concatenate_error a (shapes_of gs) ≡ Some Overflow
@@ -184,7 +181,7 @@ module _ {A : Type 0} where
             lengths = sums;
             outer = outer;
             outer_limit = subst IsWithinLimit (sym outer) (omega (arith, within, own));
-            whole = All-first IsGrid g rest whole wholes;
+            whole = All-cons IsGrid g rest whole wholes;
           })
 
     module _ (most : a ≤ length g.lengths) (same : list_all (same_index g.lengths) (shapes_of rest) ≡ true) (few : length g.lengths < 32) where
@@ -206,5 +203,5 @@ module _ {A : Type 0} where
             lengths = lengths ∙ counted;
             outer = outer;
             outer_limit = subst IsWithinLimit (sym outer) (omega (arith, within, own));
-            whole = All-first IsGrid g rest whole wholes;
+            whole = All-cons IsGrid g rest whole wholes;
           })

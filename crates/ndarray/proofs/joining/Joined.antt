@@ -1,12 +1,12 @@
 -- The blocks of several arrays, one after another, are the arrays joined along an axis, and those stacked.
-use Rattle.std.proofs.Common.{◌≡◌, ℕ, ◌+◌, ◌*◌, ◌-◌, ◌<◌, ◌≤◌, suc, zero, List, [], ◌∷◌, ◌++◌, Some, None, length, drop, set, get_or, insert, remove, inl, inr, refl, sym, ◌∙◌, ap, arith, subst}
+use Rattle.std.proofs.Common.{◌≡◌, ℕ, ◌+◌, ◌*◌, ◌-◌, ◌<◌, ◌≤◌, suc, List, [], ◌∷◌, ◌++◌, Some, None, length, drop, set, get_or, insert, remove, inl, inr, refl, sym, ◌∙◌, ap, arith, subst}
 use Rattle.std.specs.Prelude.{◌^◌, nat_lt, not, slice_get, sum_by, option_and_then, All, if◌then◌else◌}
 use Rattle.std.specs.List.{list_all}
 use Rattle.std.proofs.lemmas.Bool.{cases_lt, lt-ltb, le-ltb, ltb-false, ltb-true}
 use Rattle.std.proofs.lemmas.Nat.{mul-le}
 use Rattle.std.proofs.lemmas.List.{drop-set, drop-set-lt, get_or-set_same, length-map, length-set, set-get_or, set-set}
 use Rattle.std.proofs.lemmas.List.Edits.{get_or-insert_at, length-insert}
-use Rattle.std.proofs.lemmas.List.Elements.{All-head, All-tail}
+use Rattle.std.proofs.lemmas.List.Elements.{All-cons, All-head, All-tail}
 use Rattle.std.proofs.lemmas.List.Sums.{sum_by-cons}
 use Rattle.std.proofs.lemmas.Option.{slice_get-get_or}
 use Rattle.std.proofs.Math.Seq.{drop-cons}
@@ -212,10 +212,6 @@ sum-shapes a [] = refl
 sum-shapes a (g ∷ gs) =
     sum_by-cons (λ ms. get_or ms a 0) g.lengths (shapes_of gs)
     ∙ (ap (λ n. get_or g.lengths a 0 + n) (sum-shapes a gs) ∙ sym (sum_by-cons (λ h. get_or h.lengths a 0) g gs))
-
-All-cons : {X : Type 0} (P : X → Type 0) (x : X) (xs : List X) → P x → All P xs → All P (x ∷ xs)
-All-cons P x xs h t zero d lt = h
-All-cons P x xs h t (suc k) d lt = t k d (omega arith)
 
 -- arrays that may be joined along an axis, of which ns are the first one's lengths
 record AreAlong {A : Type 0} (a : ℕ) (ns : List ℕ) (gs : List (Grid A)) : Type 0 where

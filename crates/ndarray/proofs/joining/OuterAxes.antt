@@ -48,7 +48,7 @@ ones-all a zero (n ∷ ns) le = absurd (omega arith)
 ones-all zero (suc k) (n ∷ ns) le = ap (λ l. 1 ∷ l) (ones-all zero k ns (omega arith))
 ones-all (suc a) (suc k) (n ∷ ns) le = ap (λ l. n ∷ l) (ones-all a k ns (omega arith))
 
-nonzero-ones : (m : ℕ) → nonzero_size (replicate m 1) ≡ 1
+pub nonzero-ones : (m : ℕ) → nonzero_size (replicate m 1) ≡ 1
 nonzero-ones zero = refl
 nonzero-ones (suc m) = let e = nonzero-ones m in omega arith
 
@@ -143,7 +143,7 @@ InBox-inner (suc a) [] ps b some = b
 InBox-inner (suc a) (n ∷ ns) [] b some = absurd b
 InBox-inner (suc a) (n ∷ ns) (p ∷ ps) b some = (b.0, InBox-inner a ns ps b.1 some)
 
-rank-zeros : (ns : List ℕ) (m : ℕ) → rank ns (replicate m 0) ≡ 0
+pub rank-zeros : (ns : List ℕ) (m : ℕ) → rank ns (replicate m 0) ≡ 0
 unfolding rank
 rank-zeros [] m = refl
 rank-zeros (n ∷ ns) zero = refl

@@ -1,10 +1,10 @@
 -- Turns that fill an array, seen as turns that gather answers.
-use Rattle.std.proofs.Common.{◌≡◌, ℕ, ◌+◌, ◌<◌, List, [], ◌∷◌, ◌++◌, length, Result, Ok, Err, refl, sym, subst, ◌∙◌, ap, arith, inl, inr}
+use Rattle.std.proofs.Common.{◌≡◌, ℕ, ◌<◌, List, [], ◌∷◌, ◌++◌, length, Result, Err, subst, ◌∙◌, ap, arith, inl, inr}
 use Rattle.std.specs.List.{FoldsTo}
 use Rattle.std.proofs.lemmas.List.{length-append}
 use Rattle.ndarray.specs.Index.{size}
 use Rattle.ndarray.specs.Orders.{box_in}
-use Rattle.ndarray.specs.Runs.{MayTurnAt, TurnAt, TakesAt, StopsAt, EndsOrStops, GatherTurn, MayGather}
+use Rattle.ndarray.specs.Runs.{MayTurnAt, TurnAt, TakesAt, EndsOrStops, GatherTurn, MayGather}
 use Rattle.ndarray.specs.Updates.{answers}
 use Rattle.ndarray.specs.base.Builder.{BuilderState, pushed_to}
 use Rattle.ndarray.specs.declared.base.shape.Order.{Order}

@@ -1,4 +1,4 @@
-use Rattle.std.proofs.Common.{◌≡◌, List, [], ap, ◌∙◌, arith, refl}
+use Rattle.std.proofs.Common.{ap, ◌∙◌, arith}
 use Rattle.ndarray.specs.Index.{size}
 use Rattle.ndarray.proofs.boxes.Orders.{length-box_in}
 use Rattle.ndarray.proofs.runs.Answers.{gathered-length}

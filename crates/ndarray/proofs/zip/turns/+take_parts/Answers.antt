@@ -1,4 +1,4 @@
-use Rattle.std.proofs.Common.{arith, subst, Ok, Err, Result}
+use Rattle.std.proofs.Common.{arith, subst}
 use Rattle.ndarray.specs.Orders.{box_in}
 use Rattle.ndarray.specs.Runs.{TurnAt, StopsAt, EndsOrStops}
 use Rattle.ndarray.specs.order.Cuts.{IsCut}

@@ -1,7 +1,5 @@
-use Rattle.std.proofs.Common.{◌≡◌, ◌∙◌, ap, sym, subst}
-use Rattle.ndarray.specs.Orders.{box_in}
-use Rattle.ndarray.specs.Runs.{MayGather}
-use Rattle.ndarray.specs.Updates.{is_cell_beside, answers, UpdatesUntil}
+use Rattle.std.proofs.Common.{subst}
+use Rattle.ndarray.specs.Updates.{is_cell_beside, UpdatesUntil}
 use Rattle.ndarray.proofs.cells.Cells.{cells_in-HasInOrder}
 use Rattle.ndarray.proofs.zip.updating.try_update.Goals as goal
 

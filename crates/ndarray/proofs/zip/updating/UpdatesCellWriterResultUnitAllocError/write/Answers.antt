@@ -1,4 +1,4 @@
-use Rattle.std.proofs.Common.{◌≡◌, ◌∙◌, ap, sym, subst, map, Ok, Err}
+use Rattle.std.proofs.Common.{◌∙◌, ap, sym, subst, map, Ok, Err}
 use Rattle.ndarray.specs.Grid.{cell}
 use Rattle.ndarray.specs.Orders.{box_in}
 use Rattle.ndarray.specs.Runs.{MayGather}
