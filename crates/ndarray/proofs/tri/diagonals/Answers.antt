@@ -9,7 +9,7 @@ use Rattle.ndarray.specs.Orders.{cells_in}
 use Rattle.ndarray.specs.Triangles.{diagonals_kept}
 use Rattle.ndarray.specs.base.Builder.{pushed_all}
 use Rattle.ndarray.specs.declared.base.shape.Order.TheVariants.{RowMajor}
-use Rattle.ndarray.proofs.boxes.Boxes.{InBox-length}
+use Rattle.ndarray.proofs.boxes.Boxes.{InBox-length, InBox-some}
 use Rattle.ndarray.proofs.boxes.Orders.{row_order-is}
 use Rattle.ndarray.proofs.cells.Cells.{along-row_order}
 use Rattle.ndarray.proofs.cells.Diagonals.{diagonals-of, indices-fit, kept-one, kept_at, length-all_kept, next-cell, next-kept, none-kept}
@@ -137,3 +137,11 @@ returns-clause-cells g c =
     (sym (along-row_order r c.finish.ensures.whole) ∙ (ap (λ o. cells_in o r) (sym order) ∙ (c.finish.ensures.list ∙ cells)))
     ∙ (ap (λ z. diagonals_kept (λ d. int_le z d && int_le d (cast_signed w64 (cast_unsigned w64 c.args.last))) g.A.Zero.zero c.args.array.now) (to_z-of_z w64 c.args.first c.ranges.first)
     ∙ ap (λ z. diagonals_kept (λ d. int_le c.args.first d && int_le d z) g.A.Zero.zero c.args.array.now) (to_z-of_z w64 c.args.last c.ranges.last))
+
+pub returns-in_err-cell_or_zero-clause-empty : goal.returns-in_err-cell_or_zero-clause-empty
+returns-in_err-cell_or_zero-clause-empty g c none =
+    let i = c.loop-index.invariant in
+    let is = g.D.Lengths.numbers c.in-Some.index in
+    let (b, here, rest) = next-cell (λ d. int_le (cast_signed w64 (cast_unsigned w64 c.args.first)) d && int_le d (cast_signed w64 (cast_unsigned w64 c.args.last))) g.A.Zero.zero c.args.array.now c.raw_dim-dim.ensures.whole c.loop-index.index-iterator.a c.next.new.self.a is c.in-Some.cell.now c.loop-index.index-iterator.b c.next.new.self.b i.within c.in-Some.ensures.steps.0 i.cells c.in-Some.ensures.steps.1 in
+    let some = InBox-some c.args.array.now.lengths is b in
+    absurd (omega (arith, none, some))

@@ -1,4 +1,4 @@
-use Rattle.std.proofs.Common.{subst}
+use Rattle.std.proofs.Common.{subst, rules}
 use Rattle.ndarray.specs.Updates.{is_cell_beside, UpdatesUntil}
 use Rattle.ndarray.proofs.cells.Cells.{cells_in-HasInOrder}
 use Rattle.ndarray.proofs.zip.updating.try_update.Goals as goal
@@ -29,3 +29,6 @@ returns-in-Err-clause-ran g c =
       subst (λ w. UpdatesUntil (is_cell_beside v (g.P.NdProducer.yields_at w.other)) call_gives o w.f v r new) back.0
           (subst (λ w. UpdatesUntil (is_cell_beside w (g.P.NdProducer.yields_at given.other)) call_gives o given.f w r new) back.1 c.try_update_each.ensures.ran),
     )
+
+pub try_update_each-requires-clause-callable : goal.try_update_each-requires-clause-callable
+try_update_each-requires-clause-callable g c = search rules

@@ -1,4 +1,4 @@
-use Rattle.std.proofs.Common.{◌∙◌, [], ◌∷◌, ap, get_or, refl, subst, sym}
+use Rattle.std.proofs.Common.{◌≡◌, ◌∙◌, ◌-◌, [], ◌∷◌, ap, arith, get_or, length, refl, slice_index, subst, sym}
 use Rattle.ndarray.specs.Products.{MakesValues, column_entries, column_of, matrix_entries, matrix_of, product_of, row_entries, row_of}
 use Rattle.ndarray.proofs.boxes.ProductShapes.{lengths-one_one, lengths-one_two, lengths-two_one, lengths-two_two, two-of}
 use Rattle.ndarray.proofs.cells.Products.{dynamic-can, dynamic-gives, values-of}
@@ -59,3 +59,13 @@ returns g c =
     dynamic-gives v c.args.self.now c.args.rhs.now c.as_matrix-left.result c.as_matrix-2.result c.as_matrix-left.ensures.same c.as_matrix-2.ensures.same 2 2 left right _ (matrix_entries (product_of v (matrix_of v c.as_matrix-left.result) (matrix_of v c.as_matrix-2.result))) c.into_dynamic-2.result
     ((ap (λ u. get_or u.lengths 0 0 ∷ get_or c.as_matrix-2.result.lengths 1 0 ∷ []) c.as_matrix-left.ensures.same ∙ ap (λ u. get_or c.args.self.now.lengths 0 0 ∷ get_or u.lengths 1 0 ∷ []) c.as_matrix-2.ensures.same) ∙ sym (lengths-two_two c.args.self.now.lengths c.args.rhs.now.lengths left right)) (λ is. refl)
     (subst (λ r. MakesValues v (get_or c.as_matrix-left.result.lengths 0 0 ∷ get_or c.as_matrix-2.result.lengths 1 0 ∷ []) (matrix_entries (product_of v (matrix_of v c.as_matrix-left.result) (matrix_of v c.as_matrix-2.result))) r) (sym c.into_dynamic-2.ensures) c.dot-2.ensures)
+
+pub array_of-requires-clause-can : goal.array_of-requires-clause-can
+array_of-requires-clause-can g c x within =
+    let v = g.A.Valued in
+    let left = sym c.ndim.ensures.value ∙ c.if-ndim-eq1.true in
+    let right = sym c.ndim-then-ndim-eq1.ensures.value ∙ c.if-ndim-eq1-2.true in
+    let can = dynamic-can v c.args.self.now c.args.rhs.now c.as_vector-left.result c.as_vector.result c.as_vector-left.ensures.same c.as_vector.ensures.same 1 1 left right c.requires.0 c.requires.1 in
+    let one = ap (λ z. length z.lengths) c.as_vector-left.ensures.same ∙ left in
+    let other = ap (λ z. length z.lengths) c.as_vector.ensures.same ∙ right in
+    (record { inner = subst (λ k. slice_index c.as_vector-left.result.lengths (k - 1) ≡ slice_index c.as_vector.result.lengths 0) one can.0.inner; row = omega arith; column = omega arith; sums = can.1 0 0 (omega arith) (omega arith) }, one, other, c.as_vector-left.ensures.whole, c.as_vector.ensures.whole)
