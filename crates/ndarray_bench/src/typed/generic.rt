@@ -1,9 +1,9 @@
 //! Loops that write, in code that does not know what keeps the cells.
 
-use crate::tests::layouts::array;
-use crate::tests::shown::shows;
+use crate::typed::checks::Checks;
+use crate::typed::layouts::array;
 use ndarray::{ArrayBase, Axis, DataMut, Dimension, RemoveAxis};
-use std::test::Fail;
+use std::alloc::{AllocError, Global};
 
 /// Writes a value into the first cell of each row, then another into the first of each column.
 fn begin_lanes<A: Copy, S: DataMut<Elem = A>, D: Dimension>(
@@ -45,22 +45,20 @@ fn fill_chunks<A: Copy, S: DataMut<Elem = A>, D: Dimension>(array: &mut ArrayBas
     }
 }
 
-#[test]
-fn lanes_are_begun(rt: HostRuntime) -> Result<(), Fail> {
-    let mut array = array(rt.alloc())?;
+pub fn lanes_are_begun(alloc: Global, checks: &mut Checks) -> Result<(), AllocError> {
+    let mut array = array(alloc)?;
     begin_lanes(&mut array, 7, 8);
-    shows(&rt, rt.alloc(), &array.view(), "[2, 3]: [8, 8, 8, 7, 5, 6]")?;
+    checks.shows(alloc, &array.view(), "[2, 3]: [8, 8, 8, 7, 5, 6]")?;
     begin_lanes(&mut array.view_mut().reversed_axes(), 1, 2);
-    shows(&rt, rt.alloc(), &array.view(), "[2, 3]: [2, 1, 1, 2, 5, 6]")?;
+    checks.shows(alloc, &array.view(), "[2, 3]: [2, 1, 1, 2, 5, 6]")?;
     Ok(())
 }
 
-#[test]
-fn items_and_chunks_are_filled(rt: HostRuntime) -> Result<(), Fail> {
-    let mut array = array(rt.alloc())?;
+pub fn items_and_chunks_are_filled(alloc: Global, checks: &mut Checks) -> Result<(), AllocError> {
+    let mut array = array(alloc)?;
     fill_items(&mut array, 7);
-    shows(&rt, rt.alloc(), &array.view(), "[2, 3]: [7, 7, 7, 7, 7, 7]")?;
+    checks.shows(alloc, &array.view(), "[2, 3]: [7, 7, 7, 7, 7, 7]")?;
     fill_chunks(&mut array.view_mut().reversed_axes(), 5);
-    shows(&rt, rt.alloc(), &array.view(), "[2, 3]: [5, 5, 5, 5, 5, 5]")?;
+    checks.shows(alloc, &array.view(), "[2, 3]: [5, 5, 5, 5, 5, 5]")?;
     Ok(())
 }
