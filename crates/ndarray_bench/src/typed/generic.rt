@@ -2,8 +2,34 @@
 
 use crate::typed::checks::Checks;
 use crate::typed::layouts::array;
-use ndarray::{ArrayBase, Axis, DataMut, Dimension, RemoveAxis};
+use ndarray::{
+    ArrayBase, ArrayViewMut, ArrayViewMut1, Axis, DataMut, Dimension, Lengths, RemoveAxis,
+};
 use std::alloc::{AllocError, Global};
+
+/// Writes a value into the first cell of a lane.
+fn begin<A: Copy>(lane: &mut ArrayViewMut1<'_, A>, value: A) {
+    if let Some(cell) = lane.get_mut(0) {
+        *cell = value;
+    }
+}
+
+/// Writes a value into the first cell of each row.
+fn begin_rows<A: Copy, S: DataMut<Elem = A>, D: Dimension>(array: &mut ArrayBase<S, D>, value: A) {
+    for mut lane in array.rows_mut() {
+        begin(&mut lane, value);
+    }
+}
+
+/// Writes a value into the first cell of each column.
+fn begin_columns<A: Copy, S: DataMut<Elem = A>, D: Dimension>(
+    array: &mut ArrayBase<S, D>,
+    value: A,
+) {
+    for mut lane in array.columns_mut() {
+        begin(&mut lane, value);
+    }
+}
 
 /// Writes a value into the first cell of each row, then another into the first of each column.
 fn begin_lanes<A: Copy, S: DataMut<Elem = A>, D: Dimension>(
@@ -11,15 +37,21 @@ fn begin_lanes<A: Copy, S: DataMut<Elem = A>, D: Dimension>(
     row: A,
     column: A,
 ) {
-    for mut lane in array.rows_mut() {
-        if let Some(cell) = lane.get_mut(0) {
-            *cell = row;
-        }
+    begin_rows(array, row);
+    begin_columns(array, column);
+}
+
+/// Writes a value into each cell of a view.
+fn fill<A: Copy, D: Lengths>(view: &mut ArrayViewMut<'_, A, D>, value: A) {
+    for cell in view.iter_mut() {
+        *cell = value;
     }
-    for mut lane in array.columns_mut() {
-        if let Some(cell) = lane.get_mut(0) {
-            *cell = column;
-        }
+}
+
+/// Writes a value into each cell of a view, beside its index list.
+fn fill_indexed<A: Copy, D: Dimension>(view: &mut ArrayViewMut<'_, A, D>, value: A) {
+    for (_index, cell) in view.indexed_iter_mut() {
+        *cell = value;
     }
 }
 
@@ -27,9 +59,7 @@ fn begin_lanes<A: Copy, S: DataMut<Elem = A>, D: Dimension>(
 fn fill_items<A: Copy, S: DataMut<Elem = A>, D: RemoveAxis>(array: &mut ArrayBase<S, D>, value: A) {
     if array.axis_ok(Axis(0)) {
         for mut item in array.axis_iter_mut(Axis(0)) {
-            for cell in item.iter_mut() {
-                *cell = value;
-            }
+            fill(&mut item, value);
         }
     }
 }
@@ -38,9 +68,7 @@ fn fill_items<A: Copy, S: DataMut<Elem = A>, D: RemoveAxis>(array: &mut ArrayBas
 fn fill_chunks<A: Copy, S: DataMut<Elem = A>, D: Dimension>(array: &mut ArrayBase<S, D>, value: A) {
     if array.chunk_ok(Axis(0), 2) {
         for mut chunk in array.axis_chunks_iter_mut(Axis(0), 2) {
-            for (_index, cell) in chunk.indexed_iter_mut() {
-                *cell = value;
-            }
+            fill_indexed(&mut chunk, value);
         }
     }
 }
