@@ -1,11 +1,9 @@
 //! Operations that change an array cell by cell.
 
-use crate::tests::asserted::holds;
-use crate::tests::layouts::square;
-use crate::tests::shown::shows;
+use crate::typed::checks::Checks;
+use crate::typed::layouts::square;
 use ndarray::{ArrayBase, ArrayView1, Data, DataMut, Ix1, Ix2};
-use std::alloc::AllocError;
-use std::test::Fail;
+use std::alloc::{AllocError, Global};
 
 /// Adds a row to each row, up to a cell that holds 3.
 fn add_up_to_three<S: DataMut<Elem = i64>, T: Data<Elem = i64>>(
@@ -24,11 +22,13 @@ fn add_up_to_three<S: DataMut<Elem = i64>, T: Data<Elem = i64>>(
     })
 }
 
-#[test]
-fn a_refused_update_leaves_the_cells_to_come(rt: HostRuntime) -> Result<(), Fail> {
-    let mut array = square(rt.alloc())?;
+pub fn a_refused_update_leaves_the_cells_to_come(
+    alloc: Global,
+    checks: &mut Checks,
+) -> Result<(), AllocError> {
+    let mut array = square(alloc)?;
     let row = ArrayView1::from([10i64, 20].as_slice());
-    holds(&rt, add_up_to_three(&mut array, &row).is_err());
-    shows(&rt, rt.alloc(), &array.view(), "[2, 2]: [11, 22, 3, 4]")?;
+    checks.holds(add_up_to_three(&mut array, &row).is_err());
+    checks.shows(alloc, &array.view(), "[2, 2]: [11, 22, 3, 4]")?;
     Ok(())
 }

@@ -1,39 +1,33 @@
 //! Walking arrays together: what a proof of a caller needs. What each call answers is tested by
 //! crates/ndarray_bench/unproved/zip.txt, and proved in the library.
 
-use crate::tests::asserted::{holds, same};
-use crate::tests::layouts::{array, table};
-use crate::tests::shown::shows;
+use crate::typed::checks::Checks;
+use crate::typed::layouts::{array, table};
 use crate::walked::products_of_two_layouts;
 use ndarray::zip::{One, Parts};
 use ndarray::{
     ArrayBase, ArrayView1, Axis, Data, DataMut, FoldWhile, Ix1, Ix2, NdProducer, Zip, azip,
 };
+use std::alloc::{AllocError, Global};
 use std::cell::Cell;
-use std::test::Fail;
 
-#[test]
-fn dot_of_two_layouts(rt: HostRuntime) {
-    same(&rt, products_of_two_layouts(), 88);
+pub fn dot_of_two_layouts(checks: &mut Checks) {
+    checks.same(products_of_two_layouts(), 88);
 }
 
-#[test]
-fn what_fits_and_what_broadcasts(rt: HostRuntime) -> Result<(), Fail> {
-    let a = table()?;
+pub fn what_fits_and_what_broadcasts(checks: &mut Checks) {
+    let a = table();
     let pair = ArrayView1::from([10i64, 20].as_slice());
-    holds(&rt, !Zip::from(&a).fits(&a.t()));
-    holds(&rt, !Zip::from(&a).broadcasts(&pair));
-    holds(&rt, Zip::from(&a).broadcasts(&a.index_axis(Axis(0), 1)));
-    Ok(())
+    checks.holds(!Zip::from(&a).fits(&a.t()));
+    checks.holds(!Zip::from(&a).broadcasts(&pair));
+    checks.holds(Zip::from(&a).broadcasts(&a.index_axis(Axis(0), 1)));
 }
 
-#[test]
-fn azip_adds(rt: HostRuntime) -> Result<(), Fail> {
-    let a = table()?;
+pub fn azip_adds(checks: &mut Checks) {
+    let a = table();
     let total = Cell::new(0i64);
     azip!((&x in &a) total.set(total.get().wrapping_add(x)));
-    same(&rt, total.get(), 21);
-    Ok(())
+    checks.same(total.get(), 21);
 }
 
 /// Doubles, in code that does not know what keeps the cells.
@@ -48,12 +42,11 @@ fn double_into<S: Data<Elem = i64>, T: DataMut<Elem = i64>>(
     true
 }
 
-#[test]
-fn a_generic_caller_doubles(rt: HostRuntime) -> Result<(), Fail> {
-    let a = array(rt.alloc())?;
-    let mut b = array(rt.alloc())?;
-    holds(&rt, double_into(&a, &mut b));
-    shows(&rt, rt.alloc(), &b.view(), "[2, 3]: [2, 4, 6, 8, 10, 12]")?;
+pub fn a_generic_caller_doubles(alloc: Global, checks: &mut Checks) -> Result<(), AllocError> {
+    let a = array(alloc)?;
+    let mut b = array(alloc)?;
+    checks.holds(double_into(&a, &mut b));
+    checks.shows(alloc, &b.view(), "[2, 3]: [2, 4, 6, 8, 10, 12]")?;
     Ok(())
 }
 
@@ -83,10 +76,9 @@ fn has_six<'a, N: NdProducer<Item = &'a u64, Dim = Ix1>>(zip: Zip<Parts<N, One>,
     zip.any(|x| *x == 6)
 }
 
-#[test]
-fn a_producer_is_asked(rt: HostRuntime) {
+pub fn a_producer_is_asked(checks: &mut Checks) {
     let a = ArrayView1::from([1u64, 6, 5].as_slice());
-    same(&rt, first_above_one(Zip::from(&a)), 6);
-    holds(&rt, all_below_seven(Zip::from(&a)));
-    holds(&rt, has_six(Zip::from(&a)));
+    checks.same(first_above_one(Zip::from(&a)), 6);
+    checks.holds(all_below_seven(Zip::from(&a)));
+    checks.holds(has_six(Zip::from(&a)));
 }

@@ -1,11 +1,9 @@
 //! Views to write in: two held together, a view within a view, and slices taken from them.
 
-use crate::tests::asserted::{holds, same};
-use crate::tests::layouts::{array, table};
-use crate::tests::shown::shows;
+use crate::typed::checks::Checks;
+use crate::typed::layouts::{array, table};
 use ndarray::{ArrayView, ArrayViewMut, ArrayViewMut1, Axis, Dimension, Ix0, Slice};
-use std::process::Abort;
-use std::test::Fail;
+use std::alloc::{AllocError, Global};
 
 /// Writes ten times the first cell of a view into its second.
 fn tenfold(view: &mut ArrayViewMut1<'_, i64>) {
@@ -32,21 +30,17 @@ fn tenfold_ends<'a, I: DoubleEndedIterator<Item = ArrayViewMut1<'a, i64>> + Drop
     }
 }
 
-#[test]
-fn two_columns_held_together_are_written(rt: HostRuntime) -> Result<(), Fail> {
-    let mut array = array(rt.alloc())?;
+pub fn two_columns_held_together_are_written(
+    alloc: Global,
+    checks: &mut Checks,
+) -> Result<(), AllocError> {
+    let mut array = array(alloc)?;
     tenfold_ends(array.axis_iter_mut(Axis(1)));
-    shows(
-        &rt,
-        rt.alloc(),
-        &array.view(),
-        "[2, 3]: [1, 2, 3, 10, 5, 30]",
-    )?;
+    checks.shows(alloc, &array.view(), "[2, 3]: [1, 2, 3, 10, 5, 30]")?;
     Ok(())
 }
 
-#[test]
-fn a_cell_of_one_axis_is_a_view_of_none(rt: HostRuntime) -> Result<(), Fail> {
+pub fn a_cell_of_one_axis_is_a_view_of_none(checks: &mut Checks) {
     let mut numbers = [1i64, 2, 3];
     let mut view = ArrayViewMut1::from(numbers.as_mut_slice());
     if let Some(cell) = view.get_mut(2) {
@@ -58,37 +52,37 @@ fn a_cell_of_one_axis_is_a_view_of_none(rt: HostRuntime) -> Result<(), Fail> {
     }
     drop(cell);
     drop(view);
-    same(&rt, numbers, [1, 8, 9]);
-    Ok(())
+    checks.same(numbers, [1, 8, 9]);
 }
 
-/// Ends the run unless a view is this slice, and writes 9 to its last cell.
-fn is_slice<D: Dimension>(rt: &impl Abort, view: ArrayViewMut<'_, i64, D>, cells: &[i64]) {
+/// Checks that a view is this slice, and writes 9 to its last cell.
+fn is_slice<D: Dimension>(checks: &mut Checks, view: ArrayViewMut<'_, i64, D>, cells: &[i64]) {
     match view.try_into_slice() {
         Ok(slice) => {
-            same(rt, &*slice, cells);
+            checks.same(&*slice, cells);
             if let Some(last) = slice.last_mut() {
                 *last = 9;
             }
         }
-        Err(_view) => holds(rt, false),
+        Err(_view) => checks.holds(false),
     }
 }
 
-#[test]
-fn cells_side_by_side_in_row_order_are_a_slice(rt: HostRuntime) -> Result<(), Fail> {
-    let mut array = array(rt.alloc())?;
-    is_slice(&rt, array.index_axis_mut(Axis(0), 0), &[1, 2, 3]);
-    is_slice(&rt, array.view_mut(), &[1, 2, 9, 4, 5, 6]);
-    shows(&rt, rt.alloc(), &array.view(), "[2, 3]: [1, 2, 9, 4, 5, 9]")?;
+pub fn cells_side_by_side_in_row_order_are_a_slice(
+    alloc: Global,
+    checks: &mut Checks,
+) -> Result<(), AllocError> {
+    let mut array = array(alloc)?;
+    is_slice(checks, array.index_axis_mut(Axis(0), 0), &[1, 2, 3]);
+    is_slice(checks, array.view_mut(), &[1, 2, 9, 4, 5, 6]);
+    checks.shows(alloc, &array.view(), "[2, 3]: [1, 2, 9, 4, 5, 9]")?;
     Ok(())
 }
 
-#[test]
-fn a_column_is_no_slice(rt: HostRuntime) -> Result<(), Fail> {
-    let mut array = array(rt.alloc())?;
+pub fn a_column_is_no_slice(alloc: Global, checks: &mut Checks) -> Result<(), AllocError> {
+    let mut array = array(alloc)?;
     let column = array.index_axis_mut(Axis(1), 1);
-    holds(&rt, column.try_into_slice().is_err());
+    checks.holds(column.try_into_slice().is_err());
     Ok(())
 }
 
@@ -101,25 +95,22 @@ fn are_slices<D: Dimension>(view: &ArrayView<'_, i64, D>) -> (bool, bool, bool) 
     )
 }
 
-#[test]
-fn an_array_just_made_is_a_slice(rt: HostRuntime) -> Result<(), Fail> {
-    let array = array(rt.alloc())?;
+pub fn an_array_just_made_is_a_slice(alloc: Global, checks: &mut Checks) -> Result<(), AllocError> {
+    let array = array(alloc)?;
     let cells = [1i64, 2, 3, 4, 5, 6];
     let view = array.view();
-    same(&rt, array.as_slice(), Some(cells.as_slice()));
-    same(&rt, array.as_slice_memory_order(), Some(cells.as_slice()));
-    same(&rt, view.to_slice(), Some(cells.as_slice()));
+    checks.same(array.as_slice(), Some(cells.as_slice()));
+    checks.same(array.as_slice_memory_order(), Some(cells.as_slice()));
+    checks.same(view.to_slice(), Some(cells.as_slice()));
     Ok(())
 }
 
-#[test]
-fn stepped_reversed_and_transposed_cells_are_no_slice(rt: HostRuntime) -> Result<(), Fail> {
-    let view = table()?;
+pub fn stepped_reversed_and_transposed_cells_are_no_slice(checks: &mut Checks) {
+    let view = table();
     let stepped = view.slice_axis(Axis(1), Slice::new(0, None, 2));
-    same(&rt, are_slices(&stepped), (false, false, false));
-    same(&rt, are_slices(&view.t()), (false, false, true));
+    checks.same(are_slices(&stepped), (false, false, false));
+    checks.same(are_slices(&view.t()), (false, false, true));
     let mut reversed = view;
     reversed.invert_axis(Axis(1));
-    same(&rt, are_slices(&reversed), (false, false, false));
-    Ok(())
+    checks.same(are_slices(&reversed), (false, false, false));
 }

@@ -1,0 +1,128 @@
+//! Tests of what rows cannot say: types and tuples, generic callers, closures. Each is an ordinary function, so that the
+//! program is proved once, with them.
+
+mod base;
+mod checks;
+mod fixed;
+mod generic;
+mod iter;
+mod iter_mut;
+mod layouts;
+mod ops;
+mod order;
+mod owned;
+mod refusing;
+mod residues;
+mod shown;
+mod writing;
+mod zip;
+
+use crate::counts::Counts;
+use crate::typed::checks::Checks;
+use std::io;
+
+/// Carries out tests, prints the names of those that fail, and counts them. A test that is written with `alloc` needs
+/// memory.
+macro_rules! carried_out {
+    ($rt:ident, $counts:ident; $($module:ident::$test:ident($($alloc:ident)?)),+ $(,)?) => {{
+        let mut counts = $counts;
+        $(
+            counts = carried_out!(@one $rt, counts; $module, $test $(, $alloc)?);
+        )+
+        Ok(counts)
+    }};
+    (@one $rt:ident, $counts:ident; $module:ident, $test:ident) => {{
+        let mut checks = Checks::new();
+        $module::$test(&mut checks);
+        counted($rt, $counts, stringify!($test), checks)?
+    }};
+    (@one $rt:ident, $counts:ident; $module:ident, $test:ident, alloc) => {{
+        let mut checks = Checks::new();
+        $module::$test($rt.alloc(), &mut checks)?;
+        counted($rt, $counts, stringify!($test), checks)?
+    }};
+}
+
+/// Carries out each test, prints the names of those that fail, and counts them.
+pub fn carried_out<R: Print + AllocGlobal>(rt: &R, given: Counts) -> io::Result<Counts> {
+    let counts = of_dimensions(rt, given)?;
+    let counts = of_reading(rt, counts)?;
+    let counts = of_writing(rt, counts)?;
+    of_callers(rt, counts)
+}
+
+/// The tests of dimensions, shapes and index lists.
+fn of_dimensions<R: Print + AllocGlobal>(rt: &R, given: Counts) -> io::Result<Counts> {
+    carried_out!(rt, given;
+        base::what_is_written_for_a_dimension(),
+        base::patterns_read_as_tuples(),
+        base::an_axis_put_in_and_taken_out(),
+        base::the_limit_on_shapes(),
+        base::which_numbers_of_axes_a_type_has(),
+        base::numbers_are_read_and_set(),
+        base::index_lists_are_tuples_or_arrays(),
+        base::a_shape_in_column_order_takes_the_first_elements(),
+        order::the_last_index_fastest(alloc),
+        order::the_first_index_fastest(alloc),
+        order::the_box_of_no_lengths_is_one_empty_list(),
+        order::a_box_with_an_empty_axis_is_empty(),
+        order::one_axis_from_both_ends(),
+        order::a_huge_empty_box_ends_at_once(),
+    )
+}
+
+/// The tests of views to read and their iterators.
+fn of_reading<R: Print + AllocGlobal>(rt: &R, given: Counts) -> io::Result<Counts> {
+    carried_out!(rt, given;
+        fixed::windows_and_chunks_by_tuples(alloc),
+        fixed::subviews_have_one_axis_fewer(alloc),
+        fixed::a_seventh_axis_is_inserted(alloc),
+        fixed::ranges_are_slices(),
+        iter::both_ends_meet(),
+        iter::folds_go_in_row_order_or_back(),
+        owned::cells_may_own_memory(alloc),
+    )
+}
+
+/// The tests of views to write in and their iterators.
+fn of_writing<R: Print + AllocGlobal>(rt: &R, given: Counts) -> io::Result<Counts> {
+    carried_out!(rt, given;
+        iter_mut::two_cells_held_together_are_exchanged(alloc),
+        iter_mut::index_patterns_are_tuples(alloc),
+        iter_mut::both_ends_of_a_step_are_written_and_the_rest_stays(alloc),
+        writing::two_columns_held_together_are_written(alloc),
+        writing::a_cell_of_one_axis_is_a_view_of_none(),
+        writing::cells_side_by_side_in_row_order_are_a_slice(alloc),
+        writing::a_column_is_no_slice(alloc),
+        writing::an_array_just_made_is_a_slice(alloc),
+        writing::stepped_reversed_and_transposed_cells_are_no_slice(),
+    )
+}
+
+/// The tests of generic callers, closures and what the program has of its own.
+fn of_callers<R: Print + AllocGlobal>(rt: &R, given: Counts) -> io::Result<Counts> {
+    carried_out!(rt, given;
+        generic::lanes_are_begun(alloc),
+        generic::items_and_chunks_are_filled(alloc),
+        ops::a_refused_update_leaves_the_cells_to_come(alloc),
+        refusing::refuses_one_request(alloc),
+        refusing::lists_grow_or_are_left(alloc),
+        residues::products_of_residues(alloc),
+        residues::a_general_product_of_residues(alloc),
+        residues::fibonacci_numbers_of_residues(alloc),
+        zip::dot_of_two_layouts(),
+        zip::what_fits_and_what_broadcasts(),
+        zip::azip_adds(),
+        zip::a_generic_caller_doubles(alloc),
+        zip::a_producer_is_asked(),
+    )
+}
+
+/// One test more, whose name is printed where it fails.
+fn counted<R: Print>(rt: &R, counts: Counts, name: &str, checks: Checks) -> io::Result<Counts> {
+    let has_passed = checks.have_passed();
+    if !has_passed {
+        println!(rt; "{name}: {checks}")?;
+    }
+    Ok(counts.with(has_passed))
+}
