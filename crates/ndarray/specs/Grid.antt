@@ -1,6 +1,5 @@
 -- What a contract sees of an array: its lengths, and its cells.
-use Rattle.std.specs.Prelude.{◌≡◌, ℕ, Bool, true, false, ◌&&◌, nat_eq, if◌then◌else◌, List, [], ◌∷◌, length, map, Option, Some, None, All, filter_map, refl}
-use Rattle.std.specs.Coded.{Coded, code_by, coded×, coded_list, coded_ℕ}
+use Rattle.std.specs.Prelude.{◌≡◌, ℕ, Bool, true, false, ◌&&◌, nat_eq, if◌then◌else◌, List, [], ◌∷◌, length, map, Option, Some, None, All, filter_map}
 use Rattle.ndarray.specs.Index.{InBox, size, row_order}
 
 -- an array: its lengths, and the cells of its box in row order
@@ -10,9 +9,6 @@ pub record Grid (A : Type 0) : Type 0 where
 
 abbrev pub grid : {A : Type 0} → List ℕ → List A → Grid A
 grid ns xs = record { lengths = ns; cells = xs }
-
-abbrev pub grid_code : {A : Type 0} → Coded A → Coded (Grid A)
-grid_code {A} c = code_by (List ℕ × List A) (coded× (coded_list coded_ℕ) (coded_list c)) (λ g. (g.lengths, g.cells)) (λ p. grid p.0 p.1) (λ _. refl)
 
 -- as many cells as the box has index lists
 abbrev pub IsGrid : {A : Type 0} → Grid A → Type 0
