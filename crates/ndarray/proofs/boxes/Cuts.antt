@@ -1,5 +1,5 @@
 -- A box in an order as those of its two halves, one after the other.
-use Rattle.std.proofs.Common.{◌≡◌, ℕ, ◌+◌, ◌-◌, ◌<◌, ◌≤◌, suc, zero, List, [], ◌∷◌, ◌++◌, length, map, reverse, set, get_or, sum, inl, inr, refl, sym, ◌∙◌, ap, arith, subst}
+use Rattle.std.proofs.Common.{◌≡◌, ◌≢◌, ℕ, ◌+◌, ◌-◌, ◌<◌, ◌≤◌, suc, zero, List, [], ◌∷◌, ◌++◌, length, map, reverse, set, get_or, sum, inl, inr, refl, sym, ◌∙◌, ap, arith, subst}
 use Rattle.std.specs.Prelude.{flat_map}
 use Rattle.std.specs.List.{range_with_len}
 use Rattle.std.proofs.lemmas.Bool.{cases_eq}
@@ -10,6 +10,7 @@ use Rattle.std.proofs.lemmas.Simd.{map-map}
 use Rattle.ndarray.specs.Index.{InBox, row_order, column_order}
 use Rattle.ndarray.specs.Orders.{box_in}
 use Rattle.ndarray.specs.order.Cuts.{IsSlowest, counted_from}
+use Rattle.ndarray.specs.order.Ranks.{axis_in}
 use Rattle.ndarray.specs.declared.base.shape.Order.{Order}
 use Rattle.ndarray.specs.declared.base.shape.Order.TheVariants.{RowMajor, ColumnMajor}
 use Rattle.ndarray.proofs.boxes.Boxes.{InBox-length}
@@ -126,6 +127,26 @@ map-own axis (x ∷ xs) = ap (λ y. y ∷ map (counted_from axis 0) xs) (counted
 pub slowest-below : (o : Order) (ns : List ℕ) (axis : ℕ) → IsSlowest o ns axis → axis < length ns
 slowest-below RowMajor ns axis s = let b = s.below in let e = s.axis_is in omega arith
 slowest-below ColumnMajor ns axis s = let b = s.below in let e = s.axis_is in omega arith
+
+-- the slowest axis is so at any length of its own
+pub IsSlowest-set : (o : Order) (ns : List ℕ) (axis n : ℕ) → IsSlowest o ns axis → IsSlowest o (set ns axis n) axis
+IsSlowest-set o ns axis n s =
+    let many = length-set ns axis n in
+    record {
+      place = s.place;
+      below = let b = s.below in omega arith;
+      axis_is = s.axis_is ∙ ap (λ l. axis_in o l s.place) (sym many);
+      slower = λ q lt below.
+          (let b = s.below in
+          let e = s.axis_is in
+          let few = s.slower q lt (omega arith) in
+          let other : axis_in o (length ns) q ≢ axis = λ same. axes-differ o (length ns) s.place q lt (omega arith) (same ∙ e) in
+          subst (λ l. get_or (set ns axis n) (axis_in o l q) 0 ≤ 1) (sym many) (subst (λ v. v ≤ 1) (sym (get_or-set_other ns axis (axis_in o (length ns) q) n 0 other)) few));
+    }
+  where
+    axes-differ : (o : Order) (l p q : ℕ) → p < q → q < l → axis_in o l q ≡ axis_in o l p → ⊥
+    axes-differ RowMajor l p q lt below same = omega arith
+    axes-differ ColumnMajor l p q lt below same = omega arith
 
 -- the first n indices of the slowest axis, and then the others
 pub box_in-cut : (o : Order) (ns : List ℕ) (axis n : ℕ) → IsSlowest o ns axis → n ≤ get_or ns axis 0

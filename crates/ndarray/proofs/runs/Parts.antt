@@ -1,16 +1,18 @@
 -- Turns over one part of some places, seen as turns over all of them.
-use Rattle.std.proofs.Common.{◌≡◌, ℕ, ◌-◌, ◌<◌, List, [], ◌∷◌, ◌++◌, map, get_or, set, sum, Result, Ok, Err, MatchResult, refl, sym, subst, ◌∙◌, ap, arith, inl, inr}
+use Rattle.std.proofs.Common.{◌≡◌, ℕ, ◌+◌, ◌-◌, ◌<◌, List, [], ◌∷◌, ◌++◌, map, get_or, set, sum, Result, Ok, Err, MatchResult, refl, sym, subst, ◌∙◌, ap, arith, inl, inr}
 use Rattle.std.specs.List.{FoldsTo, AllByRecursion}
+use Rattle.std.proofs.lemmas.Grind.{get_or-set_at}
 use Rattle.std.proofs.lemmas.List.{append_assoc, append-nil, map-append}
 use Rattle.ndarray.specs.Index.{InBox}
 use Rattle.ndarray.specs.Orders.{box_in}
 use Rattle.ndarray.specs.Producers.{IsPart, IsRefinedBy}
 use Rattle.ndarray.specs.Runs.{MayTurnAt, TurnAt, TakesAt, StopsAt, EndsOrStops}
-use Rattle.ndarray.specs.order.Cuts.{IsCut, counted_from}
+use Rattle.ndarray.specs.order.Cuts.{IsCut, IsSlowest, counted_from}
 use Rattle.ndarray.specs.declared.base.shape.Order.{Order}
-use Rattle.ndarray.proofs.boxes.Cuts.{box_in-cut, slowest-below, sum-set}
+use Rattle.ndarray.proofs.boxes.Cuts.{box_in-cut, slowest-below, IsSlowest-set, sum-set}
 use Rattle.ndarray.proofs.boxes.Orders.{box_in-within}
 use Rattle.ndarray.proofs.lists.Elements.{All-to_recursion}
+use Rattle.ndarray.proofs.runs.RunsThrough.{may_via, runs_via}
 
 -- turns over places and then over more
 pub FoldsTo-append : {P X : Type 0} (turn : P → X → P → Type 0) (is js : List X) (p q r : P) → FoldsTo turn p is q → FoldsTo turn q js r → FoldsTo turn p (is ++ js) r
@@ -76,6 +78,20 @@ ran-Ok turn stops p q is r =
       | inl h ↦ (let e : q ≡ last = cc in subst (λ l. FoldsTo turn p l q) h.0 (subst (λ s. FoldsTo turn p done s) (sym e) g))
       | inr h ↦ (let (i, rest, e, s) = h in let (x, same, stopped) = s in cc)
     ]
+
+-- a producer that shows no more than another may be walked where the other may, and its turns are turns over the other
+module _ {P A : Type 0} (goes : P → A → P → Type 0) (o : Order) {ns ms : List ℕ} {yields_at shown : List ℕ → A → Type 0} (less : IsRefinedBy ns yields_at ms shown) (p : P) where
+  pub may-less : (can_take : P → A → Type 0) → MayTurnAt (TurnAt yields_at goes) (TakesAt yields_at can_take) p (box_in o ns) → MayTurnAt (TurnAt shown goes) (TakesAt shown can_take) p (box_in o ms)
+  may-less can_take m =
+      may_via (TurnAt shown goes) (TurnAt yields_at goes) (λ q. q) (λ q i r t. (t.0, less.items i t.0 t.1, t.2)) (TakesAt shown can_take) (TakesAt yields_at can_take) (λ q i h x s. h x (less.items i x s)) (box_in o ms) p
+      (subst (λ l. MayTurnAt (TurnAt yields_at goes) (TakesAt yields_at can_take) p (box_in o l)) (sym less.lengths) m)
+
+  pub ran-less : {E : Type 0} (stops : P → A → E → Type 0) (r : Result P E) → EndsOrStops (TurnAt shown goes) (StopsAt shown stops) p (box_in o ms) r → EndsOrStops (TurnAt yields_at goes) (StopsAt yields_at stops) p (box_in o ns) r
+  ran-less {E} stops r w =
+      subst (λ l. EndsOrStops (TurnAt yields_at goes) (StopsAt yields_at stops) p (box_in o l) r) less.lengths
+      (runs_via (TurnAt shown goes) (TurnAt yields_at goes) (λ q. q) (λ q i s t. (t.0, less.items i t.0 t.1, t.2))
+      (λ q i. (e : E) × (r ≡ Err e) × StopsAt shown stops q i e) (λ q i. (e : E) × (r ≡ Err e) × StopsAt yields_at stops q i e) (λ q. r ≡ Ok q) (λ q. r ≡ Ok q)
+      (λ q i v. let (e, same, (x, stands, stop)) = v in (e, same, (x, less.items i x stands, stop))) (λ q h. h) (box_in o ms) p w)
 
 -- a producer that is cut in two: the items of the first part, and then those of the rest
 module _ {P A : Type 0} (goes : P → A → P → Type 0) (o : Order) {ns ks ms ls : List ℕ} {yields_at shown first rest : List ℕ → A → Type 0} {axis index more : ℕ}
@@ -165,6 +181,37 @@ module _ {P A : Type 0} (goes : P → A → P → Type 0) (o : Order) {ns ks ms 
       let a = ap sum high.lengths in
       let b = ap sum less.lengths in
       omega arith
+
+-- a producer shows what it shows
+pub shows-own : {A : Type 0} {ns : List ℕ} {yields_at : List ℕ → A → Type 0} → IsRefinedBy ns yields_at ns yields_at
+shows-own = record { lengths = refl; items = λ is x s. s }
+
+-- a producer whose slowest axis is cut behind the first index
+module _ {A : Type 0} (o : Order) {ns ms ls : List ℕ} {yields_at first rest : List ℕ → A → Type 0} {axis : ℕ}
+    (slowest : IsSlowest o ns axis) (long : 1 < get_or ns axis 0) (low : IsPart axis 0 1 ns yields_at ms first) (high : IsPart axis 1 (get_or ns axis 0) ns yields_at ls rest) where
+  pub IsCut-first : IsCut o ns axis 1 (get_or ns axis 0 - 1)
+  IsCut-first = record { slowest = slowest; some = omega arith; others = omega arith; whole = omega arith }
+
+  pub first-sum : sum ms + get_or ns axis 0 ≡ sum ns + 1
+  first-sum =
+      let e = sum-set ns axis (1 - 0) (slowest-below o ns axis slowest) in
+      let a = ap sum low.lengths in
+      omega arith
+
+  pub rest-sum : sum ls + 1 ≡ sum ns
+  rest-sum =
+      let e = sum-set ns axis (get_or ns axis 0 - 1) (slowest-below o ns axis slowest) in
+      let a = ap sum high.lengths in
+      omega arith
+
+  pub rest-len : get_or ls axis 0 + 1 ≡ get_or ns axis 0
+  rest-len =
+      let e = ap (λ l. get_or l axis 0) high.lengths ∙ get_or-set_at ns axis axis (get_or ns axis 0 - 1) 0 refl (slowest-below o ns axis slowest) in
+      omega arith
+
+  -- it is the slowest axis of the rest too
+  pub rest-slowest : IsSlowest o ls axis
+  rest-slowest = subst (λ l. IsSlowest o l axis) (sym high.lengths) (IsSlowest-set o ns axis (get_or ns axis 0 - 1) slowest)
 
 -- what holds of an outcome holds of it where something beside it is kept
 module _ {T N E : Type 0} (turn : N → T) where

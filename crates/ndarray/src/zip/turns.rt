@@ -7,6 +7,7 @@ ghost use Rattle.ndarray.specs.Producers.{YieldsInTurn, IsRefinedBy};
 ghost use Rattle.ndarray.specs.Runs.{MayTurnAt, TurnAt, TakesAt, StopsAt, EndsOrStops};
 ghost use Rattle.ndarray.specs.declared.base.shape.Order.{Order};
 
+use crate::base::dimension::Lengths;
 use crate::order::{Order, middle_of};
 use crate::zip::producer::NdProducer;
 
@@ -39,8 +40,8 @@ pub(crate) struct Taken<T> {
 
 /// Has all items of a producer taken in an order, one after another.
 ///
-/// Where they do not lie side by side the producer is cut in halves along the slowest axis, down to parts whose items do,
-/// as the rows of a table beside a row that is broadcast.
+/// Where they do not lie side by side the producer is cut along the slowest axis, index by index, down to parts whose
+/// items do, as the rows of a table beside a row that is broadcast.
 pub(crate) fn take_items<P: NdProducer, T: Turn<P::Item>>(
     p: P,
     order: Order,
@@ -65,25 +66,37 @@ fn take_parts<P: NdProducer, T: Turn<P::Item>>(
     requires can { MayTurnAt (TurnAt (P.yields_at p) T.goes) (TakesAt (P.yields_at p) T.can_take) turn (box_in order (P.lengths p)) }
     ensures ran { MatchResult result (λ taken. EndsOrStops (TurnAt (P.yields_at p) T.goes) (StopsAt (P.yields_at p) T.stops) turn (box_in order (P.lengths p)) (Ok taken.turn)) (λ stop. EndsOrStops (TurnAt (P.yields_at p) T.goes) (StopsAt (P.yields_at p) T.stops) turn (box_in order (P.lengths p)) (Err stop)) }
 {
-    let p = match flat_unless(p, order, apart) {
+    let mut p = match flat_unless(p, order, apart) {
         Ok(flat) => return note_flat(take_run::<P, _, _>(P::run_flat(flat), turn), true),
         Err(p) => p,
     };
-    let Some(cut) = middle_of(order, &p.raw_dim()) else {
+    let dim = p.raw_dim();
+    let Some(cut) = middle_of(order, &dim) else {
         return note_flat(take_run::<P, _, _>(p.run(order), turn), false);
     };
-    let (first, rest) = p.split_at(cut.axis, cut.index);
-    match take_parts(first, order, cut.index > 1, turn) {
-        Err(stop) => Err(stop),
-        Ok(Taken { turn, flat }) => {
-            if flat {
-                take_parts(rest, order, cut.rest > 1, turn)
-            } else {
-                // Where the first part has no flat parts, the rest is not cut again.
-                note_flat(take_run::<P, _, _>(rest.run(order), turn), false)
-            }
+    // One index of the axis after another, and no halves: so a part that is flat costs no further call of this function.
+    let mut turn = turn;
+    for done in 1..dim.axis(cut.axis.0) {
+        let (first, rest) = p.split_at(cut.axis, 1);
+        p = rest;
+        match first.try_flat(order) {
+            Ok(flat) => match take_run::<P, _, _>(P::run_flat(flat), turn) {
+                Ok(next) => turn = next,
+                Err(stop) => return Err(stop),
+            },
+            Err(first) => match take_parts(first, order, true, turn) {
+                Err(stop) => return Err(stop),
+                Ok(Taken { turn: next, flat }) => {
+                    turn = next;
+                    if !flat {
+                        // Where the first part has no flat parts, the rest is not cut again.
+                        return note_flat(take_run::<P, _, _>(p.run(order), turn), false);
+                    }
+                }
+            },
         }
     }
+    take_parts(p, order, false, turn)
 }
 
 /// The flat form, where the items lie side by side in the order and the producer is not known to be `apart`.
@@ -107,7 +120,10 @@ pub(crate) fn note_flat<T, E>(ran: Result<T, E>, flat: bool) -> Result<Taken<T>,
 }
 
 /// Has the items of a run over a producer taken, one after another.
-#[inline(always)]
+///
+/// It is a function of its own, so that what takes them stays in registers: one that is passed on as well, as in
+/// [`take_parts`], is kept in memory.
+#[inline(never)]
 fn take_run<P: NdProducer, R: Iterator<Item = P::Item> + Drop, T: Turn<P::Item>>(
     mut run: R,
     turn: T,

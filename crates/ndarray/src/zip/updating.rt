@@ -117,8 +117,8 @@ impl<P: NdProducer, A: Drop, C: CellCall<A, P::Item>> CellWriter<A, Result<(), A
 }
 
 /// Leaves in each element of a slice what a call answers at it and the item beside it of a producer in the order, up to
-/// the first error. A producer whose items do not lie side by side is cut as in
-/// [`take_items`](crate::zip::turns::take_items), and the slice with it; it is not tried whole where it is `apart`.
+/// the first error. A producer whose items do not lie side by side is cut in halves along the slowest axis, down to parts
+/// whose items do, and the slice with it; it is not tried whole where it is `apart`.
 pub(crate) fn update_parts<P: NdProducer, A: Drop, C: CellCall<A, P::Item>>(
     slice: &mut [A],
     p: P,
