@@ -52,21 +52,19 @@ pub(crate) fn axis_at(order: Order, ndim: usize, p: usize) -> usize
     }
 }
 
-/// Where a box is cut in two: at an index of an axis.
+/// The axis along which a box is cut into parts that come one after another in an order, and its length.
 #[derive(Clone, Copy)]
 pub(crate) struct Cut {
     pub(crate) axis: Axis,
-    pub(crate) index: usize,
-    pub(crate) rest: usize,
+    pub(crate) len: usize,
 }
 
-/// The cut of a box in two halves that come one after the other in the order: at the middle of the slowest axis that is
-/// longer than 1. There is none where each index of that axis has but a few index lists, since a step of a walk
-/// costs less than a cut.
+/// The cut of a box along the slowest axis that is longer than 1. There is none where each index of that axis has but a few
+/// index lists, since a step of a walk costs less than a cut.
 #[inline(always)]
-pub(crate) fn middle_of<D: Lengths>(order: Order, dim: &D) -> Option<Cut>
+pub(crate) fn slowest_axis<D: Lengths>(order: Order, dim: &D) -> Option<Cut>
     requires { IsWithinLimit (D.numbers dim.now) }
-    ensures { IfSome result (λ cut. IsCut order (D.numbers dim.now) cut.axis.0 cut.index cut.rest) }
+    ensures { IfSome result (λ cut. IsCut order (D.numbers dim.now) cut.axis.0 cut.len) }
 {
     let ndim = dim.ndim();
     for turn in 0..ndim {
@@ -76,12 +74,8 @@ pub(crate) fn middle_of<D: Lengths>(order: Order, dim: &D) -> Option<Cut>
             if dim.size() < len.saturating_mul(16) {
                 return None;
             }
-            let index = len / 2;
-            return Some(Cut {
-                axis: Axis(axis),
-                index,
-                rest: len - index,
-            });
+            let axis = Axis(axis);
+            return Some(Cut { axis, len });
         }
     }
     None

@@ -221,6 +221,12 @@ size-one_of [] k lt e = absurd (omega arith)
 size-one_of (n ∷ ns) zero lt e = (product_one n (size ns) e).0
 size-one_of (n ∷ ns) (suc k) lt e = size-one_of ns k (omega arith) (product_one n (size ns) e).1
 
+-- what an axis adds to the size
+pub size-one_index : (ns : List ℕ) (k : ℕ) → k < length ns → size ns ≡ get_or ns k 0 * size (set ns k 1)
+size-one_index [] k below = absurd (omega arith)
+size-one_index (n ∷ ns) zero below = omega arith
+size-one_index (n ∷ ns) (suc k) below = ap (λ x. n * x) (size-one_index ns k (omega arith)) ∙ omega arith
+
 -- a box of no index lists has none where an axis is shorter
 pub size-set_none : (ns : List ℕ) (k v : ℕ) → v ≤ get_or ns k 0 → size ns ≡ 0 → size (set ns k v) ≡ 0
 size-set_none [] k v le none = absurd (omega arith)

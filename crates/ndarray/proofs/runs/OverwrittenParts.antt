@@ -1,18 +1,22 @@
 -- Elements of a slice that are overwritten part by part.
-use Rattle.std.proofs.Common.{◌≡◌, ℕ, ◌≤◌, zero, suc, List, [], ◌∷◌, ◌++◌, length, map, take, drop, get_or, Option, Some, Result, Ok, Err, refl, sym, subst, ◌∙◌, ap, arith, inl, inr}
+use Rattle.std.proofs.Common.{◌≡◌, ℕ, ◌+◌, ◌-◌, ◌*◌, ◌/◌, ◌<◌, ◌≤◌, zero, suc, List, [], ◌∷◌, ◌++◌, length, map, take, drop, get_or, set, Option, Some, Result, Ok, Err, refl, sym, subst, ◌∙◌, ap, arith, inl, inr}
 use Rattle.std.specs.List.{FoldsTo}
-use Rattle.std.proofs.lemmas.List.{append_assoc, append-nil, map-append, length-append, length-map, take-map, drop-map, take-append-drop, drop-drop}
+use Rattle.std.proofs.lemmas.List.{append_assoc, append-nil, map-append, length-append, length-drop, length-map, length-take-le, take_all, drop_all, take-map, drop-map, take-append-drop, drop-drop}
 use Rattle.std.proofs.lemmas.Simd.{map-map}
+use Rattle.std.proofs.lemmas.Nat.{mul-le}
+use Rattle.std.proofs.Math.Nat.{mul-div_cancel_left}
 use Rattle.std.proofs.Math.Seq.{take-append_seam, drop-append_seam}
 use Rattle.ndarray.specs.Index.{size}
 use Rattle.ndarray.specs.Orders.{box_in}
 use Rattle.ndarray.specs.Producers.{IsPart, IsRefinedBy}
 use Rattle.ndarray.specs.Runs.{MayTurnAt, TurnAt, TakesAt, StopsAt, EndsOrStops, GatherTurn, MayGather}
 use Rattle.ndarray.specs.Updates.{answers, is_beside, OverwritesTo, OverwritesUntil}
-use Rattle.ndarray.specs.order.Cuts.{IsCut, counted_from}
+use Rattle.ndarray.specs.order.Cuts.{IsSlowest, counted_from}
 use Rattle.ndarray.specs.declared.base.shape.Order.{Order}
+use Rattle.ndarray.proofs.boxes.Cuts.{slowest-below}
 use Rattle.ndarray.proofs.boxes.Orders.{length-box_in}
-use Rattle.ndarray.proofs.runs.Parts.{boxes, may-first, may-rest, first-stopped, both-ran, ran-Ok}
+use Rattle.ndarray.proofs.boxes.Sizes.{size-one_index}
+use Rattle.ndarray.proofs.runs.Parts.{IsCutAt, boxes, may-first, may-rest, first-stopped, both-ran, ran-Ok, may-less, ran-less, shows-own, IsCutAt-first}
 use Rattle.ndarray.proofs.runs.RunsThrough.{may_via, runs_via}
 use Rattle.ndarray.proofs.runs.Turns.{Reached, found}
 
@@ -64,7 +68,7 @@ module _ {F X A E : Type 0} (yields_at : List ℕ → X → Type 0) (call_gives 
 
 -- the elements in two parts, as the box is cut
 module _ {A X : Type 0} (o : Order) {ns ks ms ls : List ℕ} {yields_at shown first rest : List ℕ → X → Type 0} {axis index more : ℕ}
-    (less : IsRefinedBy ns yields_at ks shown) (cut : IsCut o ks axis index more) (low : IsPart axis 0 index ks shown ms first) (high : IsPart axis index (get_or ks axis 0) ks shown ls rest)
+    (less : IsRefinedBy ns yields_at ks shown) (cut : IsCutAt o ks axis index more) (low : IsPart axis 0 index ks shown ms first) (high : IsPart axis index (get_or ks axis 0) ks shown ls rest)
     (at : List ℕ → Option A) (xs : List A) (along : map at (box_in o ns) ≡ map Some xs) where
   abbrev pub at-first : List ℕ → Option A
   at-first i = at (counted_from axis 0 i)
@@ -199,3 +203,118 @@ module _ {A X : Type 0} (o : Order) {ns ks ms ls : List ℕ} {yields_at shown fi
         rest-overwrote (Err d) w =
             both-ran Turn o beside-less cut beside-low beside-high (Stop xs (ys ++ zs)) (f, []) (h, ys) (ran-first (Stop xs (ys ++ zs))) (Err d)
             (moved (Err d) (Err d) (λ q never. cc) (λ e same. (let one : d ≡ e = cc in ap (λ z. Err z) one)) w)
+
+-- what is yielded beside elements, seen through what shows no more
+module _ {A X : Type 0} (o : Order) {ns ms : List ℕ} {yields_at shown : List ℕ → X → Type 0} (less : IsRefinedBy ns yields_at ms shown) (at : List ℕ → Option A) {F E : Type 0} (call_gives : F → A × X → Result A E → F → Type 0) (f : F) where
+  both-less : IsRefinedBy ns (is_beside at yields_at) ms (is_beside at shown)
+  both-less = record { lengths = less.lengths; items = λ i x s. (s.0, less.items i x.1 s.1) }
+
+  pub may-overwrite-less : (can_call : F → A × X → Type 0) → MayGather (is_beside at yields_at) (answers call_gives) can_call (box_in o ns) f → MayGather (is_beside at shown) (answers call_gives) can_call (box_in o ms) f
+  may-overwrite-less can_call m = may-less {P = F × List A} (GatherTurn (answers call_gives)) o both-less (f, []) (λ p x. can_call p.0 x) m
+
+  pub overwrote-less : (xs : List A) (r : Result F E) (ys : List A) → OverwritesTo (is_beside at shown) call_gives (box_in o ms) f xs r ys → OverwritesTo (is_beside at yields_at) call_gives (box_in o ns) f xs r ys
+  overwrote-less xs (Ok h) ys w = ran-less {P = F × List A} (GatherTurn (answers call_gives)) o both-less (f, []) (λ q x e. (k : F) × (call_gives q.0 x (Err e) k × (ys ≡ q.1 ++ drop (length q.1) xs))) (Ok (h, ys)) w
+  overwrote-less xs (Err e) ys w = ran-less {P = F × List A} (GatherTurn (answers call_gives)) o both-less (f, []) (λ q x e. (k : F) × (call_gives q.0 x (Err e) k × (ys ≡ q.1 ++ drop (length q.1) xs))) (Err e) w
+
+module _ {A X F E : Type 0} (o : Order) (ns : List ℕ) (yields_at : List ℕ → X → Type 0) (call_gives : F → A × X → Result A E → F → Type 0) (can_call : F → A × X → Type 0) (f : F) (xs : List A) (at : List ℕ → Option A) where
+  -- The elements of `now` in front of a place are overwritten, and `rest` is left of the producer for those from there on: what may be
+  -- done over all may be done over it, and what overwrites those overwrites all.
+  pub record Left (ls : List ℕ) (rest : List ℕ → X → Type 0) (h : F) (now : List A) (from : ℕ) : Type 0 where
+    pub seen : List ℕ → Option A
+    pub along : map seen (box_in o ls) ≡ map Some (drop from now)
+    pub may : MayGather (is_beside at yields_at) (answers call_gives) can_call (box_in o ns) f → MayGather (is_beside seen rest) (answers call_gives) can_call (box_in o ls) h
+    pub all : (r : Result F E) (zs : List A) → OverwritesTo (is_beside seen rest) call_gives (box_in o ls) h (drop from now) r zs → OverwritesTo (is_beside at yields_at) call_gives (box_in o ns) f xs r (take from now ++ zs)
+
+  pub left-all : {ms : List ℕ} {shown : List ℕ → X → Type 0} → IsRefinedBy ns yields_at ms shown → map at (box_in o ns) ≡ map Some xs → Left ms shown f xs 0
+  left-all {ms} less along = record {
+    seen = at;
+    along = subst (λ l. map at (box_in o l) ≡ map Some xs) (sym less.lengths) along;
+    may = may-overwrite-less o less at call_gives f can_call;
+    all = λ r zs w. overwrote-less o less at call_gives f xs r zs w;
+  }
+
+-- what is left, of all elements from the place on
+module _ {A X F E : Type 0} {o : Order} {ns : List ℕ} {yields_at : List ℕ → X → Type 0} {call_gives : F → A × X → Result A E → F → Type 0} {can_call : F → A × X → Type 0} {f : F} {xs : List A} {at : List ℕ → Option A}
+    {ls : List ℕ} {rest : List ℕ → X → Type 0} {h : F} {now : List A} {from : ℕ} (left : Left o ns yields_at call_gives can_call f xs at ls rest h now from) where
+  to-end : take (length now - from) (drop from now) ≡ drop from now
+  to-end = take_all (length now - from) (drop from now) (omega (arith, length-drop from now))
+
+  pub left-along : map left.seen (box_in o ls) ≡ map Some (take (length now - from) (drop from now))
+  left-along = left.along ∙ ap (map Some) (sym to-end)
+
+  pub left-ran : (r : Result F E) (zs : List A) → OverwritesTo (is_beside left.seen rest) call_gives (box_in o ls) h (take (length now - from) (drop from now)) r zs
+      → OverwritesTo (is_beside at yields_at) call_gives (box_in o ns) f xs r (take from now ++ (zs ++ drop (length now - from) (drop from now)))
+  left-ran r zs w =
+      let none : drop (length now - from) (drop from now) ≡ [] = drop_all (length now - from) (drop from now) (omega (arith, length-drop from now)) in
+      subst (λ l. OverwritesTo (is_beside at yields_at) call_gives (box_in o ns) f xs r (take from now ++ l)) (sym (ap (λ l. zs ++ l) none ∙ append-nil zs))
+      (left.all r zs (subst (λ l. OverwritesTo (is_beside left.seen rest) call_gives (box_in o ls) h l r zs) to-end w))
+
+-- how many elements stand beside each index of an axis
+pub elements-each : {A : Type 0} (o : Order) (ns : List ℕ) (at : List ℕ → Option A) (xs : List A) (axis : ℕ) → map at (box_in o ns) ≡ map Some xs → axis < length ns → 0 < get_or ns axis 0 → get_or ns axis 0 * (length xs / get_or ns axis 0) ≡ length xs
+elements-each {A} o ns at xs axis along below some =
+    let many : length xs ≡ get_or ns axis 0 * size (set ns axis 1) = sym (length-map xs (λ x. Some x)) ∙ (sym (ap (length {A = Option A}) along) ∙ (length-map (box_in o ns) at ∙ (length-box_in o ns ∙ size-one_index ns axis below))) in
+    ap (λ n. get_or ns axis 0 * (n / get_or ns axis 0)) many ∙ (ap (λ n. get_or ns axis 0 * n) (mul-div_cancel_left (size (set ns axis 1)) some) ∙ sym many)
+
+-- one index of the slowest axis is next
+module _ {A X F E : Type 0} {o : Order} {ns : List ℕ} {yields_at : List ℕ → X → Type 0} {call_gives : F → A × X → Result A E → F → Type 0} {can_call : F → A × X → Type 0} {f : F} {xs : List A} {at : List ℕ → Option A}
+    {ls ms ks : List ℕ} {rest first others : List ℕ → X → Type 0} {axis : ℕ} {h : F} {now : List A} {from : ℕ} (left : Left o ns yields_at call_gives can_call f xs at ls rest h now from)
+    (slowest : IsSlowest o ls axis) (long : 1 < get_or ls axis 0) (low : IsPart axis 0 1 ls rest ms first) (high : IsPart axis 1 (get_or ls axis 0) ls rest ks others) where
+  abbrev pub seen-first : List ℕ → Option A
+  seen-first i = left.seen (counted_from axis 0 i)
+
+  index-many : (each : ℕ) → from + get_or ls axis 0 * each ≡ length now → size ms ≡ each
+  index-many each e =
+      let below = slowest-below o ls axis slowest in
+      let all : length (drop from now) ≡ get_or ls axis 0 * size (set ls axis 1) = sym (length-map (drop from now) (λ x. Some x)) ∙ (sym (ap (length {A = Option A}) left.along) ∙ (length-map (box_in o ls) left.seen ∙ (length-box_in o ls ∙ size-one_index ls axis below))) in
+      let l = length-drop from now in
+      let whole : get_or ls axis 0 * size (set ls axis 1) ≡ get_or ls axis 0 * each = omega (arith, all, l, e) in
+      ap size low.lengths ∙ (sym (mul-div_cancel_left (size (set ls axis 1)) {n = get_or ls axis 0} (omega (arith, long))) ∙ (ap (λ n. n / get_or ls axis 0) whole ∙ mul-div_cancel_left each {n = get_or ls axis 0} (omega (arith, long))))
+
+  module _ (each : ℕ) (wide : from + get_or ls axis 0 * each ≡ length now) (part : ℕ) (all-of : part ≡ each) where
+    span : size ms ≡ part
+    span = index-many each wide ∙ sym all-of
+
+    left-many : length (drop from now) ≡ get_or ls axis 0 * each
+    left-many = let l = length-drop from now in omega (arith, l, wide)
+
+    part-long : length (take part (drop from now)) ≡ part
+    part-long =
+        let m : 1 * each ≤ get_or ls axis 0 * each = mul-le 1 each (get_or ls axis 0) each (omega (arith, long)) (omega arith) in
+        length-take-le part (drop from now) (omega (arith, left-many, m, all-of))
+
+    pub first-along : map seen-first (box_in o ms) ≡ map Some (take part (drop from now))
+    first-along = along-first o shows-own (IsCutAt-first o slowest long low high) low high left.seen (drop from now) left.along ∙ ap (λ n. map Some (take n (drop from now))) span
+
+    pub first-failed : (e : E) (ys : List A) → length ys ≡ length (take part (drop from now)) → OverwritesTo (is_beside seen-first first) call_gives (box_in o ms) h (take part (drop from now)) (Err e) ys
+        → OverwritesTo (is_beside at yields_at) call_gives (box_in o ns) f xs (Err e) (take from now ++ (ys ++ drop part (drop from now)))
+    first-failed e ys many w =
+        subst (λ n. OverwritesTo (is_beside at yields_at) call_gives (box_in o ns) f xs (Err e) (take from now ++ (ys ++ drop n (drop from now)))) span
+        (left.all (Err e) (ys ++ drop (size ms) (drop from now))
+        (first-refused o shows-own (IsCutAt-first o slowest long low high) low high left.seen (drop from now) left.along call_gives h e ys (many ∙ (part-long ∙ sym span))
+        (subst (λ n. OverwritesTo (is_beside seen-first first) call_gives (box_in o ms) h (take n (drop from now)) (Err e) ys) (sym span) w)))
+
+    pub left-rest : (k : F) (ys : List A) → length ys ≡ length (take part (drop from now)) → from ≤ length now → OverwritesTo (is_beside seen-first first) call_gives (box_in o ms) h (take part (drop from now)) (Ok k) ys
+        → (after : List A) (end : ℕ) → after ≡ take from now ++ (ys ++ drop part (drop from now)) → end ≡ from + part → Left o ns yields_at call_gives can_call f xs at ks others k after end
+    left-rest k ys many le w after end is ends =
+        let cut = IsCutAt-first o slowest long low high in
+        let old = drop from now in
+        let front : List A = take from now ++ ys in
+        let joined : after ≡ front ++ drop part old = is ∙ sym (append_assoc (take from now) ys (drop part old)) in
+        let many-front : length front ≡ end = length-append (take from now) ys ∙ (let a = length-take-le from now le in omega (arith, many, part-long, ends, a)) in
+        let dropped : drop end after ≡ drop part old = ap (drop end) joined ∙ (ap (λ i. drop i (front ++ drop part old)) (sym many-front) ∙ drop-append_seam front (drop part old)) in
+        let taken : take end after ≡ front = ap (take end) joined ∙ (ap (λ i. take i (front ++ drop part old)) (sym many-front) ∙ take-append_seam front (drop part old)) in
+        let same : drop end after ≡ drop (size ms) old = dropped ∙ ap (λ n. drop n old) (sym span) in
+        let long-first = many ∙ (part-long ∙ sym span) in
+        let ran = subst (λ n. OverwritesTo (is_beside seen-first first) call_gives (box_in o ms) h (take n old) (Ok k) ys) (sym span) w in
+        record {
+          seen = λ i. left.seen (counted_from axis 1 i);
+          along = along-rest o shows-own cut low high left.seen old left.along ∙ ap (map Some) (sym same);
+          may = λ m. may-overwrite-rest o shows-own cut low high left.seen old left.along call_gives h k ys long-first ran can_call (left.may m);
+          all = λ r zs v.
+              subst (λ l. OverwritesTo (is_beside at yields_at) call_gives (box_in o ns) f xs r l) (sym (append_assoc (take from now) ys zs) ∙ ap (λ l. l ++ zs) (sym taken))
+              (left.all r (ys ++ zs) (rest-overwrote o shows-own cut low high left.seen old left.along call_gives h k ys long-first ran zs r
+              (subst (λ l. OverwritesTo (is_beside (λ i. left.seen (counted_from axis 1 i)) others) call_gives (box_in o ks) k l r zs) same v)));
+        }
+
+  pub first-may : MayGather (is_beside at yields_at) (answers call_gives) can_call (box_in o ns) f → MayGather (is_beside seen-first first) (answers call_gives) can_call (box_in o ms) h
+  first-may m = may-overwrite-first o shows-own (IsCutAt-first o slowest long low high) low high left.seen (drop from now) left.along call_gives h can_call (left.may m)

@@ -7,7 +7,7 @@ use Rattle.ndarray.specs.Index.{InBox}
 use Rattle.ndarray.specs.Orders.{box_in}
 use Rattle.ndarray.specs.Producers.{IsPart, IsRefinedBy}
 use Rattle.ndarray.specs.Runs.{MayTurnAt, TurnAt, TakesAt, StopsAt, EndsOrStops}
-use Rattle.ndarray.specs.order.Cuts.{IsCut, IsSlowest, counted_from}
+use Rattle.ndarray.specs.order.Cuts.{IsSlowest, counted_from}
 use Rattle.ndarray.specs.declared.base.shape.Order.{Order}
 use Rattle.ndarray.proofs.boxes.Cuts.{box_in-cut, slowest-below, IsSlowest-set, sum-set}
 use Rattle.ndarray.proofs.boxes.Orders.{box_in-within}
@@ -93,9 +93,16 @@ module _ {P A : Type 0} (goes : P → A → P → Type 0) (o : Order) {ns ms : L
       (λ q i. (e : E) × (r ≡ Err e) × StopsAt shown stops q i e) (λ q i. (e : E) × (r ≡ Err e) × StopsAt yields_at stops q i e) (λ q. r ≡ Ok q) (λ q. r ≡ Ok q)
       (λ q i v. let (e, same, (x, stands, stop)) = v in (e, same, (x, less.items i x stands, stop))) (λ q h. h) (box_in o ms) p w)
 
+-- the slowest axis is cut at an index, and both parts have some of it
+pub record IsCutAt (order : Order) (ns : List ℕ) (axis index rest : ℕ) : Type 0 where
+  pub slowest : IsSlowest order ns axis
+  pub some : 0 < index
+  pub others : 0 < rest
+  pub whole : index + rest ≡ get_or ns axis 0
+
 -- a producer that is cut in two: the items of the first part, and then those of the rest
 module _ {P A : Type 0} (goes : P → A → P → Type 0) (o : Order) {ns ks ms ls : List ℕ} {yields_at shown first rest : List ℕ → A → Type 0} {axis index more : ℕ}
-    (less : IsRefinedBy ns yields_at ks shown) (cut : IsCut o ks axis index more) (low : IsPart axis 0 index ks shown ms first) (high : IsPart axis index (get_or ks axis 0) ks shown ls rest) where
+    (less : IsRefinedBy ns yields_at ks shown) (cut : IsCutAt o ks axis index more) (low : IsPart axis 0 index ks shown ms first) (high : IsPart axis index (get_or ks axis 0) ks shown ls rest) where
   first-lengths : ms ≡ set ks axis index
   first-lengths = let none : index - 0 ≡ index = omega arith in low.lengths ∙ ap (set ks axis) none
 
@@ -163,25 +170,6 @@ module _ {P A : Type 0} (goes : P → A → P → Type 0) (o : Order) {ns ks ms 
         inl (refl, refl),
       )
 
-  -- both parts are smaller
-  pub first-smaller : sum ms < sum ns
-  first-smaller =
-      let e = sum-set ks axis index (slowest-below o ks axis cut.slowest) in
-      let a = ap sum first-lengths in
-      let b = ap sum less.lengths in
-      let w = cut.whole in
-      let m = cut.others in
-      omega arith
-
-  pub rest-smaller : sum ls < sum ns
-  rest-smaller =
-      let w = cut.whole in
-      let m = cut.some in
-      let e = sum-set ks axis (get_or ks axis 0 - index) (slowest-below o ks axis cut.slowest) in
-      let a = ap sum high.lengths in
-      let b = ap sum less.lengths in
-      omega arith
-
 -- a producer shows what it shows
 pub shows-own : {A : Type 0} {ns : List ℕ} {yields_at : List ℕ → A → Type 0} → IsRefinedBy ns yields_at ns yields_at
 shows-own = record { lengths = refl; items = λ is x s. s }
@@ -189,8 +177,8 @@ shows-own = record { lengths = refl; items = λ is x s. s }
 -- a producer whose slowest axis is cut behind the first index
 module _ {A : Type 0} (o : Order) {ns ms ls : List ℕ} {yields_at first rest : List ℕ → A → Type 0} {axis : ℕ}
     (slowest : IsSlowest o ns axis) (long : 1 < get_or ns axis 0) (low : IsPart axis 0 1 ns yields_at ms first) (high : IsPart axis 1 (get_or ns axis 0) ns yields_at ls rest) where
-  pub IsCut-first : IsCut o ns axis 1 (get_or ns axis 0 - 1)
-  IsCut-first = record { slowest = slowest; some = omega arith; others = omega arith; whole = omega arith }
+  pub IsCutAt-first : IsCutAt o ns axis 1 (get_or ns axis 0 - 1)
+  IsCutAt-first = record { slowest = slowest; some = omega arith; others = omega arith; whole = omega arith }
 
   pub first-sum : sum ms + get_or ns axis 0 ≡ sum ns + 1
   first-sum =

@@ -1,4 +1,4 @@
--- Inside `order`: where a box is cut in two.
+-- Inside `order`: along which axis a box is cut.
 use Rattle.std.specs.Prelude.{◌≡◌, ℕ, ◌+◌, ◌<◌, ◌≤◌, List, length, slice_set, slice_index}
 use Rattle.ndarray.specs.order.Ranks.{axis_in}
 use Rattle.ndarray.specs.declared.base.shape.Order.{Order}
@@ -10,12 +10,11 @@ pub record IsSlowest (order : Order) (ns : List ℕ) (axis : ℕ) : Type 0 where
   pub axis_is : axis ≡ axis_in order (length ns) place
   pub slower : (q : ℕ) → place < q → q < length ns → slice_index ns (axis_in order (length ns) q) ≤ 1
 
--- the slowest axis is cut at an index, and both parts have some of it
-pub record IsCut (order : Order) (ns : List ℕ) (axis index rest : ℕ) : Type 0 where
+-- the slowest axis, of this length, can be cut
+pub record IsCut (order : Order) (ns : List ℕ) (axis len : ℕ) : Type 0 where
   pub slowest : IsSlowest order ns axis
-  pub some : 0 < index
-  pub others : 0 < rest
-  pub whole : index + rest ≡ slice_index ns axis
+  pub long : 1 < len
+  pub whole : len ≡ slice_index ns axis
 
 -- the index list whose index on the axis is counted from n
 abbrev pub counted_from : ℕ → ℕ → List ℕ → List ℕ

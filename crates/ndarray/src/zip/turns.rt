@@ -8,7 +8,7 @@ ghost use Rattle.ndarray.specs.Runs.{MayTurnAt, TurnAt, TakesAt, StopsAt, EndsOr
 ghost use Rattle.ndarray.specs.declared.base.shape.Order.{Order};
 
 use crate::base::dimension::Lengths;
-use crate::order::{Order, middle_of};
+use crate::order::{Order, slowest_axis};
 use crate::zip::producer::NdProducer;
 
 /// What takes items one after another, up to one at which it stops.
@@ -70,13 +70,12 @@ fn take_parts<P: NdProducer, T: Turn<P::Item>>(
         Ok(flat) => return note_flat(take_run::<P, _, _>(P::run_flat(flat), turn), true),
         Err(p) => p,
     };
-    let dim = p.raw_dim();
-    let Some(cut) = middle_of(order, &dim) else {
+    let Some(cut) = slowest_axis(order, &p.raw_dim()) else {
         return note_flat(take_run::<P, _, _>(p.run(order), turn), false);
     };
-    // One index of the axis after another, and no halves: so a part that is flat costs no further call of this function.
+    // One index of the axis after another, and no halves: a part that is flat then costs no further call of this function.
     let mut turn = turn;
-    for done in 1..dim.axis(cut.axis.0) {
+    for done in 1..cut.len {
         let (first, rest) = p.split_at(cut.axis, 1);
         p = rest;
         match first.try_flat(order) {

@@ -14,7 +14,7 @@ ghost use Rattle.std.specs.declared.alloc.AllocError.{AllocError};
 use crate::base::array::ArrayBase;
 use crate::base::dimension::Lengths;
 use crate::base::storage::{CellWriter, DataMut};
-use crate::order::{Order, Walk, middle_of};
+use crate::order::{Order, Walk, slowest_axis};
 use crate::zip::assigning::assigning_order;
 use crate::zip::producer::NdProducer;
 use crate::zip::turns::{Taken, flat_unless, note_flat};
@@ -117,8 +117,8 @@ impl<P: NdProducer, A: Drop, C: CellCall<A, P::Item>> CellWriter<A, Result<(), A
 }
 
 /// Leaves in each element of a slice what a call answers at it and the item beside it of a producer in the order, up to
-/// the first error. A producer whose items do not lie side by side is cut in halves along the slowest axis, down to parts
-/// whose items do, and the slice with it; it is not tried whole where it is `apart`.
+/// the first error. A producer whose items do not lie side by side is cut along the slowest axis, index by index, down to
+/// parts whose items do, and the slice with it; it is not tried whole where it is `apart`.
 pub(crate) fn update_parts<P: NdProducer, A: Drop, C: CellCall<A, P::Item>>(
     slice: &mut [A],
     p: P,
@@ -130,28 +130,46 @@ pub(crate) fn update_parts<P: NdProducer, A: Drop, C: CellCall<A, P::Item>>(
     ensures ran { (at : List ℕ → Option A) → map at (box_in order (P.lengths p)) ≡ map Some slice.old → MatchResult result (λ u. OverwritesTo (is_beside at (P.yields_at p)) C.call_gives (box_in order (P.lengths p)) f slice.old (Ok u.turn) slice.new) (λ e. OverwritesTo (is_beside at (P.yields_at p)) C.call_gives (box_in order (P.lengths p)) f slice.old (Err e) slice.new) }
     ensures as_long { length slice.new ≡ length slice.old }
 {
-    let p = match flat_unless(p, order, apart) {
+    let mut p = match flat_unless(p, order, apart) {
         Ok(flat) => {
             return note_flat(update_run::<P, _, _, _>(slice, P::run_flat(flat), f), true);
         }
         Err(p) => p,
     };
-    let Some(cut) = middle_of(order, &p.raw_dim()) else {
+    let Some(cut) = slowest_axis(order, &p.raw_dim()) else {
         return note_flat(update_run::<P, _, _, _>(slice, p.run(order), f), false);
     };
-    let (first, rest) = p.split_at(cut.axis, cut.index);
-    let (here, others) = slice.split_at_mut(first.raw_dim().size());
-    match update_parts(here, first, order, cut.index > 1, f) {
-        Err(refused) => Err(refused),
-        Ok(Taken { turn: f, flat }) => {
-            if flat {
-                update_parts(others, rest, order, cut.rest > 1, f)
-            } else {
-                // Where the first part has no flat parts, the rest is not cut again.
-                note_flat(update_run::<P, _, _, _>(others, rest.run(order), f), false)
-            }
+    // How many elements stand beside each index of the axis.
+    let each = slice.len() / cut.len;
+    let mut from = 0;
+    let mut f = f;
+    for done in 1..cut.len {
+        let (first, rest) = p.split_at(cut.axis, 1);
+        p = rest;
+        let end = from + each;
+        let here = &mut slice[from..end];
+        match first.try_flat(order) {
+            Ok(flat) => match update_run::<P, _, _, _>(here, P::run_flat(flat), f) {
+                Ok(next) => f = next,
+                Err(refused) => return Err(refused),
+            },
+            Err(first) => match update_parts(here, first, order, true, f) {
+                Err(refused) => return Err(refused),
+                Ok(Taken { turn: next, flat }) => {
+                    f = next;
+                    if !flat {
+                        // Where the first part has no flat parts, the rest is not cut again.
+                        return note_flat(
+                            update_run::<P, _, _, _>(&mut slice[end..], p.run(order), f),
+                            false,
+                        );
+                    }
+                }
+            },
         }
+        from = end;
     }
+    update_parts(&mut slice[from..], p, order, false, f)
 }
 
 /// The same of a run over a producer, one item after another.

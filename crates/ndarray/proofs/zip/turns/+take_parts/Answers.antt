@@ -4,7 +4,7 @@ use Rattle.ndarray.specs.Orders.{box_in}
 use Rattle.ndarray.specs.Runs.{TurnAt, StopsAt, EndsOrStops}
 use Rattle.ndarray.specs.order.Cuts.{IsCut}
 use Rattle.ndarray.proofs.boxes.Cuts.{slowest-below}
-use Rattle.ndarray.proofs.runs.Parts.{may-less, ran-less, may-first, may-rest, first-stopped, both-ran, shows-own, IsCut-first, first-sum, rest-sum, rest-len, rest-slowest, noted, follows-noted}
+use Rattle.ndarray.proofs.runs.Parts.{may-less, ran-less, may-first, may-rest, first-stopped, both-ran, shows-own, IsCutAt-first, first-sum, rest-sum, rest-len, rest-slowest, noted, follows-noted}
 use Rattle.ndarray.proofs.runs.Turns.{YieldsInTurn-less}
 use Rattle.ndarray.proofs.zip.turns.+take_parts.Goals as goal
 use Rattle.ndarray.proofs.zip.turns.+take_parts.Goals.{in-Ok-try_flat+in-Ok-take_run, in-Err-try_flat+in-Ok-take_parts+else-not-flat}
@@ -24,7 +24,7 @@ loop-done-init g t c =
     let o = c.args.order in
     let less = c.in-Err.ensures.back in
     let axis = c.in-Some.cut.axis.0 in
-    let cut = subst (λ ns. IsCut o ns axis c.in-Some.cut.index c.in-Some.cut.rest) c.raw_dim-dim.ensures.lengths c.in-Some.ensures in
+    let cut = subst (λ ns. IsCut o ns axis c.in-Some.cut.len) c.raw_dim.ensures.lengths c.in-Some.ensures in
     let whole = cut.whole in
     let many = ap sum less.lengths in
     (cut.slowest, omega (arith, whole), omega (arith, many), may-less g.T.Turn.goes o less c.args.turn g.T.Turn.can_take c.requires.can, λ r w. ran-less g.T.Turn.goes o less c.args.turn g.T.Turn.stops r w)
@@ -32,7 +32,7 @@ loop-done-init g t c =
 pub split_at-first-requires : goal.split_at-first-requires
 split_at-first-requires g t c =
     let i = c.loop-done.invariant in
-    record { axis_below = slowest-below c.args.order (g.P.Shaped.lengths c.loop-done.p) c.in-Some.cut.axis.0 i.0; index_at_most = omega (arith, i.1, c.axis-done-end.ensures, c.in-Some.ensures.whole) }
+    record { axis_below = slowest-below c.args.order (g.P.Shaped.lengths c.loop-done.p) c.in-Some.cut.axis.0 i.0; index_at_most = omega (arith, i.1, c.loop-done.auto.done-end, c.loop-done-test.true) }
 
 pub take_run-requires-in-Ok-try_flat-clause-can : goal.take_run-requires-in-Ok-try_flat-clause-can
 take_run-requires-in-Ok-try_flat-clause-can g t c =
@@ -40,8 +40,8 @@ take_run-requires-in-Ok-try_flat-clause-can g t c =
     let i = c.loop-done.invariant in
     let low = c.split_at-first.ensures.first in
     let high = c.split_at-first.ensures.second in
-    let long : 1 < slice_index (g.P.Shaped.lengths c.loop-done.p) c.in-Some.cut.axis.0 = omega (arith, i.1, c.axis-done-end.ensures, c.in-Some.ensures.whole) in
-    let cut = IsCut-first o i.0 long low high in
+    let long : 1 < slice_index (g.P.Shaped.lengths c.loop-done.p) c.in-Some.cut.axis.0 = omega (arith, i.1, c.loop-done.auto.done-end, c.loop-done-test.true) in
+    let cut = IsCutAt-first o i.0 long low high in
     (c.split_at-first.result.0, (o, (c.run_flat-in-Ok-try_flat.ensures.gives c.split_at-first.result.0 o c.in-Ok-try_flat.ensures.flat, may-first g.T.Turn.goes o shows-own cut low high g.T.Turn.can_take c.loop-done.turn i.3)))
 
 pub returns-in-Err-take_run : goal.returns-in-Err-take_run
@@ -50,8 +50,8 @@ returns-in-Err-take_run g t c =
     let i = c.loop-done.invariant in
     let low = c.split_at-first.ensures.first in
     let high = c.split_at-first.ensures.second in
-    let long : 1 < slice_index (g.P.Shaped.lengths c.loop-done.p) c.in-Some.cut.axis.0 = omega (arith, i.1, c.axis-done-end.ensures, c.in-Some.ensures.whole) in
-    let cut = IsCut-first o i.0 long low high in
+    let long : 1 < slice_index (g.P.Shaped.lengths c.loop-done.p) c.in-Some.cut.axis.0 = omega (arith, i.1, c.loop-done.auto.done-end, c.loop-done-test.true) in
+    let cut = IsCutAt-first o i.0 long low high in
     record { ran = i.4 (Err c.in-Err-take_run.stop) (first-stopped g.T.Turn.goes o shows-own cut low high g.T.Turn.stops c.loop-done.turn c.in-Err-take_run.stop (c.in-Err-take_run.ensures.ran c.split_at-first.result.0 o (c.run_flat-in-Ok-try_flat.ensures.gives c.split_at-first.result.0 o c.in-Ok-try_flat.ensures.flat))) }
 
 pub take_parts-requires : goal.take_parts-requires
@@ -60,12 +60,12 @@ take_parts-requires g t c κs within =
     let i = c.loop-done.invariant in
     let low = c.split_at-first.ensures.first in
     let high = c.split_at-first.ensures.second in
-    let long : 1 < slice_index (g.P.Shaped.lengths c.loop-done.p) c.in-Some.cut.axis.0 = omega (arith, i.1, c.axis-done-end.ensures, c.in-Some.ensures.whole) in
-    let cut = IsCut-first o i.0 long low high in
+    let long : 1 < slice_index (g.P.Shaped.lengths c.loop-done.p) c.in-Some.cut.axis.0 = omega (arith, i.1, c.loop-done.auto.done-end, c.loop-done-test.true) in
+    let cut = IsCutAt-first o i.0 long low high in
     let back = c.in-Err-try_flat.ensures.back in
     let many = ap sum back.lengths in
     let less = first-sum o i.0 long low high in
-    (omega (arith, many, less, i.1, i.2, c.axis-done-end.ensures, c.in-Some.ensures.whole, c.in-Some.ensures.some, c.in-Some.ensures.others, c.decreases), (within.0, (within.1.0, (within.1.1.0, (within.1.1.1.0, (within.1.1.1.1.0, (within.1.1.1.1.1.0, (within.1.1.1.1.1.1.0, (within.1.1.1.1.1.1.1, may-less g.T.Turn.goes o back c.loop-done.turn g.T.Turn.can_take (may-first g.T.Turn.goes o shows-own cut low high g.T.Turn.can_take c.loop-done.turn i.3))))))))))
+    (omega (arith, many, less, i.1, i.2, c.in-Some.ensures.long, c.decreases), (within.0, (within.1.0, (within.1.1.0, (within.1.1.1.0, (within.1.1.1.1.0, (within.1.1.1.1.1.0, (within.1.1.1.1.1.1.0, (within.1.1.1.1.1.1.1, may-less g.T.Turn.goes o back c.loop-done.turn g.T.Turn.can_take (may-first g.T.Turn.goes o shows-own cut low high g.T.Turn.can_take c.loop-done.turn i.3))))))))))
 
 pub returns-in-Err-take_parts : goal.returns-in-Err-take_parts
 returns-in-Err-take_parts g t c =
@@ -73,8 +73,8 @@ returns-in-Err-take_parts g t c =
     let i = c.loop-done.invariant in
     let low = c.split_at-first.ensures.first in
     let high = c.split_at-first.ensures.second in
-    let long : 1 < slice_index (g.P.Shaped.lengths c.loop-done.p) c.in-Some.cut.axis.0 = omega (arith, i.1, c.axis-done-end.ensures, c.in-Some.ensures.whole) in
-    let cut = IsCut-first o i.0 long low high in
+    let long : 1 < slice_index (g.P.Shaped.lengths c.loop-done.p) c.in-Some.cut.axis.0 = omega (arith, i.1, c.loop-done.auto.done-end, c.loop-done-test.true) in
+    let cut = IsCutAt-first o i.0 long low high in
     let stop = c.in-Err-take_parts.stop in
     record { ran = i.4 (Err stop) (first-stopped g.T.Turn.goes o shows-own cut low high g.T.Turn.stops c.loop-done.turn stop (ran-less g.T.Turn.goes o c.in-Err-try_flat.ensures.back c.loop-done.turn g.T.Turn.stops (Err stop) c.in-Err-take_parts.ensures.ran)) }
 
@@ -84,8 +84,8 @@ take_run-requires-then-not-flat-clause-can g t c =
     let i = c.loop-done.invariant in
     let low = c.split_at-first.ensures.first in
     let high = c.split_at-first.ensures.second in
-    let long : 1 < slice_index (g.P.Shaped.lengths c.loop-done.p) c.in-Some.cut.axis.0 = omega (arith, i.1, c.axis-done-end.ensures, c.in-Some.ensures.whole) in
-    let cut = IsCut-first o i.0 long low high in
+    let long : 1 < slice_index (g.P.Shaped.lengths c.loop-done.p) c.in-Some.cut.axis.0 = omega (arith, i.1, c.loop-done.auto.done-end, c.loop-done-test.true) in
+    let cut = IsCutAt-first o i.0 long low high in
     let m = c.in-Ok-take_parts.field-0.turn in
     let ran = ran-less g.T.Turn.goes o c.in-Err-try_flat.ensures.back c.loop-done.turn g.T.Turn.stops (Ok m) c.in-Ok-take_parts.ensures.ran in
     (c.split_at-first.result.1, (o, (c.run-then-not-flat.ensures.gives, may-rest g.T.Turn.goes o shows-own cut low high g.T.Turn.stops c.loop-done.turn m ran g.T.Turn.can_take i.3)))
@@ -96,8 +96,8 @@ returns-then-not-flat g t c =
     let i = c.loop-done.invariant in
     let low = c.split_at-first.ensures.first in
     let high = c.split_at-first.ensures.second in
-    let long : 1 < slice_index (g.P.Shaped.lengths c.loop-done.p) c.in-Some.cut.axis.0 = omega (arith, i.1, c.axis-done-end.ensures, c.in-Some.ensures.whole) in
-    let cut = IsCut-first o i.0 long low high in
+    let long : 1 < slice_index (g.P.Shaped.lengths c.loop-done.p) c.in-Some.cut.axis.0 = omega (arith, i.1, c.loop-done.auto.done-end, c.loop-done-test.true) in
+    let cut = IsCutAt-first o i.0 long low high in
     let m = c.in-Ok-take_parts.field-0.turn in
     let ran = ran-less g.T.Turn.goes o c.in-Err-try_flat.ensures.back c.loop-done.turn g.T.Turn.stops (Ok m) c.in-Ok-take_parts.ensures.ran in
     record {
@@ -114,8 +114,8 @@ loop-done-preserved g t c =
     let i = c.loop-done.invariant in
     let low = c.split_at-first.ensures.first in
     let high = c.split_at-first.ensures.second in
-    let long : 1 < slice_index (g.P.Shaped.lengths c.loop-done.p) c.in-Some.cut.axis.0 = omega (arith, i.1, c.axis-done-end.ensures, c.in-Some.ensures.whole) in
-    let cut = IsCut-first o i.0 long low high in
+    let long : 1 < slice_index (g.P.Shaped.lengths c.loop-done.p) c.in-Some.cut.axis.0 = omega (arith, i.1, c.loop-done.auto.done-end, c.loop-done-test.true) in
+    let cut = IsCutAt-first o i.0 long low high in
     let first = c.split_at-first.result.0 in
     let turn = c.loop-done.turn in
     let m = c.match-try_flat.turn in
@@ -140,7 +140,7 @@ loop-done-preserved g t c =
 pub take_parts-requires-2 : goal.take_parts-requires-2
 take_parts-requires-2 g t c κs within =
     let i = c.loop-done.invariant in
-    (omega (arith, i.1, i.2, c.axis-done-end.ensures, c.in-Some.ensures.whole, c.in-Some.ensures.some, c.in-Some.ensures.others, c.decreases), (within.0, (within.1.0, (within.1.1.0, (within.1.1.1.0, (within.1.1.1.1.0, (within.1.1.1.1.1.0, (within.1.1.1.1.1.1.0, (within.1.1.1.1.1.1.1, i.3)))))))))
+    (omega (arith, i.1, i.2, c.loop-done.auto.done-end, c.loop-done-test.false, c.in-Some.ensures.long, c.decreases), (within.0, (within.1.0, (within.1.1.0, (within.1.1.1.0, (within.1.1.1.1.0, (within.1.1.1.1.1.0, (within.1.1.1.1.1.1.0, (within.1.1.1.1.1.1.1, i.3)))))))))
 
 pub returns : goal.returns
 returns g t c =

@@ -12,7 +12,7 @@ decreases-take_parts g l = sum (g.P.Shaped.lengths l.p)
 abbrev pub invariant-loop-done : goal.invariant-loop-done
 invariant-loop-done g l =
     IsSlowest l.fn.order (g.P.Shaped.lengths l.p) l.cut.axis.0
-    × (slice_index (g.P.Shaped.lengths l.p) l.cut.axis.0 + l.done ≡ l.cut.index + l.cut.rest + 1)
+    × (slice_index (g.P.Shaped.lengths l.p) l.cut.axis.0 + l.done ≡ l.cut.len + 1)
     × (sum (g.P.Shaped.lengths l.p) + l.done ≡ sum (g.P.Shaped.lengths l.fn.p) + 1)
     × MayTurnAt (TurnAt (g.P.NdProducer.yields_at l.p) g.T.Turn.goes) (TakesAt (g.P.NdProducer.yields_at l.p) g.T.Turn.can_take) l.turn (box_in l.fn.order (g.P.Shaped.lengths l.p))
     × ((r : Result g.row.T.Denot g.row.T-Stop.Denot) → EndsOrStops (TurnAt (g.P.NdProducer.yields_at l.p) g.T.Turn.goes) (StopsAt (g.P.NdProducer.yields_at l.p) g.T.Turn.stops) l.turn (box_in l.fn.order (g.P.Shaped.lengths l.p)) r

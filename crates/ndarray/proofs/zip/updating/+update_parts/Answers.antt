@@ -1,13 +1,15 @@
-use Rattle.std.proofs.Common.{◌≡◌, ◌∙◌, ◌++◌, ℕ, List, Option, arith, ap, sym, subst, length, map, take, drop, Some, Ok, Err}
-use Rattle.std.proofs.lemmas.List.{length-take-le}
-use Rattle.ndarray.specs.Index.{size}
+use Rattle.std.proofs.Common.{◌≡◌, ◌∙◌, ◌+◌, ◌-◌, ◌*◌, ◌/◌, ◌<◌, ℕ, List, Option, arith, ap, sym, subst, refl, length, map, take, drop, sum, Some, Ok, Err}
+use Rattle.std.specs.Prelude.{slice_index}
+use borrow.Rule.Slice.PartMut.{put_mid}
 use Rattle.ndarray.specs.Orders.{box_in}
 use Rattle.ndarray.specs.Updates.{is_beside, OverwritesTo}
 use Rattle.ndarray.specs.order.Cuts.{IsCut, counted_from}
-use Rattle.ndarray.proofs.runs.OverwrittenParts.{fits-first, along-first, along-rest, may-overwrite-first, may-overwrite-rest, first-refused, rest-overwrote}
-use Rattle.ndarray.proofs.runs.Parts.{first-smaller, rest-smaller, noted, follows-noted}
+use Rattle.ndarray.proofs.boxes.Cuts.{slowest-below}
+use Rattle.ndarray.proofs.runs.OverwrittenParts.{Left, left-all, elements-each, first-along, first-may, first-failed, left-rest, left-along, left-ran, may-overwrite-less, overwrote-less}
+use Rattle.ndarray.proofs.runs.Parts.{first-sum, rest-sum, rest-len, rest-slowest, noted, follows-noted}
 use Rattle.ndarray.proofs.runs.Turns.{YieldsInTurn-less}
 use Rattle.ndarray.proofs.zip.updating.+update_parts.Goals as goal
+use Rattle.ndarray.proofs.zip.updating.+update_parts.Goals.{in-Ok-try_flat+in-Ok-update_run, in-Err-try_flat+in-Ok-update_parts+else-not-flat}
 
 pub update_run-requires-in_default-clause-can : goal.update_run-requires-in_default-clause-can
 update_run-requires-in_default-clause-can g t c = let q = c.requires.can in (c.args.p, (c.args.order, (q.0, (YieldsInTurn-less c.args.order c.in-Err.ensures.back c.run.ensures.gives, q.1.0, q.1.1))))
@@ -18,168 +20,206 @@ returns-in_default-clause-ran g t c = λ at along.
     (λ r. OverwritesTo (is_beside at (g.P.NdProducer.yields_at c.args.p)) g.C.CellCall.call_gives (box_in c.args.order (g.P.Shaped.lengths c.args.p)) c.args.f c.args.slice.now r c.update_run-in_default.new.slice)
     (c.update_run-in_default.ensures.ran c.args.p c.args.order at (YieldsInTurn-less c.args.order c.in-Err.ensures.back c.run.ensures.gives) along)
 
-pub split_at_mut-here-requires : goal.split_at_mut-here-requires
-split_at_mut-here-requires g t c =
+pub loop-done-init : goal.loop-done-init
+loop-done-init g t c =
     let o = c.args.order in
     let less = c.in-Err.ensures.back in
-    let cut = subst (λ ns. IsCut o ns c.in-Some.cut.axis.0 c.in-Some.cut.index c.in-Some.cut.rest) c.raw_dim.ensures.lengths c.in-Some.ensures in
-    let low = c.split_at-first.ensures.first in
-    let high = c.split_at-first.ensures.second in
-    let xs = c.args.slice.now in
+    let axis = c.in-Some.cut.axis.0 in
+    let cut = subst (λ ns. IsCut o ns axis c.in-Some.cut.len) c.raw_dim.ensures.lengths c.in-Some.ensures in
+    let whole = cut.whole in
+    let many = ap sum less.lengths in
     let q = c.requires.can in
-    let fits = fits-first o less cut low high q.0 xs q.1.0 in
-    let many = c.size.ensures ∙ ap size c.raw_dim-2.ensures.lengths in
-    omega arith
+    let xs = c.args.slice.now in
+    let ks = g.P.Shaped.lengths c.in-Err.p in
+    let along : map q.0 (box_in o ks) ≡ map Some xs = subst (λ l. map q.0 (box_in o l) ≡ map Some xs) (sym less.lengths) q.1.0 in
+    let each = elements-each o ks q.0 xs axis along (slowest-below o ks axis cut.slowest) (omega (arith, whole, cut.long)) in (
+      cut.slowest,
+      omega (arith, whole),
+      omega (arith, many),
+      refl,
+      omega (arith, ap (λ n. slice_index ks axis * (length xs / n)) whole ∙ each),
+      λ at along. left-all o (g.P.Shaped.lengths c.args.p) (g.P.NdProducer.yields_at c.args.p) g.C.CellCall.call_gives g.C.CellCall.can_call c.args.f xs at less along,
+    )
 
-pub update_parts-requires : goal.update_parts-requires
-update_parts-requires g t c κs within =
+pub update_run-requires-in-Ok-try_flat-clause-can : goal.update_run-requires-in-Ok-try_flat-clause-can
+update_run-requires-in-Ok-try_flat-clause-can g t c =
     let o = c.args.order in
-    let less = c.in-Err.ensures.back in
-    let cut = subst (λ ns. IsCut o ns c.in-Some.cut.axis.0 c.in-Some.cut.index c.in-Some.cut.rest) c.raw_dim.ensures.lengths c.in-Some.ensures in
+    let i = c.loop-done.invariant in
+    let q = c.requires.can in
+    let left = i.5 q.0 q.1.0 in
     let low = c.split_at-first.ensures.first in
     let high = c.split_at-first.ensures.second in
-    let xs = c.args.slice.now in
-    let q = c.requires.can in
-    let many : c.size.result ≡ size (g.P.Shaped.lengths c.split_at-first.result.0) = c.size.ensures ∙ ap size c.raw_dim-2.ensures.lengths in
-    let here : c.split_at_mut-here.result.0.now ≡ take (size (g.P.Shaped.lengths c.split_at-first.result.0)) xs = c.split_at_mut-here.ensures.front ∙ ap (λ n. take n xs) many in
-    let there : c.split_at_mut-here.result.1.now ≡ drop (size (g.P.Shaped.lengths c.split_at-first.result.0)) xs = c.split_at_mut-here.ensures.back ∙ ap (λ n. drop n xs) many in
-    let smaller = first-smaller {P = g.row.C.Denot} (λ p x r. p ≡ r) o less cut low high in
-    let at-low : List ℕ → Option g.row.A.Denot = λ i. q.0 (counted_from c.in-Some.cut.axis.0 0 i) in
-    (omega (arith, smaller, c.decreases), (within.0, (within.1.0, (within.1.1.0, (within.1.1.1.0, (within.1.1.1.1.0, (within.1.1.1.1.1.0, (within.1.1.1.1.1.1.0, (within.1.1.1.1.1.1.1, (at-low, (along-first o less cut low high q.0 xs q.1.0 ∙ ap (map (λ x. Some x)) (sym here), may-overwrite-first o less cut low high q.0 xs q.1.0 g.C.CellCall.call_gives c.args.f g.C.CellCall.can_call q.1.1)))))))))))
-
-pub update_parts-requires-then-flat : goal.update_parts-requires-then-flat
-update_parts-requires-then-flat g t c κs within =
-    let o = c.args.order in
-    let less = c.in-Err.ensures.back in
-    let cut = subst (λ ns. IsCut o ns c.in-Some.cut.axis.0 c.in-Some.cut.index c.in-Some.cut.rest) c.raw_dim.ensures.lengths c.in-Some.ensures in
-    let low = c.split_at-first.ensures.first in
-    let high = c.split_at-first.ensures.second in
-    let xs = c.args.slice.now in
-    let q = c.requires.can in
-    let many : c.size.result ≡ size (g.P.Shaped.lengths c.split_at-first.result.0) = c.size.ensures ∙ ap size c.raw_dim-2.ensures.lengths in
-    let here : c.split_at_mut-here.result.0.now ≡ take (size (g.P.Shaped.lengths c.split_at-first.result.0)) xs = c.split_at_mut-here.ensures.front ∙ ap (λ n. take n xs) many in
-    let there : c.split_at_mut-here.result.1.now ≡ drop (size (g.P.Shaped.lengths c.split_at-first.result.0)) xs = c.split_at_mut-here.ensures.back ∙ ap (λ n. drop n xs) many in
-    let smaller = rest-smaller {P = g.row.C.Denot} (λ p x r. p ≡ r) o less cut low high in
-    let at = q.0 in
-    let along = q.1.0 in
-    let at-low : List ℕ → Option g.row.A.Denot = λ i. at (counted_from c.in-Some.cut.axis.0 0 i) in
-    let first = g.P.NdProducer.yields_at c.split_at-first.result.0 in
-    let n = size (g.P.Shaped.lengths c.split_at-first.result.0) in
-    let ys = c.update_parts.new.slice in
-    let ran = subst (λ l. OverwritesTo (is_beside at-low first) g.C.CellCall.call_gives (box_in o (g.P.Shaped.lengths c.split_at-first.result.0)) c.args.f l (Ok c.in-Ok-update_parts.field-0.turn) ys) here
-    (c.in-Ok-update_parts.ensures.ran at-low (along-first o less cut low high at xs along ∙ ap (map (λ x. Some x)) (sym here))) in
-    let long : length ys ≡ n = c.in-Ok-update_parts.ensures.as_long ∙ (ap (λ l. length l) here ∙ length-take-le n xs (fits-first o less cut low high at xs along)) in
-    (omega (arith, smaller, c.decreases), (within.0, (within.1.0, (within.1.1.0, (within.1.1.1.0, (within.1.1.1.1.0, (within.1.1.1.1.1.0, (within.1.1.1.1.1.1.0, (within.1.1.1.1.1.1.1, ((λ i. at (counted_from c.in-Some.cut.axis.0 c.in-Some.cut.index i)), (along-rest o less cut low high at xs along ∙ ap (map (λ x. Some x)) (sym there), may-overwrite-rest o less cut low high at xs along g.C.CellCall.call_gives c.args.f c.in-Ok-update_parts.field-0.turn ys long ran g.C.CellCall.can_call q.1.1)))))))))))
-
-pub update_run-requires-else-flat-clause-can : goal.update_run-requires-else-flat-clause-can
-update_run-requires-else-flat-clause-can g t c =
-    let o = c.args.order in
-    let less = c.in-Err.ensures.back in
-    let cut = subst (λ ns. IsCut o ns c.in-Some.cut.axis.0 c.in-Some.cut.index c.in-Some.cut.rest) c.raw_dim.ensures.lengths c.in-Some.ensures in
-    let low = c.split_at-first.ensures.first in
-    let high = c.split_at-first.ensures.second in
-    let xs = c.args.slice.now in
-    let q = c.requires.can in
-    let many : c.size.result ≡ size (g.P.Shaped.lengths c.split_at-first.result.0) = c.size.ensures ∙ ap size c.raw_dim-2.ensures.lengths in
-    let here : c.split_at_mut-here.result.0.now ≡ take (size (g.P.Shaped.lengths c.split_at-first.result.0)) xs = c.split_at_mut-here.ensures.front ∙ ap (λ n. take n xs) many in
-    let there : c.split_at_mut-here.result.1.now ≡ drop (size (g.P.Shaped.lengths c.split_at-first.result.0)) xs = c.split_at_mut-here.ensures.back ∙ ap (λ n. drop n xs) many in
-    let at = q.0 in
-    let along = q.1.0 in
-    let at-low : List ℕ → Option g.row.A.Denot = λ i. at (counted_from c.in-Some.cut.axis.0 0 i) in
-    let first = g.P.NdProducer.yields_at c.split_at-first.result.0 in
-    let n = size (g.P.Shaped.lengths c.split_at-first.result.0) in
-    let ys = c.update_parts.new.slice in
-    let ran = subst (λ l. OverwritesTo (is_beside at-low first) g.C.CellCall.call_gives (box_in o (g.P.Shaped.lengths c.split_at-first.result.0)) c.args.f l (Ok c.in-Ok-update_parts.field-0.turn) ys) here
-    (c.in-Ok-update_parts.ensures.ran at-low (along-first o less cut low high at xs along ∙ ap (map (λ x. Some x)) (sym here))) in
-    let long : length ys ≡ n = c.in-Ok-update_parts.ensures.as_long ∙ (ap (λ l. length l) here ∙ length-take-le n xs (fits-first o less cut low high at xs along)) in (
-      c.split_at-first.result.1,
+    let long : 1 < slice_index (g.P.Shaped.lengths c.loop-done.p) c.in-Some.cut.axis.0 = omega (arith, i.1, c.loop-done.auto.done-end, c.loop-done-test.true) in
+    let first = c.split_at-first.result.0 in (
+      first,
       (
         o,
         (
-          (λ i. at (counted_from c.in-Some.cut.axis.0 c.in-Some.cut.index i)),
+          (λ is. left.seen (counted_from c.in-Some.cut.axis.0 0 is)),
           (
-            c.run-else-flat.ensures.gives,
-            along-rest o less cut low high at xs along ∙ ap (map (λ x. Some x)) (sym there),
-            may-overwrite-rest o less cut low high at xs along g.C.CellCall.call_gives c.args.f c.in-Ok-update_parts.field-0.turn ys long ran g.C.CellCall.can_call q.1.1,
+            c.run_flat-in-Ok-try_flat.ensures.gives first o c.in-Ok-try_flat.ensures.flat,
+            first-along left i.0 long low high _ i.4 _ (omega arith),
+            first-may left i.0 long low high q.1.1,
           ),
         ),
       ),
     )
 
+pub returns-in-Err-update_run-clause-ran : goal.returns-in-Err-update_run-clause-ran
+returns-in-Err-update_run-clause-ran g t c = λ at along.
+    let o = c.args.order in
+    let i = c.loop-done.invariant in
+    let low = c.split_at-first.ensures.first in
+    let high = c.split_at-first.ensures.second in
+    let long : 1 < slice_index (g.P.Shaped.lengths c.loop-done.p) c.in-Some.cut.axis.0 = omega (arith, i.1, c.loop-done.auto.done-end, c.loop-done-test.true) in
+    let first = c.split_at-first.result.0 in
+    let part : ℕ = c.loop-done.from + length c.args.slice.now / c.in-Some.cut.len - c.loop-done.from in
+    let all-of : part ≡ length c.args.slice.now / c.in-Some.cut.len = omega arith in
+    let left = i.5 at along in
+    first-failed left i.0 long low high _ i.4 part all-of c.in-Err-update_run.refused c.update_run-in-Ok-try_flat.new.slice c.in-Err-update_run.ensures.as_long
+    (c.in-Err-update_run.ensures.ran first o (λ is. left.seen (counted_from c.in-Some.cut.axis.0 0 is)) (c.run_flat-in-Ok-try_flat.ensures.gives first o c.in-Ok-try_flat.ensures.flat) (first-along left i.0 long low high _ i.4 part all-of))
+
+pub update_parts-requires : goal.update_parts-requires
+update_parts-requires g t c κs within =
+    let o = c.args.order in
+    let i = c.loop-done.invariant in
+    let low = c.split_at-first.ensures.first in
+    let high = c.split_at-first.ensures.second in
+    let long : 1 < slice_index (g.P.Shaped.lengths c.loop-done.p) c.in-Some.cut.axis.0 = omega (arith, i.1, c.loop-done.auto.done-end, c.loop-done-test.true) in
+    let first = c.split_at-first.result.0 in
+    let part : ℕ = c.loop-done.from + length c.args.slice.now / c.in-Some.cut.len - c.loop-done.from in
+    let all-of : part ≡ length c.args.slice.now / c.in-Some.cut.len = omega arith in
+    let q = c.requires.can in
+    let left = i.5 q.0 q.1.0 in
+    let back = c.in-Err-try_flat.ensures.back in
+    let many = ap sum back.lengths in
+    let less = first-sum o i.0 long low high in
+    let seen : List ℕ → Option g.row.A.Denot = λ is. left.seen (counted_from c.in-Some.cut.axis.0 0 is) in
+    let along = subst (λ ns. map seen (box_in o ns) ≡ map Some (take part (drop c.loop-done.from c.loop-done.slice))) (sym back.lengths) (first-along left i.0 long low high _ i.4 part all-of) in
+    (omega (arith, many, less, i.1, i.2, c.loop-done.auto.done-end, c.loop-done-test.true, c.in-Some.ensures.long, c.decreases), (within.0, (within.1.0, (within.1.1.0, (within.1.1.1.0, (within.1.1.1.1.0, (within.1.1.1.1.1.0, (within.1.1.1.1.1.1.0, (within.1.1.1.1.1.1.1, (seen, (along, may-overwrite-less o back seen g.C.CellCall.call_gives c.loop-done.f g.C.CellCall.can_call (first-may left i.0 long low high q.1.1))))))))))))
+
 pub returns-in-Err-update_parts-clause-ran : goal.returns-in-Err-update_parts-clause-ran
 returns-in-Err-update_parts-clause-ran g t c = λ at along.
     let o = c.args.order in
-    let less = c.in-Err.ensures.back in
-    let cut = subst (λ ns. IsCut o ns c.in-Some.cut.axis.0 c.in-Some.cut.index c.in-Some.cut.rest) c.raw_dim.ensures.lengths c.in-Some.ensures in
+    let i = c.loop-done.invariant in
     let low = c.split_at-first.ensures.first in
     let high = c.split_at-first.ensures.second in
-    let xs = c.args.slice.now in
-    let many : c.size.result ≡ size (g.P.Shaped.lengths c.split_at-first.result.0) = c.size.ensures ∙ ap size c.raw_dim-2.ensures.lengths in
-    let here : c.split_at_mut-here.result.0.now ≡ take (size (g.P.Shaped.lengths c.split_at-first.result.0)) xs = c.split_at_mut-here.ensures.front ∙ ap (λ n. take n xs) many in
-    let there : c.split_at_mut-here.result.1.now ≡ drop (size (g.P.Shaped.lengths c.split_at-first.result.0)) xs = c.split_at_mut-here.ensures.back ∙ ap (λ n. drop n xs) many in
-    let at-low : List ℕ → Option g.row.A.Denot = λ i. at (counted_from c.in-Some.cut.axis.0 0 i) in
-    let first = g.P.NdProducer.yields_at c.split_at-first.result.0 in
-    let n = size (g.P.Shaped.lengths c.split_at-first.result.0) in
-    let ys = c.update_parts.new.slice in
-    let ran = subst (λ l. OverwritesTo (is_beside at-low first) g.C.CellCall.call_gives (box_in o (g.P.Shaped.lengths c.split_at-first.result.0)) c.args.f l (Err c.in-Err-update_parts.refused) ys) here
-    (c.in-Err-update_parts.ensures.ran at-low (along-first o less cut low high at xs along ∙ ap (map (λ x. Some x)) (sym here))) in
-    let long : length ys ≡ n = c.in-Err-update_parts.ensures.as_long ∙ (ap (λ l. length l) here ∙ length-take-le n xs (fits-first o less cut low high at xs along)) in
-    subst (λ l. OverwritesTo (is_beside at (g.P.NdProducer.yields_at c.args.p)) g.C.CellCall.call_gives (box_in o (g.P.Shaped.lengths c.args.p)) c.args.f xs (Err c.in-Err-update_parts.refused) (ys ++ l)) (sym there)
-    (first-refused o less cut low high at xs along g.C.CellCall.call_gives c.args.f c.in-Err-update_parts.refused ys long ran)
+    let long : 1 < slice_index (g.P.Shaped.lengths c.loop-done.p) c.in-Some.cut.axis.0 = omega (arith, i.1, c.loop-done.auto.done-end, c.loop-done-test.true) in
+    let first = c.split_at-first.result.0 in
+    let part : ℕ = c.loop-done.from + length c.args.slice.now / c.in-Some.cut.len - c.loop-done.from in
+    let all-of : part ≡ length c.args.slice.now / c.in-Some.cut.len = omega arith in
+    let left = i.5 at along in
+    let back = c.in-Err-try_flat.ensures.back in
+    let seen : List ℕ → Option g.row.A.Denot = λ is. left.seen (counted_from c.in-Some.cut.axis.0 0 is) in
+    let here = first-along left i.0 long low high _ i.4 part all-of in
+    first-failed left i.0 long low high _ i.4 part all-of c.in-Err-update_parts.refused c.update_parts.new.slice c.in-Err-update_parts.ensures.as_long
+    (overwrote-less o back seen g.C.CellCall.call_gives c.loop-done.f (take part (drop c.loop-done.from c.loop-done.slice)) (Err c.in-Err-update_parts.refused) c.update_parts.new.slice
+    (c.in-Err-update_parts.ensures.ran seen (subst (λ ns. map seen (box_in o ns) ≡ map Some (take part (drop c.loop-done.from c.loop-done.slice))) (sym back.lengths) here)))
 
-pub returns-then-flat-clause-ran : goal.returns-then-flat-clause-ran
-returns-then-flat-clause-ran g t c = λ at along.
+pub update_run-requires-then-not-flat-clause-can : goal.update_run-requires-then-not-flat-clause-can
+update_run-requires-then-not-flat-clause-can g t c =
     let o = c.args.order in
-    let less = c.in-Err.ensures.back in
-    let cut = subst (λ ns. IsCut o ns c.in-Some.cut.axis.0 c.in-Some.cut.index c.in-Some.cut.rest) c.raw_dim.ensures.lengths c.in-Some.ensures in
+    let i = c.loop-done.invariant in
     let low = c.split_at-first.ensures.first in
     let high = c.split_at-first.ensures.second in
-    let xs = c.args.slice.now in
-    let many : c.size.result ≡ size (g.P.Shaped.lengths c.split_at-first.result.0) = c.size.ensures ∙ ap size c.raw_dim-2.ensures.lengths in
-    let here : c.split_at_mut-here.result.0.now ≡ take (size (g.P.Shaped.lengths c.split_at-first.result.0)) xs = c.split_at_mut-here.ensures.front ∙ ap (λ n. take n xs) many in
-    let there : c.split_at_mut-here.result.1.now ≡ drop (size (g.P.Shaped.lengths c.split_at-first.result.0)) xs = c.split_at_mut-here.ensures.back ∙ ap (λ n. drop n xs) many in
-    let at-low : List ℕ → Option g.row.A.Denot = λ i. at (counted_from c.in-Some.cut.axis.0 0 i) in
-    let first = g.P.NdProducer.yields_at c.split_at-first.result.0 in
-    let n = size (g.P.Shaped.lengths c.split_at-first.result.0) in
+    let long : 1 < slice_index (g.P.Shaped.lengths c.loop-done.p) c.in-Some.cut.axis.0 = omega (arith, i.1, c.loop-done.auto.done-end, c.loop-done-test.true) in
+    let first = c.split_at-first.result.0 in
+    let part : ℕ = c.loop-done.from + length c.args.slice.now / c.in-Some.cut.len - c.loop-done.from in
+    let all-of : part ≡ length c.args.slice.now / c.in-Some.cut.len = omega arith in
+    let q = c.requires.can in
+    let left = i.5 q.0 q.1.0 in
+    let back = c.in-Err-try_flat.ensures.back in
+    let seen : List ℕ → Option g.row.A.Denot = λ is. left.seen (counted_from c.in-Some.cut.axis.0 0 is) in
+    let here = first-along left i.0 long low high _ i.4 part all-of in
+    let k = c.in-Ok-update_parts.field-0.turn in
     let ys = c.update_parts.new.slice in
-    let ran = subst (λ l. OverwritesTo (is_beside at-low first) g.C.CellCall.call_gives (box_in o (g.P.Shaped.lengths c.split_at-first.result.0)) c.args.f l (Ok c.in-Ok-update_parts.field-0.turn) ys) here
-    (c.in-Ok-update_parts.ensures.ran at-low (along-first o less cut low high at xs along ∙ ap (map (λ x. Some x)) (sym here))) in
-    let long : length ys ≡ n = c.in-Ok-update_parts.ensures.as_long ∙ (ap (λ l. length l) here ∙ length-take-le n xs (fits-first o less cut low high at xs along)) in
-    let at-high : List ℕ → Option g.row.A.Denot = λ i. at (counted_from c.in-Some.cut.axis.0 c.in-Some.cut.index i) in
-    let rest = c.split_at-first.result.1 in
-    let f = c.in-Ok-update_parts.field-0.turn in
-    let zs = c.update_parts-then-flat.new.slice in
-    follows-noted (λ n. n.turn) c.update_parts-then-flat.result
-    (λ r. OverwritesTo (is_beside at-high (g.P.NdProducer.yields_at rest)) g.C.CellCall.call_gives (box_in o (g.P.Shaped.lengths rest)) f c.split_at_mut-here.result.1.now r zs)
-    (λ r. OverwritesTo (is_beside at (g.P.NdProducer.yields_at c.args.p)) g.C.CellCall.call_gives (box_in o (g.P.Shaped.lengths c.args.p)) c.args.f xs r (ys ++ zs))
-    (λ r w. rest-overwrote o less cut low high at xs along g.C.CellCall.call_gives c.args.f f ys long ran zs r (subst (λ l. OverwritesTo (is_beside at-high (g.P.NdProducer.yields_at rest)) g.C.CellCall.call_gives (box_in o (g.P.Shaped.lengths rest)) f l r zs) there w))
-    (c.update_parts-then-flat.ensures.ran at-high (along-rest o less cut low high at xs along ∙ ap (map (λ x. Some x)) (sym there)))
+    let ran =
+    overwrote-less o back seen g.C.CellCall.call_gives c.loop-done.f (take part (drop c.loop-done.from c.loop-done.slice)) (Ok k) ys
+    (c.in-Ok-update_parts.ensures.ran seen (subst (λ ns. map seen (box_in o ns) ≡ map Some (take part (drop c.loop-done.from c.loop-done.slice))) (sym back.lengths) here)) in
+    let rest = left-rest left i.0 long low high _ i.4 part all-of k ys c.in-Ok-update_parts.ensures.as_long (omega (arith, i.4)) ran (put_mid c.loop-done.from part c.loop-done.slice ys) (c.loop-done.from + length c.args.slice.now / c.in-Some.cut.len) refl (omega arith) in
+    (c.split_at-first.result.1, (o, (rest.seen, (c.run-then-not-flat.ensures.gives, left-along rest, rest.may q.1.1))))
 
-pub returns-else-flat-clause-ran : goal.returns-else-flat-clause-ran
-returns-else-flat-clause-ran g t c = λ at along.
+pub returns-then-not-flat-clause-ran : goal.returns-then-not-flat-clause-ran
+returns-then-not-flat-clause-ran g t c = λ at along.
     let o = c.args.order in
-    let less = c.in-Err.ensures.back in
-    let cut = subst (λ ns. IsCut o ns c.in-Some.cut.axis.0 c.in-Some.cut.index c.in-Some.cut.rest) c.raw_dim.ensures.lengths c.in-Some.ensures in
+    let i = c.loop-done.invariant in
     let low = c.split_at-first.ensures.first in
     let high = c.split_at-first.ensures.second in
-    let xs = c.args.slice.now in
-    let many : c.size.result ≡ size (g.P.Shaped.lengths c.split_at-first.result.0) = c.size.ensures ∙ ap size c.raw_dim-2.ensures.lengths in
-    let here : c.split_at_mut-here.result.0.now ≡ take (size (g.P.Shaped.lengths c.split_at-first.result.0)) xs = c.split_at_mut-here.ensures.front ∙ ap (λ n. take n xs) many in
-    let there : c.split_at_mut-here.result.1.now ≡ drop (size (g.P.Shaped.lengths c.split_at-first.result.0)) xs = c.split_at_mut-here.ensures.back ∙ ap (λ n. drop n xs) many in
-    let at-low : List ℕ → Option g.row.A.Denot = λ i. at (counted_from c.in-Some.cut.axis.0 0 i) in
-    let first = g.P.NdProducer.yields_at c.split_at-first.result.0 in
-    let n = size (g.P.Shaped.lengths c.split_at-first.result.0) in
+    let long : 1 < slice_index (g.P.Shaped.lengths c.loop-done.p) c.in-Some.cut.axis.0 = omega (arith, i.1, c.loop-done.auto.done-end, c.loop-done-test.true) in
+    let first = c.split_at-first.result.0 in
+    let part : ℕ = c.loop-done.from + length c.args.slice.now / c.in-Some.cut.len - c.loop-done.from in
+    let all-of : part ≡ length c.args.slice.now / c.in-Some.cut.len = omega arith in
+    let left = i.5 at along in
+    let back = c.in-Err-try_flat.ensures.back in
+    let seen : List ℕ → Option g.row.A.Denot = λ is. left.seen (counted_from c.in-Some.cut.axis.0 0 is) in
+    let here = first-along left i.0 long low high _ i.4 part all-of in
+    let k = c.in-Ok-update_parts.field-0.turn in
     let ys = c.update_parts.new.slice in
-    let ran = subst (λ l. OverwritesTo (is_beside at-low first) g.C.CellCall.call_gives (box_in o (g.P.Shaped.lengths c.split_at-first.result.0)) c.args.f l (Ok c.in-Ok-update_parts.field-0.turn) ys) here
-    (c.in-Ok-update_parts.ensures.ran at-low (along-first o less cut low high at xs along ∙ ap (map (λ x. Some x)) (sym here))) in
-    let long : length ys ≡ n = c.in-Ok-update_parts.ensures.as_long ∙ (ap (λ l. length l) here ∙ length-take-le n xs (fits-first o less cut low high at xs along)) in
-    let at-high : List ℕ → Option g.row.A.Denot = λ i. at (counted_from c.in-Some.cut.axis.0 c.in-Some.cut.index i) in
-    let rest = c.split_at-first.result.1 in
-    let f = c.in-Ok-update_parts.field-0.turn in
-    let zs = c.update_run-else-flat.new.slice in
-    let over = along-rest o less cut low high at xs along ∙ ap (map (λ x. Some x)) (sym there) in
-    noted (λ n. n.turn) c.update_run-else-flat.result c.note_flat-else-flat.result c.note_flat-else-flat.ensures
-    (λ r. OverwritesTo (is_beside at (g.P.NdProducer.yields_at c.args.p)) g.C.CellCall.call_gives (box_in o (g.P.Shaped.lengths c.args.p)) c.args.f xs r (ys ++ zs))
-    (rest-overwrote o less cut low high at xs along g.C.CellCall.call_gives c.args.f f ys long ran zs c.update_run-else-flat.result
-    (subst (λ l. OverwritesTo (is_beside at-high (g.P.NdProducer.yields_at rest)) g.C.CellCall.call_gives (box_in o (g.P.Shaped.lengths rest)) f l c.update_run-else-flat.result zs) there
-    (c.update_run-else-flat.ensures.ran rest o at-high c.run-else-flat.ensures.gives over)))
+    let ran =
+    overwrote-less o back seen g.C.CellCall.call_gives c.loop-done.f (take part (drop c.loop-done.from c.loop-done.slice)) (Ok k) ys
+    (c.in-Ok-update_parts.ensures.ran seen (subst (λ ns. map seen (box_in o ns) ≡ map Some (take part (drop c.loop-done.from c.loop-done.slice))) (sym back.lengths) here)) in
+    let rest = left-rest left i.0 long low high _ i.4 part all-of k ys c.in-Ok-update_parts.ensures.as_long (omega (arith, i.4)) ran (put_mid c.loop-done.from part c.loop-done.slice ys) (c.loop-done.from + length c.args.slice.now / c.in-Some.cut.len) refl (omega arith) in
+    let end : ℕ = c.loop-done.from + length c.args.slice.now / c.in-Some.cut.len in
+    let after : List g.row.A.Denot = put_mid c.loop-done.from part c.loop-done.slice ys in
+    let zs = c.update_run-then-not-flat.new.slice in
+    noted (λ n. n.turn) c.update_run-then-not-flat.result c.note_flat-then-not-flat.result c.note_flat-then-not-flat.ensures
+    (λ r. OverwritesTo (is_beside at (g.P.NdProducer.yields_at c.args.p)) g.C.CellCall.call_gives (box_in o (g.P.Shaped.lengths c.args.p)) c.args.f c.args.slice.now r (put_mid end (length after - end) after zs))
+    (left-ran rest c.update_run-then-not-flat.result zs (c.update_run-then-not-flat.ensures.ran c.split_at-first.result.1 o rest.seen c.run-then-not-flat.ensures.gives (left-along rest)))
+
+pub loop-done-preserved : goal.loop-done-preserved
+loop-done-preserved g t c =
+    let o = c.args.order in
+    let i = c.loop-done.invariant in
+    let low = c.split_at-first.ensures.first in
+    let high = c.split_at-first.ensures.second in
+    let long : 1 < slice_index (g.P.Shaped.lengths c.loop-done.p) c.in-Some.cut.axis.0 = omega (arith, i.1, c.loop-done.auto.done-end, c.loop-done-test.true) in
+    let first = c.split_at-first.result.0 in
+    let part : ℕ = c.loop-done.from + length c.args.slice.now / c.in-Some.cut.len - c.loop-done.from in
+    let all-of : part ≡ length c.args.slice.now / c.in-Some.cut.len = omega arith in
+    let axis = c.in-Some.cut.axis.0 in
+    let shorter = rest-len o i.0 long low high in
+    let less = rest-sum o i.0 long low high in
+    let wide = ap (λ n. n * (length c.args.slice.now / c.in-Some.cut.len)) shorter in
+    let many : length c.match-try_flat.slice ≡ length c.loop-done.slice = omega (arith, c.match-try_flat.auto.slice, c.loop-done.auto.slice) in (
+      rest-slowest o i.0 long low high,
+      omega (arith, shorter, i.1),
+      omega (arith, less, i.2),
+      omega (arith, many, i.3),
+      omega (arith, many, wide, i.4),
+      λ at along.
+          let left = i.5 at along in
+          let seen : List ℕ → Option g.row.A.Denot = λ is. left.seen (counted_from axis 0 is) in
+          let here = first-along left i.0 long low high _ i.4 part all-of in
+          elim c.match-try_flat.branch [
+            | in-Ok-try_flat+in-Ok-update_run w ↦
+                subst (λ k. Left o (g.P.Shaped.lengths c.args.p) (g.P.NdProducer.yields_at c.args.p) g.C.CellCall.call_gives g.C.CellCall.can_call c.args.f c.args.slice.now at (g.P.Shaped.lengths c.split_at-first.result.1) (g.P.NdProducer.yields_at c.split_at-first.result.1) k c.match-try_flat.slice (c.loop-done.from + length c.args.slice.now / c.in-Some.cut.len)) (sym w.f-is)
+                (left-rest left i.0 long low high _ i.4 part all-of w.in-Ok-update_run.next w.update_run-in-Ok-try_flat.new.slice w.in-Ok-update_run.ensures.as_long (omega (arith, i.4))
+                (w.in-Ok-update_run.ensures.ran first o seen (w.run_flat-in-Ok-try_flat.ensures.gives first o w.in-Ok-try_flat.ensures.flat) here) c.match-try_flat.slice (c.loop-done.from + length c.args.slice.now / c.in-Some.cut.len) w.slice-is (omega arith))
+            | in-Err-try_flat+in-Ok-update_parts+else-not-flat w ↦
+                subst (λ k. Left o (g.P.Shaped.lengths c.args.p) (g.P.NdProducer.yields_at c.args.p) g.C.CellCall.call_gives g.C.CellCall.can_call c.args.f c.args.slice.now at (g.P.Shaped.lengths c.split_at-first.result.1) (g.P.NdProducer.yields_at c.split_at-first.result.1) k c.match-try_flat.slice (c.loop-done.from + length c.args.slice.now / c.in-Some.cut.len)) (sym w.f-is)
+                (left-rest left i.0 long low high _ i.4 part all-of w.in-Ok-update_parts.field-0.turn w.update_parts.new.slice w.in-Ok-update_parts.ensures.as_long (omega (arith, i.4))
+                (overwrote-less o w.in-Err-try_flat.ensures.back seen g.C.CellCall.call_gives c.loop-done.f (take part (drop c.loop-done.from c.loop-done.slice)) (Ok w.in-Ok-update_parts.field-0.turn) w.update_parts.new.slice
+                (w.in-Ok-update_parts.ensures.ran seen (subst (λ ns. map seen (box_in o ns) ≡ map Some (take part (drop c.loop-done.from c.loop-done.slice))) (sym w.in-Err-try_flat.ensures.back.lengths) here)))
+                c.match-try_flat.slice (c.loop-done.from + length c.args.slice.now / c.in-Some.cut.len) w.slice-is (omega arith))
+          ],
+    )
+
+pub update_parts-requires-2 : goal.update_parts-requires-2
+update_parts-requires-2 g t c κs within =
+    let i = c.loop-done.invariant in
+    let q = c.requires.can in
+    let left = i.5 q.0 q.1.0 in
+    (omega (arith, i.1, i.2, c.loop-done.auto.done-end, c.loop-done-test.false, c.in-Some.ensures.long, c.decreases), (within.0, (within.1.0, (within.1.1.0, (within.1.1.1.0, (within.1.1.1.1.0, (within.1.1.1.1.1.0, (within.1.1.1.1.1.1.0, (within.1.1.1.1.1.1.1, (left.seen, (left-along left, left.may q.1.1)))))))))))
+
+pub returns-clause-ran : goal.returns-clause-ran
+returns-clause-ran g t c = λ at along.
+    let o = c.args.order in
+    let p = c.loop-done.p in
+    let left = c.loop-done.invariant.5 at along in
+    let from = c.loop-done.from in
+    let now = c.loop-done.slice in
+    let zs = c.update_parts-2.new.slice in
+    follows-noted (λ n. n.turn) c.update_parts-2.result
+    (λ r. OverwritesTo (is_beside left.seen (g.P.NdProducer.yields_at p)) g.C.CellCall.call_gives (box_in o (g.P.Shaped.lengths p)) c.loop-done.f (take (length now - from) (drop from now)) r zs)
+    (λ r. OverwritesTo (is_beside at (g.P.NdProducer.yields_at c.args.p)) g.C.CellCall.call_gives (box_in o (g.P.Shaped.lengths c.args.p)) c.args.f c.args.slice.now r (put_mid from (length now - from) now zs))
+    (λ r w. left-ran left r zs w) (c.update_parts-2.ensures.ran left.seen (left-along left))

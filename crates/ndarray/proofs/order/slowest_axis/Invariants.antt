@@ -1,7 +1,7 @@
 use Rattle.std.proofs.Common.{ℕ, ◌+◌, ◌<◌, ◌≤◌}
 use Rattle.std.specs.Prelude.{slice_index}
 use Rattle.ndarray.specs.order.Ranks.{axis_in}
-use Rattle.ndarray.proofs.order.middle_of.Given as goal
+use Rattle.ndarray.proofs.order.slowest_axis.Given as goal
 
 abbrev pub invariant-loop-turn : goal.invariant-loop-turn
 invariant-loop-turn g l =
