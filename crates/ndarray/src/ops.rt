@@ -29,11 +29,11 @@ mod unary;
 use crate::base::array::ArrayBase;
 use crate::base::broadcast::co_broadcast;
 use crate::base::dim_max::DimMax;
-use crate::base::dimension::{Dimension, Lengths};
+use crate::base::dimension::Lengths;
 use crate::base::storage::Data;
 pub use crate::ops::left_scalars::scalar_left;
 
-impl<S: Data, D: Dimension> ArrayBase<S, D> {
+impl<S: Data, D: Lengths> ArrayBase<S, D> {
     /// Whether the shapes of this array and another broadcast together, as the operators require: aligned at the last
     /// axes, each two lengths that meet are equal, or one is 1, and the lengths of the result that are not 0 multiply to
     /// at most `isize::MAX`.
@@ -43,7 +43,7 @@ impl<S: Data, D: Dimension> ArrayBase<S, D> {
     ///     let sums = (&a + &b)?;
     /// }
     /// ```
-    pub fn broadcast_ok<S2: Data, E: Dimension>(&self, rhs: &ArrayBase<S2, E>) -> bool
+    pub fn broadcast_ok<S2: Data, E: Lengths>(&self, rhs: &ArrayBase<S2, E>) -> bool
     where
         D: DimMax<E>,
         ensures { IsTrue result ↔ BroadcastTogether self.now.lengths rhs.now.lengths }
@@ -62,7 +62,7 @@ impl<S: Data, D: Dimension> ArrayBase<S, D> {
     ///     let sums = (&a + &b)?;
     /// }
     /// ```
-    pub fn broadcast_dim<S2: Data, E: Dimension>(
+    pub fn broadcast_dim<S2: Data, E: Lengths>(
         &self,
         rhs: &ArrayBase<S2, E>,
     ) -> Option<<D as DimMax<E>>::Output>

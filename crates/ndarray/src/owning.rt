@@ -5,7 +5,7 @@ ghost use Rattle.std.specs.List.{AllZip};
 ghost use Rattle.ndarray.specs.Grid.{IsGrid};
 ghost use Rattle.ndarray.specs.Index.{size};
 
-use crate::base::array::{Array, ArrayBase};
+use crate::base::array::{Array, ArrayBase, ArrayView};
 use crate::base::builder::ArrayBuilder;
 use crate::base::dimension::Lengths;
 use crate::base::shape::Order;
@@ -25,16 +25,7 @@ impl<A: Clone + Drop, S: Data<Elem = A>, D: Lengths> ArrayBase<S, D> {
         ensures same { IfOk result (λ a. ((x y : A) → A.is_clone x y → y ≡ x) → a ≡ self.now) }
         ensures empty { size self.now.lengths ≡ 0 → IsOk result }
     {
-        let order = self.fast_order();
-        if let Some(cells) = self.view().slice_in(order) {
-            let items = clones_of(alloc, cells)?;
-            return Ok(ArrayBase::from_elements(self.raw_dim(), order, items));
-        }
-        let mut builder = ArrayBuilder::with_capacity(alloc, self.raw_dim(), Order::RowMajor)?;
-        for cell in ElementsBase::new(self.view()) {
-            builder.push(cell.clone()?);
-        }
-        Ok(builder.finish())
+        clone_of(alloc, &self.view())
     }
 
     /// An array of the same lengths and cells: this one, where it owns its cells, else one with clones of
@@ -55,6 +46,30 @@ impl<A: Clone + Drop, S: Data<Elem = A>, D: Lengths> ArrayBase<S, D> {
             Err(storage) => ArrayBase { storage, layout }.to_owned(alloc),
         }
     }
+}
+
+/// An array of the same lengths whose cells are clones of a view's.
+fn clone_of<A: Clone + Drop, D: Lengths>(
+    alloc: Global,
+    array: &ArrayView<'_, A, D>,
+) -> Result<Array<A, D>, AllocError>
+    ensures lengths { IfOk result (λ a. a.lengths ≡ array.now.lengths) }
+    ensures axes { IfOk result (λ a. D.has_axes (length a.lengths)) }
+    ensures cells { IfOk result (λ a. AllZip A.is_clone array.now.cells a.cells) }
+    ensures whole { IfOk result IsGrid }
+    ensures same { IfOk result (λ a. ((x y : A) → A.is_clone x y → y ≡ x) → a ≡ array.now) }
+    ensures empty { size array.now.lengths ≡ 0 → IsOk result }
+{
+    let order = array.fast_order();
+    if let Some(cells) = array.view().slice_in(order) {
+        let items = clones_of(alloc, cells)?;
+        return Ok(ArrayBase::from_elements(array.raw_dim(), order, items));
+    }
+    let mut builder = ArrayBuilder::with_capacity(alloc, array.raw_dim(), Order::RowMajor)?;
+    for cell in ElementsBase::new(array.view()) {
+        builder.push(cell.clone()?);
+    }
+    Ok(builder.finish())
 }
 
 /// A vector of clones of the elements of a slice. Of none it allocates nothing.

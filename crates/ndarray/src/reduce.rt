@@ -38,7 +38,7 @@ impl<A: SumElem, S: Data<Elem = A>, D: Lengths> ArrayBase<S, D> {
         requires { IsSummableBy A.addition A.InRange A.meaning self.now.cells }
         ensures { A.meaning result ≡ total_by A.addition A.meaning self.now.cells }
     {
-        total::<Sum, A, S, D>(self)
+        total::<Sum, A, D>(&self.view())
     }
 }
 
@@ -58,7 +58,7 @@ impl<A: ProductElem, S: Data<Elem = A>, D: Lengths> ArrayBase<S, D> {
         requires { IsSummableBy A.multiplication A.InRange A.meaning self.now.cells }
         ensures { A.meaning result ≡ total_by A.multiplication A.meaning self.now.cells }
     {
-        total::<Product, A, S, D>(self)
+        total::<Product, A, D>(&self.view())
     }
 }
 
@@ -80,7 +80,7 @@ impl<A: SumElem, S: Data<Elem = A>, D: Dimension> ArrayBase<S, D> {
         ensures sums { MakesMapped (IsTotalOf A.addition A.meaning) (lanes_of self.now axis.0) result }
         ensures axes { IfOk result (λ r. D.Smaller.has_axes (length r.lengths)) }
     {
-        totals_along::<Sum, A, S, D>(alloc, self, axis)
+        totals_along::<Sum, A, D>(alloc, &self.view(), axis)
     }
 }
 
@@ -105,6 +105,6 @@ impl<A: ProductElem, S: Data<Elem = A>, D: Dimension> ArrayBase<S, D> {
         ensures products { MakesMapped (IsTotalOf A.multiplication A.meaning) (lanes_of self.now axis.0) result }
         ensures axes { IfOk result (λ r. D.Smaller.has_axes (length r.lengths)) }
     {
-        totals_along::<Product, A, S, D>(alloc, self, axis)
+        totals_along::<Product, A, D>(alloc, &self.view(), axis)
     }
 }

@@ -7,16 +7,16 @@ ghost use Rattle.ndarray.specs.Index.{size};
 ghost use Rattle.ndarray.specs.Limits.{IsWithinLimit};
 ghost use Rattle.ndarray.specs.Triangles.{column_minus_row, diagonals_kept, lower_triangle, upper_triangle};
 
-use crate::base::array::{Array, ArrayBase};
+use crate::base::array::{Array, ArrayBase, ArrayView};
 use crate::base::builder::ArrayBuilder;
-use crate::base::dimension::{Dimension, Lengths};
+use crate::base::dimension::Lengths;
 use crate::base::storage::Data;
 use crate::iter::ElementsBase;
 use crate::order::{Order, Walk};
 use num_traits::Zero;
 use std::alloc::{AllocError, Global};
 
-impl<A: Clone + Zero, S: Data<Elem = A>, D: Dimension> ArrayBase<S, D> {
+impl<A: Clone + Zero, S: Data<Elem = A>, D: Lengths> ArrayBase<S, D> {
     /// The cells on and above a diagonal of the last two axes: clones of those whose column less their row is at least
     /// `k`, and zero elsewhere. With fewer than two axes all cells are kept.
     ///
@@ -35,7 +35,7 @@ impl<A: Clone + Zero, S: Data<Elem = A>, D: Dimension> ArrayBase<S, D> {
         ensures axes { IfOk result (λ r. D.has_axes (length r.lengths)) }
         ensures empty { size self.now.lengths ≡ 0 → IsOk result }
     {
-        diagonals(alloc, self, k, isize::MAX)
+        diagonals(alloc, &self.view(), k, isize::MAX)
     }
 
     /// The cells on and below a diagonal of the last two axes: clones of those whose column less their row is at most
@@ -56,14 +56,14 @@ impl<A: Clone + Zero, S: Data<Elem = A>, D: Dimension> ArrayBase<S, D> {
         ensures axes { IfOk result (λ r. D.has_axes (length r.lengths)) }
         ensures empty { size self.now.lengths ≡ 0 → IsOk result }
     {
-        diagonals(alloc, self, isize::MIN, k)
+        diagonals(alloc, &self.view(), isize::MIN, k)
     }
 }
 
 /// The diagonals from one number of column less row to another, and zero elsewhere.
-fn diagonals<A: Clone + Zero, S: Data<Elem = A>, D: Lengths>(
+fn diagonals<A: Clone + Zero, D: Lengths>(
     alloc: Global,
-    array: &ArrayBase<S, D>,
+    array: &ArrayView<'_, A, D>,
     first: isize,
     last: isize,
 ) -> Result<Array<A, D>, AllocError>

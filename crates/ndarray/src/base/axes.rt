@@ -70,7 +70,7 @@ impl<S: Data, D: Lengths> ArrayBase<S, D> {
 
     /// The same cells under another type of dimension; `IncompatibleShape` exactly where that type
     /// cannot have this number of axes.
-    pub fn into_dimensionality<E: Dimension>(self) -> Result<ArrayBase<S, E>, ShapeError>
+    pub fn into_dimensionality<E: Lengths>(self) -> Result<ArrayBase<S, E>, ShapeError>
         ensures accepts { IsOk result ↔ E.has_axes (length self.lengths) }
         ensures value { IfOk result (λ a. a ≡ self) }
         ensures whole { IfOk result IsGrid }

@@ -8,7 +8,7 @@ ghost use Rattle.ndarray.specs.FixedAxes.{IsFixed};
 use crate::base::dimension::{Dimension, Ix0, Ix1, Ix2, Ix3, Ix4, Ix5, Ix6, IxDyn, Lengths};
 
 /// A dimension that may be broadcast with another one.
-pub trait DimMax<Other: Dimension>: Dimension {
+pub trait DimMax<Other: Lengths>: Lengths {
     /// The dimension of the two broadcast together: the larger of two fixed numbers of axes, and
     /// `IxDyn` where one of them is `IxDyn`.
     type Output: Dimension;

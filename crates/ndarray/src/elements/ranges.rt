@@ -3,11 +3,11 @@
 ghost use Rattle.std.specs.Prelude.{ℕ, pos, negsuc, neg_ℤ};
 ghost use Rattle.ndarray.specs.Integers.{signed-negated};
 
-use num_traits::PrimInt;
+use num_traits::{CheckedAdd, CheckedMul, CheckedSub, One, Zero};
 
 /// An integer type: one that has a negative number has the negative of each of its positive numbers. For the twelve
 /// integer types.
-pub trait IntegerElem: PrimInt {
+pub trait IntegerElem: Copy + Zero + One + CheckedAdd + CheckedSub + CheckedMul {
     /// Proves that the number is in the range of the type.
     fn tell_fits(self)
         ensures { Self.fits (Self.value self) };

@@ -26,27 +26,39 @@ impl<A: LinalgScalar, S: Data<Elem = A>, S2: Data<Elem = A>> Dot<ArrayBase<S2, I
         alloc: Global,
         rhs: &ArrayBase<S2, IxDyn>,
     ) -> Result<Array<A, IxDyn>, AllocError> {
-        if self.ndim() == 1 {
-            let left = as_vector(self);
-            if rhs.ndim() == 1 {
-                let sums = VectorByVector {
-                    left,
-                    right: as_vector(rhs),
-                };
-                return array_of(alloc, IxDyn(&[]), sums);
-            }
-            return into_dynamic(Dot::dot(&left, alloc, &as_matrix(rhs)));
-        }
-        let left = as_matrix(self);
-        if rhs.ndim() == 1 {
-            return into_dynamic(Dot::dot(&left, alloc, &as_vector(rhs)));
-        }
-        into_dynamic(Dot::dot(&left, alloc, &as_matrix(rhs)))
+        product(alloc, &self.view(), &rhs.view())
     }
 }
 
+/// The product of two views of one or two axes each.
+fn product<A: LinalgScalar>(
+    alloc: Global,
+    x: &ArrayView<'_, A, IxDyn>,
+    y: &ArrayView<'_, A, IxDyn>,
+) -> Result<Array<A, IxDyn>, AllocError>
+    requires { ShapesMultiply x.now.lengths y.now.lengths × HasSumsInRange A.Valued (left_matrix A.Valued x.now) (right_matrix A.Valued y.now) }
+    ensures { MakesValues A.Valued (product_lengths x.now.lengths y.now.lengths) (product_entries A.Valued x.now y.now) result }
+{
+    if x.ndim() == 1 {
+        let left = as_vector(x);
+        if y.ndim() == 1 {
+            let sums = VectorByVector {
+                left,
+                right: as_vector(y),
+            };
+            return array_of(alloc, IxDyn(&[]), sums);
+        }
+        return into_dynamic(Dot::dot(&left, alloc, &as_matrix(y)));
+    }
+    let left = as_matrix(x);
+    if y.ndim() == 1 {
+        return into_dynamic(Dot::dot(&left, alloc, &as_vector(y)));
+    }
+    into_dynamic(Dot::dot(&left, alloc, &as_matrix(y)))
+}
+
 /// An array of one axis as a vector.
-fn as_vector<A, S: Data<Elem = A>>(array: &ArrayBase<S, IxDyn>) -> ArrayView<'_, A, Ix1>
+fn as_vector<'a, A>(array: &'a ArrayView<'_, A, IxDyn>) -> ArrayView<'a, A, Ix1>
     requires { length array.now.lengths ≡ 1 }
     ensures same { result ≡ array.now }
     ensures whole { IsGrid result }
@@ -58,7 +70,7 @@ fn as_vector<A, S: Data<Elem = A>>(array: &ArrayBase<S, IxDyn>) -> ArrayView<'_,
 }
 
 /// An array of two axes as a matrix.
-fn as_matrix<A, S: Data<Elem = A>>(array: &ArrayBase<S, IxDyn>) -> ArrayView<'_, A, Ix2>
+fn as_matrix<'a, A>(array: &'a ArrayView<'_, A, IxDyn>) -> ArrayView<'a, A, Ix2>
     requires { length array.now.lengths ≡ 2 }
     ensures same { result ≡ array.now }
     ensures whole { IsGrid result }

@@ -5,19 +5,15 @@ ghost use Rattle.ndarray.specs.Grid.{IsGrid};
 ghost use Rattle.ndarray.specs.Products.{CanSumInner, column_of, matrix_of, product_of, products_of, row_of};
 ghost use Rattle.ndarray.specs.Sums.{IsSummable, total};
 
-use crate::base::array::{ArrayBase, ArrayView};
+use crate::base::array::ArrayView;
 use crate::base::axis::Axis;
 use crate::base::dimension::{Dimension, Ix1, Ix2};
-use crate::base::storage::Data;
 use crate::base::strided::Strided;
 use crate::elements::LinalgScalar;
 use crate::linalg::entries::Entries;
 
 /// The sum of the products of two vectors' cells, place by place, and zero where they have none. It allocates nothing.
-pub(crate) fn inner<A: LinalgScalar, S: Data<Elem = A>, S2: Data<Elem = A>>(
-    x: &ArrayBase<S, Ix1>,
-    y: &ArrayBase<S2, Ix1>,
-) -> A
+pub(crate) fn inner<A: LinalgScalar>(x: &ArrayView<'_, A, Ix1>, y: &ArrayView<'_, A, Ix1>) -> A
     requires same { length x.now.cells ≡ length y.now.cells }
     requires sums { IsSummable A.addition A.InRange (products_of A.multiplication A.meaning x.now.cells y.now.cells) }
     ensures { A.meaning result ≡ total A.addition (products_of A.multiplication A.meaning x.now.cells y.now.cells) }

@@ -34,7 +34,7 @@ pub trait Dot<Rhs> {
 
 /// Whether two arrays have a product: each has one or two axes, the last length of the left is the first length of the right, and
 /// the lengths of the product that are not 0 multiply to at most `isize::MAX`.
-pub fn dot_ok<S: Data, S2: Data, D: Dimension, E: Dimension>(
+pub fn dot_ok<S: Data, S2: Data, D: Lengths, E: Lengths>(
     left: &ArrayBase<S, D>,
     right: &ArrayBase<S2, E>,
 ) -> bool

@@ -5,14 +5,14 @@ ghost use Rattle.ndarray.specs.Elementwise.{Assigns, CanAssign};
 ghost use Rattle.ndarray.specs.Products.{AddsProduct, CanAddProduct};
 
 use crate::base::array::{ArrayBase, ArrayView};
-use crate::base::dimension::Dimension;
+use crate::base::dimension::Lengths;
 use crate::base::storage::{Data, DataMut};
 use crate::elements::LinalgScalar;
 use crate::zip::producer::IntoBroadcast;
 use crate::zip::updating::{CellCall, try_update};
 use std::alloc::AllocError;
 
-impl<A: LinalgScalar, S: DataMut<Elem = A>, D: Dimension> ArrayBase<S, D> {
+impl<A: LinalgScalar, S: DataMut<Elem = A>, D: Lengths> ArrayBase<S, D> {
     /// Adds to each cell `alpha` times the cell of another array there, which is broadcast to the shape of this one.
     ///
     /// Requires that `rhs` broadcasts to this shape, which `rhs.broadcast(self.raw_dim())` tells, and that each product and
@@ -23,7 +23,7 @@ impl<A: LinalgScalar, S: DataMut<Elem = A>, D: Dimension> ArrayBase<S, D> {
     /// array.scaled_add(10, &row);
     /// // array = [[11, 22], [13, 24]]
     /// ```
-    pub fn scaled_add<S2: Data<Elem = A>, E: Dimension>(&mut self, alpha: A, rhs: &ArrayBase<S2, E>)
+    pub fn scaled_add<S2: Data<Elem = A>, E: Lengths>(&mut self, alpha: A, rhs: &ArrayBase<S2, E>)
         requires { CanAssign (CanAddProduct A.Valued alpha) self.old rhs.now }
         ensures { Assigns (AddsProduct A.Valued alpha) self.old rhs.now self.new }
     {

@@ -3,7 +3,7 @@
 ghost use Rattle.ndarray.specs.Elementwise.{Assigns, CanAssign, CanMap, Maps};
 
 use crate::base::array::{ArrayBase, ArrayView};
-use crate::base::dimension::Dimension;
+use crate::base::dimension::Lengths;
 use crate::base::storage::{Data, DataMut};
 use crate::ops::calls::{OnCopies, WithCopies};
 use crate::ops::operations::Operation;
@@ -20,8 +20,8 @@ where
     B: Copy,
     S: DataMut<Elem = A>,
     S2: Data<Elem = B>,
-    D: Dimension,
-    E: Dimension,
+    D: Lengths,
+    E: Lengths,
     requires { CanAssign O.can_apply array.old rhs.now }
     ensures { Assigns O.apply_gives array.old rhs.now array.new }
 {
@@ -40,7 +40,7 @@ where
     A: Copy,
     B: Copy + Drop,
     S: DataMut<Elem = A>,
-    D: Dimension,
+    D: Lengths,
     requires { CanMap (λ x. O.can_apply x scalar) array.old }
     ensures { Maps (λ x z. O.apply_gives x scalar z) array.old array.new }
 {

@@ -4,12 +4,12 @@ ghost use Rattle.std.specs.Prelude.{◌≡◌, length, ⊤};
 ghost use Rattle.ndarray.specs.Broadcast.{BroadcastTogether, broadcast_lengths};
 ghost use Rattle.ndarray.specs.Elementwise.{CanCombine, CanMap, ClonesAreEqual, MakesCombined, MakesMapped, UpdatesCombined, UpdatesMapped};
 
-use crate::base::array::{Array, ArrayBase};
+use crate::base::array::{Array, ArrayBase, ArrayView};
 use crate::base::broadcast::co_broadcast;
 use crate::base::dim_max::DimMax;
-use crate::base::dimension::{Dimension, Lengths};
+use crate::base::dimension::Lengths;
 use crate::base::storage::Data;
-use crate::ops::calls::{CellOperation, IntoLeft, IntoRight, OnBoth, OnEach, WithLeft};
+use crate::ops::calls::{CellOperation, IntoLeft, IntoRight, OnBoth, OnEach, WithLeft, WithRight};
 use crate::ops::operations::Operation;
 use crate::zip::collecting::try_collect_items;
 use crate::zip::pair::Pair;
@@ -20,9 +20,8 @@ use std::alloc::{AllocError, Global};
 use std::marker::PhantomData;
 
 /// The array of what an operation gives on the cells of two arrays broadcast together.
-pub(crate) fn combined<O, A, B, S, S2, D, E>(
-    alloc: Global,
-    left: &ArrayBase<S, D>,
+pub(crate) fn combined<O, A, B, S2, D, E>(
+    left: &Array<A, D>,
     right: &ArrayBase<S2, E>,
 ) -> Result<Array<O::Output, <D as DimMax<E>>::Output>, AllocError>
 where
@@ -30,17 +29,16 @@ where
     O::Output: Drop,
     A: Clone + Drop,
     B: Clone + Drop,
-    S: Data<Elem = A>,
     S2: Data<Elem = B>,
-    D: Dimension + DimMax<E>,
-    E: Dimension,
+    D: DimMax<E>,
+    E: Lengths,
     requires can { CanCombine left.now right.now O.can_apply }
     requires left_clones { ClonesAreEqual A.is_clone }
     requires right_clones { ClonesAreEqual B.is_clone }
     ensures { MakesCombined O.apply_gives left.now right.now result }
 {
     let dim = broadcast_dim(left, right);
-    combined_at::<O, A, B, _, _, D, E, _>(alloc, left, right, dim)
+    combined_at::<O, A, B, D, E, _>(left.allocator(), left.view(), right.view(), dim)
 }
 
 /// The same into the cells of the left array, where it has the result's lengths.
@@ -53,16 +51,58 @@ where
     A: Clone + Drop,
     B: Clone + Drop,
     S2: Data<Elem = B>,
-    D: Dimension + DimMax<E>,
-    E: Dimension,
+    D: DimMax<E>,
+    E: Lengths,
     requires can { CanCombine left right.now O.can_apply }
     requires left_clones { ClonesAreEqual A.is_clone }
     requires right_clones { ClonesAreEqual B.is_clone }
     ensures { UpdatesCombined O.apply_gives A.is_infallible B.is_infallible left.lengths left right.now result }
 {
     let dim = broadcast_dim(&left, right);
+    combined_into_left_at::<O, A, B, D, E, _>(left, right.view(), dim)
+}
+
+/// The same of a right array that is passed by value.
+pub(crate) fn combined_into_left_by_value<O, A, B, S2, D, E>(
+    left: Array<A, D>,
+    right: ArrayBase<S2, E>,
+) -> Result<Array<A, <D as DimMax<E>>::Output>, AllocError>
+where
+    O: Operation<A, B, Output = A>,
+    A: Clone + Drop,
+    B: Clone + Drop,
+    S2: Data<Elem = B>,
+    D: DimMax<E>,
+    E: Lengths,
+    requires can { CanCombine left right O.can_apply }
+    requires left_clones { ClonesAreEqual A.is_clone }
+    requires right_clones { ClonesAreEqual B.is_clone }
+    ensures { UpdatesCombined O.apply_gives A.is_infallible B.is_infallible left.lengths left right result }
+{
+    combined_into_left::<O, A, B, _, D, E>(left, &right)
+}
+
+/// The same as `combined_into_left`, at the lengths of the result.
+fn combined_into_left_at<O, A, B, D, E, R>(
+    left: Array<A, D>,
+    right: ArrayView<'_, B, E>,
+    dim: R,
+) -> Result<Array<A, R>, AllocError>
+where
+    O: Operation<A, B, Output = A>,
+    A: Clone + Drop,
+    B: Clone + Drop,
+    D: Lengths,
+    E: Lengths,
+    R: Lengths,
+    requires lengths { R.numbers dim ≡ broadcast_lengths left.lengths right.lengths }
+    requires can { CanCombine left right O.can_apply }
+    requires left_clones { ClonesAreEqual A.is_clone }
+    requires right_clones { ClonesAreEqual B.is_clone }
+    ensures { UpdatesCombined O.apply_gives A.is_infallible B.is_infallible left.lengths left right.entry result }
+{
     if dim.slice() != left.shape() {
-        return combined_at::<O, A, B, _, _, D, E, _>(left.allocator(), &left, right, dim);
+        return combined_at::<O, A, B, D, E, _>(left.allocator(), left.view(), right, dim);
     }
     let Ok(mut cells) = left.into_dimensionality() else {
         unreachable!()
@@ -84,16 +124,38 @@ where
     A: Clone + Drop,
     B: Clone + Drop,
     S: Data<Elem = A>,
-    D: Dimension,
-    E: Dimension + DimMax<D>,
+    D: Lengths,
+    E: DimMax<D>,
     requires can { CanCombine left.now right O.can_apply }
     requires left_clones { ClonesAreEqual A.is_clone }
     requires right_clones { ClonesAreEqual B.is_clone }
     ensures { UpdatesCombined O.apply_gives A.is_infallible B.is_infallible right.lengths left.now right result }
 {
     let dim = broadcast_dim_of_right(left, &right);
+    combined_into_right_at::<O, A, B, D, E, _>(left.view(), right, dim)
+}
+
+/// The same as `combined_into_right`, at the lengths of the result.
+fn combined_into_right_at<O, A, B, D, E, R>(
+    left: ArrayView<'_, A, D>,
+    right: Array<B, E>,
+    dim: R,
+) -> Result<Array<B, R>, AllocError>
+where
+    O: Operation<A, B, Output = B>,
+    A: Clone + Drop,
+    B: Clone + Drop,
+    D: Lengths,
+    E: Lengths,
+    R: Lengths,
+    requires lengths { R.numbers dim ≡ broadcast_lengths left.lengths right.lengths }
+    requires can { CanCombine left right O.can_apply }
+    requires left_clones { ClonesAreEqual A.is_clone }
+    requires right_clones { ClonesAreEqual B.is_clone }
+    ensures { UpdatesCombined O.apply_gives A.is_infallible B.is_infallible right.lengths left.entry right result }
+{
     if dim.slice() != right.shape() {
-        return combined_at::<O, A, B, _, _, D, E, _>(right.allocator(), left, &right, dim);
+        return combined_at::<O, A, B, D, E, _>(right.allocator(), left, right.view(), dim);
     }
     let Ok(mut cells) = right.into_dimensionality() else {
         unreachable!()
@@ -113,8 +175,8 @@ fn broadcast_dim<S, S2, D, E>(
 where
     S: Data,
     S2: Data,
-    D: Dimension + DimMax<E>,
-    E: Dimension,
+    D: DimMax<E>,
+    E: Lengths,
     requires { BroadcastTogether left.now.lengths right.now.lengths }
     ensures lengths { D.Output.numbers result ≡ broadcast_lengths left.now.lengths right.now.lengths }
     ensures axes { D.Output.has_axes (length (broadcast_lengths left.now.lengths right.now.lengths)) }
@@ -132,8 +194,8 @@ fn broadcast_dim_of_right<S, S2, D, E>(
 where
     S: Data,
     S2: Data,
-    D: Dimension,
-    E: Dimension + DimMax<D>,
+    D: Lengths,
+    E: DimMax<D>,
     requires { BroadcastTogether left.now.lengths right.now.lengths }
     ensures lengths { E.Output.numbers result ≡ broadcast_lengths left.now.lengths right.now.lengths }
     ensures axes { E.Output.has_axes (length (broadcast_lengths left.now.lengths right.now.lengths)) }
@@ -144,10 +206,10 @@ where
 }
 
 /// The same as `combined`, at the lengths of the result.
-fn combined_at<O, A, B, S, S2, D, E, R>(
+fn combined_at<O, A, B, D, E, R>(
     alloc: Global,
-    left: &ArrayBase<S, D>,
-    right: &ArrayBase<S2, E>,
+    left: ArrayView<'_, A, D>,
+    right: ArrayView<'_, B, E>,
     dim: R,
 ) -> Result<Array<O::Output, R>, AllocError>
 where
@@ -155,16 +217,14 @@ where
     O::Output: Drop,
     A: Clone + Drop,
     B: Clone + Drop,
-    S: Data<Elem = A>,
-    S2: Data<Elem = B>,
-    D: Dimension,
-    E: Dimension,
-    R: Dimension,
-    requires lengths { R.numbers dim ≡ broadcast_lengths left.now.lengths right.now.lengths }
-    requires can { CanCombine left.now right.now O.can_apply }
+    D: Lengths,
+    E: Lengths,
+    R: Lengths,
+    requires lengths { R.numbers dim ≡ broadcast_lengths left.lengths right.lengths }
+    requires can { CanCombine left right O.can_apply }
     requires left_clones { ClonesAreEqual A.is_clone }
     requires right_clones { ClonesAreEqual B.is_clone }
-    ensures { MakesCombined O.apply_gives left.now right.now result }
+    ensures { MakesCombined O.apply_gives left.entry right.entry result }
 {
     let cells = Pair {
         first: left.into_broadcast(dim.copied()),
@@ -176,14 +236,13 @@ where
 }
 
 /// The array of what is computed of each cell of an array.
-pub(crate) fn mapped<A, S, D, C>(
-    alloc: Global,
-    array: &ArrayBase<S, D>,
+pub(crate) fn mapped<A, D, C>(
+    array: &Array<A, D>,
     operation: C,
 ) -> Result<Array<C::Output, D>, AllocError>
 where
-    S: Data<Elem = A>,
-    D: Dimension,
+    A: Drop,
+    D: Lengths,
     C: CellOperation<A>,
     C::Output: Drop,
     requires { CanMap (C.can_apply operation) array.now }
@@ -191,7 +250,7 @@ where
 {
     let cells = array.view();
     let order = preferred_order(&cells);
-    try_collect_items(alloc, cells, order, OnEach(operation))
+    try_collect_items(array.allocator(), cells, order, OnEach(operation))
 }
 
 /// The same into the array's own cells.
@@ -201,7 +260,7 @@ pub(crate) fn mapped_in_place<A, D, C>(
 ) -> Result<Array<A, D>, AllocError>
 where
     A: Drop,
-    D: Dimension,
+    D: Lengths,
     C: CellOperation<A, Output = A>,
     requires { CanMap (C.can_apply operation) array }
     ensures { UpdatesMapped (C.apply_gives operation) (C.is_infallible operation) array result }
@@ -214,6 +273,51 @@ where
     }
 }
 
+/// The array of what an operation gives on clones of each cell and of a scalar.
+pub(crate) fn mapped_right<O, A, B, D>(
+    array: &Array<A, D>,
+    scalar: B,
+) -> Result<Array<O::Output, D>, AllocError>
+where
+    O: Operation<A, B>,
+    O::Output: Drop,
+    A: Clone + Drop,
+    B: Clone + Drop,
+    D: Lengths,
+    requires can { CanMap (λ x. O.can_apply x scalar) array.now }
+    requires cell_clones { ClonesAreEqual A.is_clone }
+    requires scalar_clones { ClonesAreEqual B.is_clone }
+    ensures { MakesMapped (λ x z. O.apply_gives x scalar z) array.now result }
+{
+    let operation: WithRight<O, B> = WithRight {
+        scalar,
+        operation: PhantomData,
+    };
+    mapped(array, operation)
+}
+
+/// The same into the array's own cells.
+pub(crate) fn mapped_right_in_place<O, A, B, D>(
+    array: Array<A, D>,
+    scalar: B,
+) -> Result<Array<A, D>, AllocError>
+where
+    O: Operation<A, B, Output = A>,
+    A: Clone + Drop,
+    B: Clone + Drop,
+    D: Lengths,
+    requires can { CanMap (λ x. O.can_apply x scalar) array }
+    requires cell_clones { ClonesAreEqual A.is_clone }
+    requires scalar_clones { ClonesAreEqual B.is_clone }
+    ensures { UpdatesMapped (λ x z. O.apply_gives x scalar z) (λ x. A.is_infallible x × B.is_infallible scalar) array result }
+{
+    let operation: WithRight<O, B> = WithRight {
+        scalar,
+        operation: PhantomData,
+    };
+    mapped_in_place(array, operation)
+}
+
 /// The array of what an operation gives on copies of a scalar and of each cell.
 pub(crate) fn mapped_left<O, X, A, D>(
     scalar: X,
@@ -224,7 +328,7 @@ where
     O::Output: Drop,
     X: Copy + Drop,
     A: Copy + Drop,
-    D: Dimension,
+    D: Lengths,
     requires { CanMap (λ x. O.can_apply scalar x) array.now }
     ensures { MakesMapped (λ x z. O.apply_gives scalar x z) array.now result }
 {
@@ -232,7 +336,7 @@ where
         scalar,
         operation: PhantomData,
     };
-    mapped(array.allocator(), array, operation)
+    mapped(array, operation)
 }
 
 /// The same into the array's own cells.
@@ -244,7 +348,7 @@ where
     O: Operation<X, A, Output = A>,
     X: Copy + Drop,
     A: Copy + Drop,
-    D: Dimension,
+    D: Lengths,
     requires { CanMap (λ x. O.can_apply scalar x) array }
     ensures { UpdatesMapped (λ x z. O.apply_gives scalar x z) (λ _. ⊤) array result }
 {

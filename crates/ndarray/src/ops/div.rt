@@ -5,18 +5,16 @@ ghost use Rattle.ndarray.specs.Elementwise.{Assigns, CanAssign, CanCombine, CanM
 
 use crate::base::array::{Array, ArrayBase, ArrayView};
 use crate::base::dim_max::DimMax;
-use crate::base::dimension::Dimension;
+use crate::base::dimension::Lengths;
 use crate::base::storage::{Data, DataMut};
 use crate::elements::ScalarOperand;
 use crate::ops::assigning::{assign, assign_scalar};
-use crate::ops::calls::WithRight;
 use crate::ops::computing::{
-    combined, combined_into_left, combined_into_right, mapped, mapped_in_place, mapped_left,
-    mapped_left_in_place,
+    combined, combined_into_left, combined_into_left_by_value, combined_into_right, mapped_left,
+    mapped_left_in_place, mapped_right, mapped_right_in_place,
 };
 use crate::ops::operations::{Division, DivisionAssign};
 use std::alloc::AllocError;
-use std::marker::PhantomData;
 use std::ops::{Div, DivAssign};
 
 impl<'a, 'b, A, B, S2, D, E> Div<&'b ArrayBase<S2, E>> for &'a Array<A, D>
@@ -24,8 +22,8 @@ where
     A: Clone + Drop + Div<B, Output = A>,
     B: Clone + Drop,
     S2: Data<Elem = B>,
-    D: Dimension + DimMax<E>,
-    E: Dimension,
+    D: DimMax<E>,
+    E: Lengths,
 {
     type Output = Result<Array<A, <D as DimMax<E>>::Output>, AllocError>;
 
@@ -34,7 +32,7 @@ where
     ghost div_gives = { λ a b r. MakesCombined A.div_gives a.now b.now r };
 
     fn div(self, rhs: &'b ArrayBase<S2, E>) -> Self::Output {
-        combined::<Division, A, B, _, _, D, E>(self.allocator(), self, rhs)
+        combined::<Division, A, B, _, D, E>(self, rhs)
     }
 }
 
@@ -43,8 +41,8 @@ where
     A: Clone + Drop + Div<B, Output = A>,
     B: Clone + Drop,
     S2: Data<Elem = B>,
-    D: Dimension + DimMax<E>,
-    E: Dimension,
+    D: DimMax<E>,
+    E: Lengths,
 {
     type Output = Result<Array<A, <D as DimMax<E>>::Output>, AllocError>;
 
@@ -61,8 +59,8 @@ impl<A, B, D, E> Div<Array<B, E>> for Array<A, D>
 where
     A: Clone + Drop + Div<B, Output = A>,
     B: Clone + Drop,
-    D: Dimension + DimMax<E>,
-    E: Dimension,
+    D: DimMax<E>,
+    E: Lengths,
 {
     type Output = Result<Array<A, <D as DimMax<E>>::Output>, AllocError>;
 
@@ -71,7 +69,7 @@ where
     ghost div_gives = { λ a b r. UpdatesCombined A.div_gives A.is_infallible B.is_infallible a.lengths a b r };
 
     fn div(self, rhs: Array<B, E>) -> Self::Output {
-        combined_into_left::<Division, A, B, _, D, E>(self, &rhs)
+        combined_into_left_by_value::<Division, A, B, _, D, E>(self, rhs)
     }
 }
 
@@ -79,8 +77,8 @@ impl<'b, A, B, D, E> Div<ArrayView<'b, B, E>> for Array<A, D>
 where
     A: Clone + Drop + Div<B, Output = A>,
     B: Clone + Drop,
-    D: Dimension + DimMax<E>,
-    E: Dimension,
+    D: DimMax<E>,
+    E: Lengths,
 {
     type Output = Result<Array<A, <D as DimMax<E>>::Output>, AllocError>;
 
@@ -89,7 +87,7 @@ where
     ghost div_gives = { λ a b r. UpdatesCombined A.div_gives A.is_infallible B.is_infallible a.lengths a b r };
 
     fn div(self, rhs: ArrayView<'b, B, E>) -> Self::Output {
-        combined_into_left::<Division, A, B, _, D, E>(self, &rhs)
+        combined_into_left_by_value::<Division, A, B, _, D, E>(self, rhs)
     }
 }
 
@@ -98,8 +96,8 @@ where
     A: Clone + Drop + Div<B, Output = B>,
     B: Clone + Drop,
     S: Data<Elem = A>,
-    D: Dimension,
-    E: Dimension + DimMax<D>,
+    D: Lengths,
+    E: DimMax<D>,
 {
     type Output = Result<Array<B, <E as DimMax<D>>::Output>, AllocError>;
 
@@ -116,7 +114,7 @@ impl<A, B, D> Div<B> for Array<A, D>
 where
     A: Clone + Drop + Div<B, Output = A>,
     B: ScalarOperand + Drop,
-    D: Dimension,
+    D: Lengths,
 {
     type Output = Result<Array<A, D>, AllocError>;
 
@@ -125,11 +123,7 @@ where
     ghost div_gives = { λ a b r. UpdatesMapped (λ x z. A.div_gives x b z) (λ x. A.is_infallible x × B.is_infallible b) a r };
 
     fn div(self, rhs: B) -> Self::Output {
-        let operation: WithRight<Division, B> = WithRight {
-            scalar: rhs,
-            operation: PhantomData,
-        };
-        mapped_in_place(self, operation)
+        mapped_right_in_place::<Division, A, B, D>(self, rhs)
     }
 }
 
@@ -137,7 +131,7 @@ impl<'a, A, B, D> Div<B> for &'a Array<A, D>
 where
     A: Clone + Drop + Div<B, Output = A>,
     B: ScalarOperand + Drop,
-    D: Dimension,
+    D: Lengths,
 {
     type Output = Result<Array<A, D>, AllocError>;
 
@@ -146,11 +140,7 @@ where
     ghost div_gives = { λ a b r. MakesMapped (λ x z. A.div_gives x b z) a.now r };
 
     fn div(self, rhs: B) -> Self::Output {
-        let operation: WithRight<Division, B> = WithRight {
-            scalar: rhs,
-            operation: PhantomData,
-        };
-        mapped(self.allocator(), self, operation)
+        mapped_right::<Division, A, B, D>(self, rhs)
     }
 }
 
@@ -160,8 +150,8 @@ where
     B: Copy,
     S: DataMut<Elem = A>,
     S2: Data<Elem = B>,
-    D: Dimension,
-    E: Dimension,
+    D: Lengths,
+    E: Lengths,
 {
     ghost can_div_assign = { λ a b. CanAssign A.can_div_assign a b.now };
 
@@ -176,7 +166,7 @@ impl<A, S, D> DivAssign<A> for ArrayBase<S, D>
 where
     A: ScalarOperand + Copy + DivAssign<A>,
     S: DataMut<Elem = A>,
-    D: Dimension,
+    D: Lengths,
 {
     ghost can_div_assign = { λ a b. CanMap (λ x. A.can_div_assign x b) a };
 
@@ -187,7 +177,7 @@ where
     }
 }
 
-impl<D: Dimension> Div<Array<u8, D>> for u8 {
+impl<D: Lengths> Div<Array<u8, D>> for u8 {
     type Output = Result<Array<u8, D>, AllocError>;
 
     ghost can_div = { λ a b. CanMap (λ x. ⟦<u8 as Div<u8>>⟧.can_div a x) b };
@@ -199,7 +189,7 @@ impl<D: Dimension> Div<Array<u8, D>> for u8 {
     }
 }
 
-impl<'b, D: Dimension> Div<&'b Array<u8, D>> for u8 {
+impl<'b, D: Lengths> Div<&'b Array<u8, D>> for u8 {
     type Output = Result<Array<u8, D>, AllocError>;
 
     ghost can_div = { λ a b. CanMap (λ x. ⟦<u8 as Div<u8>>⟧.can_div a x) b.now };
@@ -211,7 +201,7 @@ impl<'b, D: Dimension> Div<&'b Array<u8, D>> for u8 {
     }
 }
 
-impl<D: Dimension> Div<Array<i32, D>> for i32 {
+impl<D: Lengths> Div<Array<i32, D>> for i32 {
     type Output = Result<Array<i32, D>, AllocError>;
 
     ghost can_div = { λ a b. CanMap (λ x. ⟦<i32 as Div<i32>>⟧.can_div a x) b };
@@ -223,7 +213,7 @@ impl<D: Dimension> Div<Array<i32, D>> for i32 {
     }
 }
 
-impl<'b, D: Dimension> Div<&'b Array<i32, D>> for i32 {
+impl<'b, D: Lengths> Div<&'b Array<i32, D>> for i32 {
     type Output = Result<Array<i32, D>, AllocError>;
 
     ghost can_div = { λ a b. CanMap (λ x. ⟦<i32 as Div<i32>>⟧.can_div a x) b.now };
@@ -235,7 +225,7 @@ impl<'b, D: Dimension> Div<&'b Array<i32, D>> for i32 {
     }
 }
 
-impl<D: Dimension> Div<Array<i64, D>> for i64 {
+impl<D: Lengths> Div<Array<i64, D>> for i64 {
     type Output = Result<Array<i64, D>, AllocError>;
 
     ghost can_div = { λ a b. CanMap (λ x. ⟦<i64 as Div<i64>>⟧.can_div a x) b };
@@ -247,7 +237,7 @@ impl<D: Dimension> Div<Array<i64, D>> for i64 {
     }
 }
 
-impl<'b, D: Dimension> Div<&'b Array<i64, D>> for i64 {
+impl<'b, D: Lengths> Div<&'b Array<i64, D>> for i64 {
     type Output = Result<Array<i64, D>, AllocError>;
 
     ghost can_div = { λ a b. CanMap (λ x. ⟦<i64 as Div<i64>>⟧.can_div a x) b.now };
@@ -259,7 +249,7 @@ impl<'b, D: Dimension> Div<&'b Array<i64, D>> for i64 {
     }
 }
 
-impl<D: Dimension> Div<Array<usize, D>> for usize {
+impl<D: Lengths> Div<Array<usize, D>> for usize {
     type Output = Result<Array<usize, D>, AllocError>;
 
     ghost can_div = { λ a b. CanMap (λ x. ⟦<usize as Div<usize>>⟧.can_div a x) b };
@@ -271,7 +261,7 @@ impl<D: Dimension> Div<Array<usize, D>> for usize {
     }
 }
 
-impl<'b, D: Dimension> Div<&'b Array<usize, D>> for usize {
+impl<'b, D: Lengths> Div<&'b Array<usize, D>> for usize {
     type Output = Result<Array<usize, D>, AllocError>;
 
     ghost can_div = { λ a b. CanMap (λ x. ⟦<usize as Div<usize>>⟧.can_div a x) b.now };

@@ -9,13 +9,13 @@ ghost use Rattle.ndarray.specs.Updates.{is_pair_of_cells, answers, UpdatesUntil}
 ghost use Rattle.ndarray.specs.declared.base.shape.Order.{Order};
 
 use crate::base::array::{ArrayBase, ArrayView};
-use crate::base::dimension::Dimension;
+use crate::base::dimension::Lengths;
 use crate::base::storage::{Data, DataMut};
 use crate::zip::IntoBroadcast;
 use crate::zip::updating::{ByRef2, try_update};
 use std::alloc::AllocError;
 
-impl<A: Drop, S: DataMut<Elem = A>, D: Dimension> ArrayBase<S, D> {
+impl<A: Drop, S: DataMut<Elem = A>, D: Lengths> ArrayBase<S, D> {
     /// Replaces each cell by what `f` returns at it and at the cell of `rhs` there, with `rhs` broadcast to the shape
     /// of this array.
     ///
@@ -32,7 +32,7 @@ impl<A: Drop, S: DataMut<Elem = A>, D: Dimension> ArrayBase<S, D> {
     pub fn try_zip_assign<
         B,
         S2: Data<Elem = B>,
-        E: Dimension,
+        E: Lengths,
         F: FnMut(&A, &B) -> Result<A, AllocError>,
     >(&mut self, rhs: &ArrayBase<S2, E>, f: F) -> Result<(), AllocError>
         requires broadcasts { BroadcastsTo rhs.now.lengths self.old.lengths }

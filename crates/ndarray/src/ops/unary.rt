@@ -3,7 +3,7 @@
 ghost use Rattle.ndarray.specs.Elementwise.{CanMap, ClonesAreEqual, MakesMapped, UpdatesMapped};
 
 use crate::base::array::Array;
-use crate::base::dimension::Dimension;
+use crate::base::dimension::Lengths;
 use crate::ops::calls::OnOne;
 use crate::ops::computing::{mapped, mapped_in_place};
 use crate::ops::operations::{Complement, Negation};
@@ -14,7 +14,7 @@ use std::ops::{Neg, Not};
 impl<A, D> Neg for Array<A, D>
 where
     A: Clone + Drop + Neg<Output = A>,
-    D: Dimension,
+    D: Lengths,
 {
     type Output = Result<Array<A, D>, AllocError>;
 
@@ -31,7 +31,7 @@ where
 impl<'a, A, D> Neg for &'a Array<A, D>
 where
     A: Clone + Drop + Neg<Output = A>,
-    D: Dimension,
+    D: Lengths,
 {
     type Output = Result<Array<A, D>, AllocError>;
 
@@ -41,14 +41,14 @@ where
 
     fn neg(self) -> Self::Output {
         let operation: OnOne<Negation> = OnOne(PhantomData);
-        mapped(self.allocator(), self, operation)
+        mapped(self, operation)
     }
 }
 
 impl<A, D> Not for Array<A, D>
 where
     A: Clone + Drop + Not<Output = A>,
-    D: Dimension,
+    D: Lengths,
 {
     type Output = Result<Array<A, D>, AllocError>;
 
@@ -65,7 +65,7 @@ where
 impl<'a, A, D> Not for &'a Array<A, D>
 where
     A: Clone + Drop + Not<Output = A>,
-    D: Dimension,
+    D: Lengths,
 {
     type Output = Result<Array<A, D>, AllocError>;
 
@@ -75,6 +75,6 @@ where
 
     fn not(self) -> Self::Output {
         let operation: OnOne<Complement> = OnOne(PhantomData);
-        mapped(self.allocator(), self, operation)
+        mapped(self, operation)
     }
 }

@@ -6,17 +6,17 @@ ghost use Rattle.ndarray.specs.Elementwise.{CanMap};
 ghost use Rattle.ndarray.specs.Index.{size};
 ghost use Rattle.ndarray.specs.Subviews.{lanes_of};
 
-use crate::base::array::{Array, ArrayBase};
+use crate::base::array::{Array, ArrayBase, ArrayView};
 use crate::base::axis::Axis;
 use crate::base::builder::ArrayBuilder;
-use crate::base::dimension::{Dimension, Lengths};
+use crate::base::dimension::Lengths;
 use crate::base::layout::default_strides;
 use crate::base::storage::Data;
 use crate::order::{Order, Walk};
 use std::alloc::{AllocError, Global};
 use std::ops::Mul;
 
-impl<A: Copy + Mul<A, Output = A>, S: Data<Elem = A>, D: Dimension> ArrayBase<S, D> {
+impl<A: Copy + Mul<A, Output = A>, S: Data<Elem = A>, D: Lengths> ArrayBase<S, D> {
     /// The running products along an axis: at index 0 the cell, and from there on the cell times the product before
     /// it, with the cell on the left.
     ///
@@ -35,18 +35,33 @@ impl<A: Copy + Mul<A, Output = A>, S: Data<Elem = A>, D: Dimension> ArrayBase<S,
         ensures axes { IfOk result (λ r. D.has_axes (length r.lengths)) }
         ensures empty { size self.now.lengths ≡ 0 → IsOk result }
     {
-        let dim = self.raw_dim();
-        // How many cells there are from one to the next along the axis.
-        let step = default_strides(&dim, Order::RowMajor).axis(axis.0);
-        let mut products = ArrayBuilder::with_capacity(alloc, self.raw_dim(), Order::RowMajor)?;
-        for (index, cell) in Walk::new(dim, Order::RowMajor).zip(self.iter()) {
-            let product = if index.axis(axis.0) == 0 {
-                *cell
-            } else {
-                *cell * *products.back(step)
-            };
-            products.push(product);
-        }
-        Ok(products.finish())
+        running_products(alloc, &self.view(), axis)
     }
+}
+
+/// The running products along an axis of a view.
+fn running_products<A: Copy + Mul<A, Output = A>, D: Lengths>(
+    alloc: Global,
+    array: &ArrayView<'_, A, D>,
+    axis: Axis,
+) -> Result<Array<A, D>, AllocError>
+    requires axis { axis.0 < length array.now.lengths }
+    requires defined { CanMap (λ lane. CanCumulate A.can_mul A.mul_gives lane.cells) (lanes_of array.now axis.0) }
+    ensures products { IfOk result (Cumulates A.mul_gives axis.0 array.now) }
+    ensures axes { IfOk result (λ r. D.has_axes (length r.lengths)) }
+    ensures empty { size array.now.lengths ≡ 0 → IsOk result }
+{
+    let dim = array.raw_dim();
+    // How many cells there are from one to the next along the axis.
+    let step = default_strides(&dim, Order::RowMajor).axis(axis.0);
+    let mut products = ArrayBuilder::with_capacity(alloc, array.raw_dim(), Order::RowMajor)?;
+    for (index, cell) in Walk::new(dim, Order::RowMajor).zip(array.iter()) {
+        let product = if index.axis(axis.0) == 0 {
+            *cell
+        } else {
+            *cell * *products.back(step)
+        };
+        products.push(product);
+    }
+    Ok(products.finish())
 }

@@ -5,9 +5,9 @@ ghost use Rattle.ndarray.specs.AlongAxis.{CanDiffer, IsDifference, IsDifferenceO
 ghost use Rattle.ndarray.specs.Grid.{cell};
 ghost use Rattle.ndarray.specs.Index.{size};
 
-use crate::base::array::{Array, ArrayBase};
+use crate::base::array::{Array, ArrayBase, ArrayView};
 use crate::base::axis::Axis;
-use crate::base::dimension::{Dimension, Lengths};
+use crate::base::dimension::Lengths;
 use crate::base::storage::Data;
 use crate::zip::calls::ItemCall;
 use crate::zip::collecting::collect_items;
@@ -16,7 +16,7 @@ use crate::zip::producer::preferred_order;
 use std::alloc::{AllocError, Global};
 use std::ops::Sub;
 
-impl<S: Data, D: Dimension> ArrayBase<S, D> {
+impl<S: Data, D: Lengths> ArrayBase<S, D> {
     /// Whether there is an axis of that number, and the order is 0 or below its length, as [`diff`](Self::diff) asks.
     pub fn diff_ok(&self, n: usize, axis: Axis) -> bool
         ensures { IsTrue result ↔ ((axis.0 < length self.now.lengths) × ((n ≡ 0) ⊎ (n < slice_index self.now.lengths axis.0))) }
@@ -25,7 +25,7 @@ impl<S: Data, D: Dimension> ArrayBase<S, D> {
     }
 }
 
-impl<A: Copy + Sub<A, Output = A>, S: Data<Elem = A>, D: Dimension> ArrayBase<S, D> {
+impl<A: Copy + Sub<A, Output = A>, S: Data<Elem = A>, D: Lengths> ArrayBase<S, D> {
     /// The difference of order `n` along an axis: of order 0 a copy, and of each further order the cell one further
     /// along the axis minus the cell, so that the axis gets shorter by one.
     ///
@@ -46,26 +46,43 @@ impl<A: Copy + Sub<A, Output = A>, S: Data<Elem = A>, D: Dimension> ArrayBase<S,
         ensures axes { IfOk result (λ r. D.has_axes (length r.lengths)) }
         ensures empty { size self.now.lengths ≡ 0 → IsOk result }
     {
-        if n == 0 {
-            return copy_of(alloc, self);
-        }
-        if self.len() == 0 {
-            // Without cells nothing is subtracted, whatever the order: what is left is the shorter axis.
-            let rest = self.len_of(axis) - n;
-            return copy_of(alloc, &self.view().part(axis.0, 0, rest));
-        }
-        let mut cells = difference(alloc, self, axis)?;
-        for _ in 1..n {
-            cells = difference(alloc, &cells, axis)?;
-        }
-        Ok(cells)
+        differences(alloc, &self.view(), n, axis)
     }
 }
 
-/// An array of copies of an array's cells.
-fn copy_of<A: Copy, S: Data<Elem = A>, D: Lengths>(
+/// The difference of order `n` along an axis of a view.
+fn differences<A: Copy + Sub<A, Output = A>, D: Lengths>(
     alloc: Global,
-    array: &ArrayBase<S, D>,
+    array: &ArrayView<'_, A, D>,
+    n: usize,
+    axis: Axis,
+) -> Result<Array<A, D>, AllocError>
+    requires axis { axis.0 < length array.now.lengths }
+    requires order { (n ≡ 0) ⊎ (n < slice_index array.now.lengths axis.0) }
+    requires defined { CanDiffer A.sub_gives axis.0 A.can_sub n array.now }
+    ensures differences { IfOk result (IsDifferenceOf A.sub_gives axis.0 n array.now) }
+    ensures axes { IfOk result (λ r. D.has_axes (length r.lengths)) }
+    ensures empty { size array.now.lengths ≡ 0 → IsOk result }
+{
+    if n == 0 {
+        return copy_of(alloc, array);
+    }
+    if array.len() == 0 {
+        // Without cells nothing is subtracted, whatever the order: what is left is the shorter axis.
+        let rest = array.len_of(axis) - n;
+        return copy_of(alloc, &array.view().part(axis.0, 0, rest));
+    }
+    let mut cells = difference(alloc, array, axis)?;
+    for _ in 1..n {
+        cells = difference(alloc, &cells, axis)?;
+    }
+    Ok(cells)
+}
+
+/// An array of copies of an array's cells.
+fn copy_of<A: Copy, D: Lengths>(
+    alloc: Global,
+    array: &ArrayView<'_, A, D>,
 ) -> Result<Array<A, D>, AllocError>
     ensures same { IfOk result (λ r. r ≡ array.now) }
     ensures axes { IfOk result (λ r. D.has_axes (length r.lengths)) }

@@ -6,14 +6,14 @@ ghost use Rattle.ndarray.specs.Products.{magnitude_sum, products_of};
 ghost use Rattle.ndarray.specs.Sums.{IsSummable, IsSummableBy};
 ghost use Rattle.ndarray.specs.Integers.{int_products, int_sums, magnitude_product, negative_sum, positive_sum};
 
-use crate::base::array::ArrayBase;
+use crate::base::array::{ArrayBase, ArrayView};
 use crate::base::dimension::{Dimension, Ix1, Lengths};
 use crate::base::storage::Data;
 use crate::elements::IntegerElem;
 use crate::zip::pair::PairRun;
-use num_traits::PrimInt;
+use num_traits::{CheckedAdd, Zero};
 
-impl<A: PrimInt, S: Data<Elem = A>, D: Lengths> ArrayBase<S, D> {
+impl<A: Zero + CheckedAdd, S: Data<Elem = A>, D: Lengths> ArrayBase<S, D> {
     /// Whether every selection of the cells has its sum in the type, as [`sum`](Self::sum) asks.
     ///
     /// That is so exactly where the positive cells add up to at most the type's greatest number and
@@ -28,22 +28,7 @@ impl<A: PrimInt, S: Data<Elem = A>, D: Lengths> ArrayBase<S, D> {
         ensures bounds { IsTrue result ↔ (A.fits (positive_sum (map A.value self.now.cells))
             × A.fits (negative_sum (map A.value self.now.cells))) }
     {
-        let mut up = A::zero();
-        let mut down = A::zero();
-        for x in self.iter() {
-            if *x < A::zero() {
-                match down.checked_add(x) {
-                    Some(sum) => down = sum,
-                    None => return false,
-                }
-            } else {
-                match up.checked_add(x) {
-                    Some(sum) => up = sum,
-                    None => return false,
-                }
-            }
-        }
-        true
+        sums_stay_in_range(&self.view())
     }
 }
 
@@ -62,21 +47,53 @@ impl<A: IntegerElem, S: Data<Elem = A>, D: Lengths> ArrayBase<S, D> {
         ensures magnitudes { IsTrue result ↔ A.fits (pos (magnitude_product (map A.value self.now.cells))) }
         ensures selections { IsTrue result → IsSummableBy int_products A.fits A.value self.now.cells }
     {
-        let mut product = A::one();
-        for x in self.iter() {
-            x.tell_fits();
-            if !x.is_zero() {
-                let Some(factor) = magnitude(*x) else {
-                    return false;
-                };
-                let Some(next) = product.checked_mul(&factor) else {
-                    return false;
-                };
-                product = next;
+        products_stay_in_range(&self.view())
+    }
+}
+
+/// The same of a view, for [`ArrayBase::sums_fit`].
+fn sums_stay_in_range<A: Zero + CheckedAdd, D: Lengths>(array: &ArrayView<'_, A, D>) -> bool
+    ensures selections { IsTrue result ↔ IsSummableBy int_sums A.fits A.value array.now.cells }
+    ensures bounds { IsTrue result ↔ (A.fits (positive_sum (map A.value array.now.cells))
+        × A.fits (negative_sum (map A.value array.now.cells))) }
+{
+    let mut up = A::zero();
+    let mut down = A::zero();
+    for x in array.iter() {
+        if *x < A::zero() {
+            match down.checked_add(x) {
+                Some(sum) => down = sum,
+                None => return false,
+            }
+        } else {
+            match up.checked_add(x) {
+                Some(sum) => up = sum,
+                None => return false,
             }
         }
-        true
     }
+    true
+}
+
+/// The same of a view, for [`ArrayBase::products_fit`].
+fn products_stay_in_range<A: IntegerElem, D: Lengths>(array: &ArrayView<'_, A, D>) -> bool
+    ensures magnitudes { IsTrue result ↔ A.fits (pos (magnitude_product (map A.value array.now.cells))) }
+    ensures selections { IsTrue result → IsSummableBy int_products A.fits A.value array.now.cells }
+{
+    let mut product = A::one();
+    for x in array.iter() {
+        x.tell_fits();
+        if !x.is_zero() {
+            let Some(factor) = magnitude(*x) else {
+                return false;
+            };
+            let Some(next) = product.checked_mul(&factor) else {
+                return false;
+            };
+            product = next;
+        }
+    }
+    true
 }
 
 /// Whether two vectors have the same length, and the absolute values of the products of their cells, place by place, add up to
@@ -93,6 +110,14 @@ pub fn dot_fits<A: IntegerElem, S: Data<Elem = A>, S2: Data<Elem = A>>(
     x: &ArrayBase<S, Ix1>,
     y: &ArrayBase<S2, Ix1>,
 ) -> bool
+    ensures magnitudes { IsTrue result ↔ ((x.now.lengths ≡ y.now.lengths) × A.fits (pos (magnitude_sum (products_of int_products A.value x.now.cells y.now.cells)))) }
+    ensures selections { IsTrue result → (x.now.lengths ≡ y.now.lengths) × IsSummable int_sums A.fits (products_of int_products A.value x.now.cells y.now.cells) }
+{
+    dot_stays_in_range(&x.view(), &y.view())
+}
+
+/// The same of views, for [`dot_fits`].
+fn dot_stays_in_range<A: IntegerElem>(x: &ArrayView<'_, A, Ix1>, y: &ArrayView<'_, A, Ix1>) -> bool
     ensures magnitudes { IsTrue result ↔ ((x.now.lengths ≡ y.now.lengths) × A.fits (pos (magnitude_sum (products_of int_products A.value x.now.cells y.now.cells)))) }
     ensures selections { IsTrue result → (x.now.lengths ≡ y.now.lengths) × IsSummable int_sums A.fits (products_of int_products A.value x.now.cells y.now.cells) }
 {

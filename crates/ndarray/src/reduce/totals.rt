@@ -83,9 +83,7 @@ impl<A: ProductElem> TotalOperation<A> for Product {
 }
 
 /// The total of all cells.
-pub(crate) fn total<T: TotalOperation<A>, A: Copy, S: Data<Elem = A>, D: Lengths>(
-    array: &ArrayBase<S, D>,
-) -> A
+pub(crate) fn total<T: TotalOperation<A>, A: Copy, D: Lengths>(array: &ArrayView<'_, A, D>) -> A
     requires { IsSummableBy T.operation T.InRange T.meaning array.now.cells }
     ensures { T.meaning result ≡ total_by T.operation T.meaning array.now.cells }
 {
@@ -112,9 +110,9 @@ fn total_of<T: TotalOperation<A>, A: Copy>(cells: &[A]) -> A
 }
 
 /// The total of each lane along an axis.
-pub(crate) fn totals_along<T: TotalOperation<A>, A: Copy, S: Data<Elem = A>, D: Dimension>(
+pub(crate) fn totals_along<T: TotalOperation<A>, A: Copy, D: Dimension>(
     alloc: Global,
-    array: &ArrayBase<S, D>,
+    array: &ArrayView<'_, A, D>,
     axis: Axis,
 ) -> Result<Array<A, D::Smaller>, AllocError>
     requires axis { axis.0 < length array.now.lengths }
@@ -138,6 +136,6 @@ impl<'a, A: Copy, T: TotalOperation<A>> ItemCall<ArrayView<'a, A, Ix1>> for Lane
     ghost call_gives = { λ _ lane r _. IsTotalOf T.operation T.meaning lane r };
 
     fn call(&mut self, lane: ArrayView<'a, A, Ix1>) -> A {
-        total::<T, A, _, Ix1>(&lane)
+        total::<T, A, Ix1>(&lane)
     }
 }

@@ -10,12 +10,12 @@ use Rattle.ndarray.proofs.ops.computing.combined_at.Goals as goal
 
 pub returns : goal.returns
 returns g c =
-    let ns : List ℕ = broadcast_lengths c.args.left.now.lengths c.args.right.now.lengths in
-    let left : c.into_broadcast.result ≡ broadcast_to c.args.left.now ns = c.into_broadcast.ensures.seen ∙ ap (broadcast_to c.args.left.now) (c.copied.ensures.value ∙ c.requires.lengths) in
-    let right : c.into_broadcast-2.result ≡ broadcast_to c.args.right.now ns = c.into_broadcast-2.ensures.seen ∙ ap (broadcast_to c.args.right.now) c.requires.lengths in
+    let ns : List ℕ = broadcast_lengths c.args.left.lengths c.args.right.lengths in
+    let left : c.into_broadcast.result ≡ broadcast_to c.args.left ns = c.into_broadcast.ensures.seen ∙ ap (broadcast_to c.args.left) (c.copied.ensures.value ∙ c.requires.lengths) in
+    let right : c.into_broadcast-2.result ≡ broadcast_to c.args.right ns = c.into_broadcast-2.ensures.seen ∙ ap (broadcast_to c.args.right) c.requires.lengths in
     record {
       made = if_ok-both c.try_collect_items.result _ _ _
-          (λ r ran whole. combines-of _ _ (λ _. ⊤) (λ f x z h n k. tt) c.preferred_order-order.result _ tt r whole c.args.left.now c.args.right.now (λ x. x.0.now) (λ x. x.1.now) _
+          (λ r ran whole. combines-of _ _ (λ _. ⊤) (λ f x z h n k. tt) c.preferred_order-order.result _ tt r whole c.args.left c.args.right (λ x. x.0.now) (λ x. x.1.now) _
           (λ i x s. record { left = ap (λ v. cell v i) (sym left) ∙ s.0; right = ap (λ v. cell v i) (sym right) ∙ s.1 }) (λ f x z h n k. k) _ (ap (λ v. v.lengths) left) ran)
           c.try_collect_items.ensures.ran c.try_collect_items.ensures.whole;
       empty = λ none. c.try_collect_items.ensures.empty (ap (λ v. size v.lengths) left ∙ none);
