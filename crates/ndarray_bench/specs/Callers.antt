@@ -7,6 +7,10 @@ use Rattle.ndarray_bench.specs.PairedProducts.{number}
 abbrev pub half_at : Grid ℕ → List ℕ → ℕ
 half_at g is = number (cell g is) / 2
 
+-- what is left of a whole beside the cell at an index list
+abbrev pub rest_at : ℕ → Grid ℕ → List ℕ → ℕ
+rest_at whole g is = whole - number (cell g is)
+
 -- a cell that is there passes the test
 abbrev pub passes : {A : Type 0} → (A → Bool) → Option A → Bool
 passes test None = false

@@ -14,20 +14,20 @@ ghost use Rattle.ndarray.specs.Products.{matrix_of, product_of, products_of};
 ghost use Rattle.ndarray.specs.Subviews.{lane};
 ghost use Rattle.ndarray.specs.Sums.{IsSummable, total, total_by};
 ghost use Rattle.ndarray.specs.Views.{axis_item};
-ghost use Rattle.ndarray_bench.specs.Callers.{half_at, sum_at, sum_below};
+ghost use Rattle.ndarray_bench.specs.Callers.{half_at, rest_at, sum_at, sum_below};
 ghost use Rattle.ndarray_bench.specs.Residue.{Below, modulus, modulus_pos, residue_products, residue_sums};
 
 use crate::residue::Residue;
 use ndarray::linalg::dot_ok;
 use ndarray::reduce::dot_fits;
 use ndarray::{
-    Array, ArrayBase, ArrayView, Axis, Data, DimMax, Dimension, Ix1, Ix2, StackError, Valued, Zip,
-    concatenate, stack,
+    Array, ArrayBase, ArrayView, Axis, Data, DimMax, Ix1, Ix2, Lengths, StackError, Valued, Zip,
+    concatenate, scalar_left, stack,
 };
 use std::alloc::{AllocError, Global};
 
 /// Half of each cell, rounded down, whatever keeps the cells and however they lie.
-pub fn halved<S: Data<Elem = u64>, D: Dimension>(
+pub fn halved<S: Data<Elem = u64>, D: Lengths>(
     alloc: Global,
     a: &ArrayBase<S, D>,
 ) -> Result<Array<u64, D>, AllocError>
@@ -37,28 +37,28 @@ pub fn halved<S: Data<Elem = u64>, D: Dimension>(
 }
 
 /// Whether each cell fits a byte.
-pub fn all_bytes<S: Data<Elem = u64>, D: Dimension>(a: &ArrayBase<S, D>) -> bool
+pub fn all_bytes<S: Data<Elem = u64>, D: Lengths>(a: &ArrayBase<S, D>) -> bool
     ensures { result ≡ list_all (λ x. nat_lt x 256) a.now.cells }
 {
     Zip::from(a.view()).all(|x| *x < 256)
 }
 
 /// Whether some cell fits a byte.
-pub fn any_byte<S: Data<Elem = u64>, D: Dimension>(a: &ArrayBase<S, D>) -> bool
+pub fn any_byte<S: Data<Elem = u64>, D: Lengths>(a: &ArrayBase<S, D>) -> bool
     ensures { result ≡ list_any (λ x. nat_lt x 256) a.now.cells }
 {
     Zip::from(a.view()).any(|x| *x < 256)
 }
 
 /// The greatest cell, and 0 where there is none.
-pub fn greatest<S: Data<Elem = u64>, D: Dimension>(a: &ArrayBase<S, D>) -> u64
+pub fn greatest<S: Data<Elem = u64>, D: Lengths>(a: &ArrayBase<S, D>) -> u64
     ensures { result ≡ fold max 0 a.now.cells }
 {
     Zip::from(a.view()).fold(0, |most, x| most.max(*x))
 }
 
 /// The sum of residues, which never leaves the range.
-pub fn residue_sum<const M: u32, S: Data<Elem = Residue<M>>, D: Dimension>(
+pub fn residue_sum<const M: u32, S: Data<Elem = Residue<M>>, D: Lengths>(
     a: &ArrayBase<S, D>,
 ) -> Residue<M>
     ensures { result ≡ total_by (residue_sums (modulus M) (modulus_pos M)) (λ x. x) a.now.cells }
@@ -77,7 +77,7 @@ pub fn table_sums(a: &Array<i64, Ix2>, b: &Array<i64, Ix2>) -> Result<Array<i64,
 }
 
 /// The array of the sums of the cells of two arrays broadcast together, whatever keeps the cells and however they lie.
-pub fn cell_sums<S: Data<Elem = i64>, T: Data<Elem = i64>, D: Dimension + DimMax<D>>(
+pub fn cell_sums<S: Data<Elem = i64>, T: Data<Elem = i64>, D: DimMax<D>>(
     alloc: Global,
     a: &ArrayBase<S, D>,
     b: &ArrayBase<T, D>,
@@ -87,6 +87,18 @@ pub fn cell_sums<S: Data<Elem = i64>, T: Data<Elem = i64>, D: Dimension + DimMax
 {
     let copy = a.to_owned(alloc)?;
     copy + b
+}
+
+/// What is left of a whole beside each part, and 0 where the part is greater. `u16` has no operators with a scalar on the
+/// left.
+pub fn rests<S: Data<Elem = u16>, D: Lengths>(
+    alloc: Global,
+    whole: u16,
+    parts: &ArrayBase<S, D>,
+) -> Result<Array<u16, D>, AllocError>
+    ensures { IfOk result (λ rests. rests ≡ arranged parts.now.lengths (rest_at whole parts.now)) }
+{
+    scalar_left(alloc, whole, parts, |whole, part| whole.saturating_sub(*part))
 }
 
 /// Adds a row to each row of a table.
@@ -101,7 +113,7 @@ pub fn add_row(table: &mut Array<i64, Ix2>, row: &Array<i64, Ix1>)
 
 /// The product of all cells, or `None` where the absolute values of those that are not zero multiply to more than the
 /// greatest `i64`.
-pub fn product_in_range<S: Data<Elem = i64>, D: Dimension>(a: &ArrayBase<S, D>) -> Option<i64>
+pub fn product_in_range<S: Data<Elem = i64>, D: Lengths>(a: &ArrayBase<S, D>) -> Option<i64>
     ensures { IfSome result (λ p. p ≡ total int_products a.now.cells) }
 {
     if a.products_fit() {
@@ -127,7 +139,7 @@ pub fn row_sums<S: Data<Elem = i64>>(
 }
 
 /// Each cell one further along an axis minus the cell, as the increases in a table of a number for each year.
-pub fn increases<S: Data<Elem = i64>, D: Dimension>(
+pub fn increases<S: Data<Elem = i64>, D: Lengths>(
     alloc: Global,
     a: &ArrayBase<S, D>,
     axis: Axis,
@@ -141,7 +153,7 @@ pub fn increases<S: Data<Elem = i64>, D: Dimension>(
 }
 
 /// The running products of residues along an axis, which never leave the range.
-pub fn residue_running_products<const M: u32, S: Data<Elem = Residue<M>>, D: Dimension>(
+pub fn residue_running_products<const M: u32, S: Data<Elem = Residue<M>>, D: Lengths>(
     alloc: Global,
     a: &ArrayBase<S, D>,
     axis: Axis,

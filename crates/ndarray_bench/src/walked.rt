@@ -6,12 +6,12 @@ ghost use Rattle.std.specs.List.{sum_by};
 ghost use Rattle.ndarray.specs.Index.{row_order};
 ghost use Rattle.ndarray_bench.specs.PairedProducts.{product_at};
 
-use ndarray::{ArrayBase, ArrayView, Data, Dimension, ShapeBuilder, Zip};
+use ndarray::{ArrayBase, ArrayView, Data, Lengths, ShapeBuilder, Zip};
 
 /// The sum of the products of the cells at the same index lists, whatever the layouts of the two arrays.
 ///
 /// Requires equal lengths, and that the sum fits.
-pub fn sum_of_products<S: Data<Elem = u64>, T: Data<Elem = u64>, D: Dimension>(
+pub fn sum_of_products<S: Data<Elem = u64>, T: Data<Elem = u64>, D: Lengths>(
     a: &ArrayBase<S, D>,
     b: &ArrayBase<T, D>,
 ) -> u64

@@ -5,14 +5,14 @@ ghost use Rattle.ndarray.specs.Index.{size};
 ghost use Rattle.ndtables.specs.Printing.{printed, printed_cells, separator_text};
 
 use ndarray::iter::Iter;
-use ndarray::{ArrayView, Dimension, Lengths};
+use ndarray::{ArrayView, Lengths};
 use std::alloc::{AllocError, Global};
 
 /// An array as text: its cells in decimal, in row order, with a blank between two cells of a row, a
 /// line for each row, and an empty line between two blocks, the subarrays of the last two axes.
 ///
 /// An array of no axes or of one is a line. One of more axes that has no cells is no text.
-pub fn text_of<D: Dimension>(
+pub fn text_of<D: Lengths>(
     alloc: Global,
     array: &ArrayView<'_, i64, D>,
 ) -> Result<String, AllocError>

@@ -8,7 +8,7 @@ use crate::rows::reading::{kind, viewed};
 use crate::rows::shown::push_lengths;
 use crate::rows::writing::views_spelled;
 use ndarray::linalg::{Dot, dot_ok, kron, kron_ok};
-use ndarray::{Array, ArrayView, Dimension, Ix2, IxDyn};
+use ndarray::{Array, ArrayView, Ix2, IxDyn, Lengths};
 use std::alloc::{AllocError, Global};
 
 /// A view of residues.
@@ -151,7 +151,7 @@ fn kronecker(alloc: Global, left: &View<'_>, right: &View<'_>) -> Result<String,
 }
 
 /// The lengths of an array and its cells in row order.
-fn shown<D: Dimension>(alloc: Global, array: &Array<Residue<0>, D>) -> Result<String, AllocError> {
+fn shown<D: Lengths>(alloc: Global, array: &Array<Residue<0>, D>) -> Result<String, AllocError> {
     let mut text = String::new(alloc);
     push_lengths(&mut text, array.shape())?;
     for cell in array.iter() {

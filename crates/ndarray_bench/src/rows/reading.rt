@@ -6,7 +6,7 @@ use crate::rows::stepping::Ending;
 use crate::rows::steps::Step;
 use crate::rows::{lists, spelling, values};
 use ndarray::{
-    ArrayBase, ArrayView, Axis, Data, Dimension, Ix0, Ix1, Ix2, Ix3, Ix6, IxDyn, Lengths,
+    ArrayBase, ArrayView, Axis, Data, Ix0, Ix1, Ix2, Ix3, Ix6, IxDyn, Lengths,
     ShapeError,
 };
 use std::alloc::{AllocError, Global};
@@ -244,7 +244,7 @@ fn through_fixed<S: Data>(
 }
 
 /// An array under a fixed number of axes, and back.
-fn through<S: Data, E: Dimension>(
+fn through<S: Data, E: Lengths>(
     array: ArrayBase<S, IxDyn>,
 ) -> Result<ArrayBase<S, IxDyn>, ShapeError> {
     array

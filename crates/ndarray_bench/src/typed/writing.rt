@@ -2,7 +2,7 @@
 
 use crate::typed::checks::Checks;
 use crate::typed::layouts::{array, table};
-use ndarray::{ArrayView, ArrayViewMut, ArrayViewMut1, Axis, Dimension, Ix0, Slice};
+use ndarray::{ArrayView, ArrayViewMut, ArrayViewMut1, Axis, Ix0, Lengths, Slice};
 use std::alloc::{AllocError, Global};
 
 /// Writes ten times the first cell of a view into its second.
@@ -56,7 +56,7 @@ pub fn a_cell_of_one_axis_is_a_view_of_none(checks: &mut Checks) {
 }
 
 /// Checks that a view is this slice, and writes 9 to its last cell.
-fn is_slice<D: Dimension>(checks: &mut Checks, view: ArrayViewMut<'_, i64, D>, cells: &[i64]) {
+fn is_slice<D: Lengths>(checks: &mut Checks, view: ArrayViewMut<'_, i64, D>, cells: &[i64]) {
     match view.try_into_slice() {
         Ok(slice) => {
             checks.same(&*slice, cells);
@@ -87,7 +87,7 @@ pub fn a_column_is_no_slice(alloc: Global, checks: &mut Checks) -> Result<(), Al
 }
 
 /// Which of `as_slice`, `to_slice` and `as_slice_memory_order` give a slice.
-fn are_slices<D: Dimension>(view: &ArrayView<'_, i64, D>) -> (bool, bool, bool) {
+fn are_slices<D: Lengths>(view: &ArrayView<'_, i64, D>) -> (bool, bool, bool) {
     (
         view.as_slice().is_some(),
         view.to_slice().is_some(),

@@ -1,0 +1,19 @@
+use Rattle.std.proofs.Common.{rules, ◌≡◌, ◌-◌, Some, refl}
+use Rattle.ndarray.specs.Grid.{arranged, cell}
+use Rattle.ndarray.proofs.callers.Collecting.{collected, if_ok-both}
+use Rattle.ndarray_bench.specs.Callers.{rest_at}
+use Rattle.ndarray_bench.proofs.callers.rests.Goals as goal
+
+pub returns : goal.returns
+returns g c =
+    let parts = c.args.parts.now in
+    let whole = c.args.whole in
+    if_ok-both c.scalar_left.result _ _ (λ b. b ≡ arranged parts.lengths (rest_at whole parts))
+    (λ b ran grid.
+    collected _ _ _ (rest_at whole parts) _
+    (λ i x r k inside shown call.
+    let there : cell parts i ≡ Some x = shown in
+    let answer : r ≡ whole - x = search (rules, call) in
+    (search (rules, call), answer ∙ rw there refl))
+    ran.0 b grid ran.1)
+    c.scalar_left.ensures.ran c.scalar_left.ensures.whole
