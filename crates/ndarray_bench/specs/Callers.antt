@@ -1,5 +1,5 @@
 -- What the functions of src/callers compute.
-use Rattle.std.specs.Prelude.{ℕ, ℤ, pos, ◌+ℤ◌, ◌/◌, Bool, false, List, Option, Some, None, drop}
+use Rattle.std.specs.Prelude.{ℕ, ℤ, pos, ◌-◌, ◌+ℤ◌, ◌/◌, Bool, false, List, Option, Some, None, drop}
 use Rattle.ndarray.specs.Grid.{Grid, cell}
 use Rattle.ndarray_bench.specs.PairedProducts.{number}
 

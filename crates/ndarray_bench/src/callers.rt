@@ -98,7 +98,12 @@ pub fn rests<S: Data<Elem = u16>, D: Lengths>(
 ) -> Result<Array<u16, D>, AllocError>
     ensures { IfOk result (λ rests. rests ≡ arranged parts.now.lengths (rest_at whole parts.now)) }
 {
-    scalar_left(alloc, whole, parts, |whole, part| whole.saturating_sub(*part))
+    scalar_left(
+        alloc,
+        whole,
+        parts,
+        |whole, part| whole.saturating_sub(*part),
+    )
 }
 
 /// Adds a row to each row of a table.

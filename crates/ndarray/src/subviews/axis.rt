@@ -1,8 +1,6 @@
 //! The items along an axis.
 
-ghost use Rattle.std.specs.Prelude.{◌≡◌, ◌<◌, ◌≤◌, ◌+◌, ◌^◌, ◌∷◌, [], length, take, drop, slice_get, slice_index, ⊤, IfSome};
-ghost use Rattle.std.specs.Iterator.{UpTo, YieldsFirst, YieldsLast, item_count};
-ghost use Rattle.std.specs.Iterator.SizeHint.{IsExactHint, IsWithinCount};
+ghost use Rattle.std.specs.Prelude.{◌≡◌, ◌<◌, ◌≤◌, ◌+◌, ◌^◌, ◌∷◌, [], length, take, drop, slice_get, slice_index};
 ghost use Rattle.ndarray.specs.Grid.{arranged};
 ghost use Rattle.ndarray.specs.Subviews.{axis_items};
 ghost use Rattle.ndarray.specs.Views.{axis_item};
@@ -13,26 +11,11 @@ use crate::base::dimension::{Ix1, Lengths, RemoveAxis};
 use crate::base::layout::Layout;
 use crate::base::storage::Data;
 use crate::subviews::pieces::{Pieces, PiecesIter};
-use std::alloc::AllocError;
-use std::iter::ExactSizeIterator;
-use std::marker::Model;
 
 /// The items along an axis that are still to come: views with that axis taken out.
 ///
 /// An iterator allocates nothing, and each item is made by arithmetic on the one axis.
-#[derive(Drop)]
-pub struct AxisIter<'a, A, D: Lengths> {
-    pub(crate) items: PiecesIter<'a, A, Ix1, D>,
-}
-
-impl<'a, A, D: Lengths> Model for AxisIter<'a, A, D> {
-    ghost use Rattle.std.specs.Prelude.{List};
-    ghost use Rattle.ndarray.specs.Grid.{Grid};
-
-    ghost Value = { List (Grid A) };
-
-    ghost view = { λ s. s.items };
-}
+pub type AxisIter<'a, A, D> = PiecesIter<'a, A, Ix1, D>;
 
 impl<S: Data, D: RemoveAxis> ArrayBase<S, D> {
     /// The items along an axis, from the first to the last: item i is the array with i put in at
@@ -49,9 +32,7 @@ impl<S: Data, D: RemoveAxis> ArrayBase<S, D> {
         ensures items { result ≡ axis_items self.now axis.0 }
         ensures fits { length result < 2 ^ 63 }
     {
-        AxisIter {
-            items: self.items(axis).into_iter(),
-        }
+        self.items(axis).into_iter()
     }
 
     /// The items along axis 0.
@@ -92,9 +73,9 @@ impl<'a, A, D: Lengths> AxisIter<'a, A, D> {
         ensures first { result.0 ≡ take index self.entry }
         ensures second { result.1 ≡ drop index self.entry }
     {
-        let AxisIter { mut items } = self;
-        let first = items.take_first(index);
-        (AxisIter { items: first }, AxisIter { items })
+        let mut rest = self;
+        let first = rest.take_first(index);
+        (first, rest)
     }
 
     /// Leaves out the next `n` items and takes the one after them. O(1).
@@ -102,55 +83,8 @@ impl<'a, A, D: Lengths> AxisIter<'a, A, D> {
         ensures taken { result ≡ slice_get self.old n }
         ensures rest { self.new ≡ drop (n + 1) self.old }
     {
-        let left_out = n.min(self.items.len());
-        let _ = self.items.take_first(left_out);
-        self.items.next()
-    }
-}
-
-impl<'a, A, D: Lengths> Iterator for AxisIter<'a, A, D> {
-    type Item = ArrayView<'a, A, D>;
-
-    ghost next_gives = { YieldsFirst (λ rest. rest) };
-
-    ghost remaining = { item_count (λ rest. rest) };
-
-    #[inline(always)]
-    fn next(&mut self) -> Option<ArrayView<'a, A, D>> {
-        self.items.next()
-    }
-
-    fn size_hint(&self) -> (usize, Option<usize>)
-        ensures lower { IsWithinCount result.0 (item_count (λ rest. rest) self.now) }
-        ensures upper { IfSome result.1 (UpTo (item_count (λ rest. rest) self.now)) }
-        ensures exact { IsExactHint result (length self.now) }
-    {
-        self.items.size_hint()
-    }
-}
-
-impl<'a, A, D: Lengths> DoubleEndedIterator for AxisIter<'a, A, D> {
-    ghost next_back_gives = { YieldsLast (λ rest. rest) };
-
-    fn next_back(&mut self) -> Option<ArrayView<'a, A, D>> {
-        self.items.next_back()
-    }
-}
-
-impl<'a, A, D: Lengths> ExactSizeIterator for AxisIter<'a, A, D> {
-    fn len(&self) -> usize {
-        self.items.len()
-    }
-}
-
-impl<'a, A, D: Lengths> Clone for AxisIter<'a, A, D> {
-    ghost is_clone = { λ s r. r ≡ s };
-
-    ghost is_infallible = { λ _. ⊤ };
-
-    fn clone(&self) -> Result<AxisIter<'a, A, D>, AllocError> {
-        Ok(AxisIter {
-            items: self.items.clone()?,
-        })
+        let left_out = n.min(self.len());
+        let _ = self.take_first(left_out);
+        self.next()
     }
 }

@@ -1,9 +1,7 @@
 //! The chunks along an axis, to write in.
 
-ghost use Rattle.std.specs.Prelude.{◌≡◌, ◌<◌, ◌≤◌, ◌^◌, length, take, drop, slice_index, IfSome};
+ghost use Rattle.std.specs.Prelude.{◌≡◌, ◌<◌, ◌≤◌, ◌^◌, length, slice_index};
 ghost use Rattle.std.specs.Int.{div_ceil};
-ghost use Rattle.std.specs.Iterator.{UpTo, YieldsFirst, YieldsLast, item_count};
-ghost use Rattle.std.specs.Iterator.SizeHint.{IsExactHint, IsWithinCount};
 ghost use Rattle.ndarray.specs.Subviews.{axis_chunks};
 ghost use Rattle.ndarray.specs.base.Chunks.{chunk_layout};
 ghost use Rattle.ndarray.specs.base.CellLayouts.{cell_layout};
@@ -15,12 +13,11 @@ use crate::base::layout::Layout;
 use crate::base::storage::DataMut;
 use crate::order::{Order, Walk};
 use crate::subviews::piece_layouts::{PieceLayouts, PieceLayoutsFromEnds, PiecesIterMut};
-use std::iter::ExactSizeIterator;
 use std::marker::{Model, PhantomData};
 
 /// Where the chunks along an axis lie that are still to come.
 #[derive(Drop)]
-pub(crate) struct ChunkLayouts<D: Lengths> {
+pub struct ChunkLayouts<D: Lengths> {
     layout: Layout<D>,
     axis: usize,
     size: usize,
@@ -96,19 +93,7 @@ impl<D: Lengths> PieceLayoutsFromEnds for ChunkLayouts<D> {
 /// of them share a cell.
 ///
 /// An iterator allocates nothing, and each chunk is made by arithmetic on the one axis.
-#[derive(Drop)]
-pub struct AxisChunksIterMut<'a, A, D: Lengths> {
-    items: PiecesIterMut<'a, A, ChunkLayouts<D>>,
-}
-
-impl<'a, A, D: Lengths> Model for AxisChunksIterMut<'a, A, D> {
-    ghost use Rattle.std.specs.Prelude.{List};
-    ghost use Rattle.ndarray.specs.Grid.{Grid};
-
-    ghost Value = { List (Grid A) };
-
-    ghost view = { λ s. s.items };
-}
+pub type AxisChunksIterMut<'a, A, D> = PiecesIterMut<'a, A, ChunkLayouts<D>>;
 
 impl<S: DataMut, D: Lengths> ArrayBase<S, D> {
     /// The chunks of a size along an axis, from the first to the last, to write in. All have that
@@ -133,9 +118,7 @@ impl<S: DataMut, D: Lengths> ArrayBase<S, D> {
         ensures items { result ≡ axis_chunks self.old axis.0 size }
         ensures fits { length result < 2 ^ 63 }
     {
-        AxisChunksIterMut {
-            items: chunks(self.view_mut(), axis, size),
-        }
+        chunks(self.view_mut(), axis, size)
     }
 }
 
@@ -144,7 +127,7 @@ fn chunks<'a, A, D: Lengths>(
     view: ArrayViewMut<'a, A, D>,
     axis: Axis,
     size: usize,
-) -> PiecesIterMut<'a, A, ChunkLayouts<D>>
+) -> AxisChunksIterMut<'a, A, D>
     requires axis { axis.0 < length view.lengths }
     requires size { 1 ≤ size }
     ensures items { result ≡ axis_chunks view.entry axis.0 size }
@@ -161,58 +144,5 @@ fn chunks<'a, A, D: Lengths>(
             walk: Walk::new(Ix1(count), Order::RowMajor),
         },
         lends: PhantomData,
-    }
-}
-
-impl<'a, A, D: Lengths> AxisChunksIterMut<'a, A, D> {
-    /// The first `index` chunks still to come, and the rest. O(1).
-    ///
-    /// Requires an index that is at most `len()`.
-    pub fn split_at(self, index: usize) -> (Self, Self)
-        requires { index ≤ length self }
-        ensures first { result.0 ≡ take index self.entry }
-        ensures second { result.1 ≡ drop index self.entry }
-    {
-        let AxisChunksIterMut { items } = self;
-        let (first, rest) = items.split_at(index);
-        (
-            AxisChunksIterMut { items: first },
-            AxisChunksIterMut { items: rest },
-        )
-    }
-}
-
-impl<'a, A, D: Lengths> Iterator for AxisChunksIterMut<'a, A, D> {
-    type Item = ArrayViewMut<'a, A, D>;
-
-    ghost next_gives = { YieldsFirst (λ rest. rest) };
-
-    ghost remaining = { item_count (λ rest. rest) };
-
-    #[inline(always)]
-    fn next(&mut self) -> Option<ArrayViewMut<'a, A, D>> {
-        self.items.next()
-    }
-
-    fn size_hint(&self) -> (usize, Option<usize>)
-        ensures lower { IsWithinCount result.0 (item_count (λ rest. rest) self.now) }
-        ensures upper { IfSome result.1 (UpTo (item_count (λ rest. rest) self.now)) }
-        ensures exact { IsExactHint result (length self.now) }
-    {
-        self.items.size_hint()
-    }
-}
-
-impl<'a, A, D: Lengths> DoubleEndedIterator for AxisChunksIterMut<'a, A, D> {
-    ghost next_back_gives = { YieldsLast (λ rest. rest) };
-
-    fn next_back(&mut self) -> Option<ArrayViewMut<'a, A, D>> {
-        self.items.next_back()
-    }
-}
-
-impl<'a, A, D: Lengths> ExactSizeIterator for AxisChunksIterMut<'a, A, D> {
-    fn len(&self) -> usize {
-        self.items.len()
     }
 }

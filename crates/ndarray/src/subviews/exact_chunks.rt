@@ -1,32 +1,21 @@
 //! The whole chunks of an array.
 
-ghost use Rattle.std.specs.Prelude.{◌≡◌, ◌↔◌, length, ⊤, IfSome, IsTrue};
-ghost use Rattle.std.specs.Iterator.{UpTo, YieldsFirst, item_count};
-ghost use Rattle.std.specs.Iterator.SizeHint.{IsExactHint, IsWithinCount};
+ghost use Rattle.std.specs.Prelude.{◌≡◌, ◌↔◌, length, IsTrue};
 ghost use Rattle.ndarray.specs.Subviews.{ArePositive, exact_chunks_of};
 
-use crate::base::array::{ArrayBase, ArrayView};
-use crate::base::dimension::{Dimension, Lengths};
+use crate::base::array::ArrayBase;
+use crate::base::dimension::Dimension;
 use crate::base::into_dimension::IntoDimension;
 use crate::base::storage::Data;
 use crate::subviews::pieces::{Pieces, PiecesIter};
 use crate::subviews::positions::are_positive;
-use std::alloc::AllocError;
-use std::marker::Model;
 
 /// The whole chunks of an array, in row order of their positions.
-#[derive(Drop)]
-pub struct ExactChunks<'a, A, D: Lengths> {
-    pub(crate) pieces: Pieces<'a, A, D, D>,
-}
+pub type ExactChunks<'a, A, D> = Pieces<'a, A, D, D>;
 
-impl<'a, A, D: Lengths> Model for ExactChunks<'a, A, D> {
-    ghost use Rattle.ndarray.specs.Grid.{Grid};
-
-    ghost Value = { Grid (Grid A) };
-
-    ghost view = { λ s. s.pieces };
-}
+/// The whole chunks that are still to come, in row order of their positions, or in the order that
+/// `run` was asked for.
+pub type ExactChunksIter<'a, A, D> = PiecesIter<'a, A, D, D>;
 
 impl<S: Data, D: Dimension> ArrayBase<S, D> {
     /// Whether there are as many chunk lengths as axes, each at least 1.
@@ -51,85 +40,6 @@ impl<S: Data, D: Dimension> ArrayBase<S, D> {
     {
         let chunk = chunk.into_dimension();
         let steps = chunk.copied();
-        ExactChunks {
-            pieces: self.pieces(chunk, &steps),
-        }
-    }
-}
-
-impl<'a, A, D: Lengths> Clone for ExactChunks<'a, A, D> {
-    ghost is_clone = { λ s r. r ≡ s };
-
-    ghost is_infallible = { λ _. ⊤ };
-
-    fn clone(&self) -> Result<ExactChunks<'a, A, D>, AllocError> {
-        Ok(ExactChunks {
-            pieces: self.pieces.again(),
-        })
-    }
-}
-
-impl<'a, A, D: Lengths> IntoIterator for ExactChunks<'a, A, D> {
-    ghost use Rattle.std.specs.Prelude.{◌<◌, ◌^◌, length};
-
-    type Item = ArrayView<'a, A, D>;
-
-    type IntoIter = ExactChunksIter<'a, A, D>;
-
-    ghost into_iter_gives = { λ s it. (it ≡ s.cells) × (length it < 2 ^ 63) };
-
-    fn into_iter(self) -> ExactChunksIter<'a, A, D> {
-        ExactChunksIter {
-            items: self.pieces.into_iter(),
-        }
-    }
-}
-
-/// The whole chunks that are still to come, in row order of their positions, or in the order that
-/// `run` was asked for.
-#[derive(Drop)]
-pub struct ExactChunksIter<'a, A, D: Lengths> {
-    pub(crate) items: PiecesIter<'a, A, D, D>,
-}
-
-impl<'a, A, D: Lengths> Model for ExactChunksIter<'a, A, D> {
-    ghost use Rattle.std.specs.Prelude.{List};
-    ghost use Rattle.ndarray.specs.Grid.{Grid};
-
-    ghost Value = { List (Grid A) };
-
-    ghost view = { λ s. s.items };
-}
-
-impl<'a, A, D: Lengths> Iterator for ExactChunksIter<'a, A, D> {
-    type Item = ArrayView<'a, A, D>;
-
-    ghost next_gives = { YieldsFirst (λ rest. rest) };
-
-    ghost remaining = { item_count (λ rest. rest) };
-
-    #[inline(always)]
-    fn next(&mut self) -> Option<ArrayView<'a, A, D>> {
-        self.items.next()
-    }
-
-    fn size_hint(&self) -> (usize, Option<usize>)
-        ensures lower { IsWithinCount result.0 (item_count (λ rest. rest) self.now) }
-        ensures upper { IfSome result.1 (UpTo (item_count (λ rest. rest) self.now)) }
-        ensures exact { IsExactHint result (length self.now) }
-    {
-        self.items.size_hint()
-    }
-}
-
-impl<'a, A, D: Lengths> Clone for ExactChunksIter<'a, A, D> {
-    ghost is_clone = { λ s r. r ≡ s };
-
-    ghost is_infallible = { λ _. ⊤ };
-
-    fn clone(&self) -> Result<ExactChunksIter<'a, A, D>, AllocError> {
-        Ok(ExactChunksIter {
-            items: self.items.clone()?,
-        })
+        self.pieces(chunk, &steps)
     }
 }

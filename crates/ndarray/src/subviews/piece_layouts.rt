@@ -1,4 +1,4 @@
-//! Inside `subviews`: sub-views to write in that are still to come, taken out of one region one after
+//! Sub-views to write in that are still to come, taken out of one region one after
 //! another.
 
 ghost use Rattle.std.specs.Prelude.{◌≡◌, ◌≤◌, ◌++◌, List, [], ◌∷◌, length, take, drop, All, MatchOption, IfSome, ⊤};
@@ -18,7 +18,7 @@ use std::marker::{Model, PhantomData};
 use std::mem::replace;
 
 /// Where sub-views lie that are still to come.
-pub(crate) trait PieceLayouts: Drop {
+pub trait PieceLayouts: Drop {
     /// The dimension of each.
     type Dim: Lengths;
 
@@ -35,7 +35,7 @@ pub(crate) trait PieceLayouts: Drop {
 }
 
 /// Where sub-views lie that may come from either end.
-pub(crate) trait PieceLayoutsFromEnds: PieceLayouts {
+pub trait PieceLayoutsFromEnds: PieceLayouts {
     /// Where the last one lies.
     fn next_back(&mut self) -> Option<Layout<Self::Dim>>
         ensures { MatchOption result ((Self.layouts self.old ≡ []) × (Self.layouts self.new ≡ [])) (λ l. Self.layouts self.old ≡ Self.layouts self.new ++ cell_layout (Self.Dim.numbers l.dim) l.start (Self.Dim.numbers l.strides) ∷ []) };
@@ -49,7 +49,7 @@ pub(crate) trait PieceLayoutsFromEnds: PieceLayouts {
 
 /// Sub-views to write in that are still to come. The region holds the places of all of them.
 #[derive(Drop)]
-pub(crate) struct PiecesIterMut<'a, A, T: PieceLayouts> {
+pub struct PiecesIterMut<'a, A, T: PieceLayouts> {
     pub(super) region: RegionRepr<Life<'a>, A>,
     pub(super) layouts: T,
     // the lifetime of what it lends, so that `A: 'a` follows from the type
@@ -129,8 +129,10 @@ impl<'a, A, T: PieceLayoutsFromEnds> DoubleEndedIterator for PiecesIterMut<'a, A
 }
 
 impl<'a, A, T: PieceLayoutsFromEnds> PiecesIterMut<'a, A, T> {
-    /// The first `index` sub-views still to come, and the rest.
-    pub(crate) fn split_at(self, index: usize) -> (Self, Self)
+    /// The first `index` sub-views still to come, and the rest. O(1).
+    ///
+    /// Requires an index that is at most `len()`.
+    pub fn split_at(self, index: usize) -> (Self, Self)
         requires { index ≤ length self }
         ensures first { result.0 ≡ take index self.entry }
         ensures second { result.1 ≡ drop index self.entry }

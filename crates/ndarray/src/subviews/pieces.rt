@@ -1,5 +1,5 @@
-//! Inside `subviews`: equal pieces of an array, one at each position of a box, and the iterator over
-//! them. All subviews but axis chunks are such pieces.
+//! Equal pieces of an array, one at each position of a box, and the iterator over them. Lanes, exact chunks and windows
+//! are such pieces; the items along an axis and the windows along one are made of them.
 
 ghost use Rattle.std.specs.Prelude.{◌≡◌, ◌+◌, ◌^◌, ◌≤◌, ◌<◌, length, slice_index, take, drop, Some, ⊤, IfSome};
 ghost use Rattle.std.specs.Iterator.{UpTo, YieldsFirst, YieldsLast, item_count};
@@ -22,7 +22,7 @@ use std::marker::Model;
 
 /// Equal pieces of an array, one at each position of a box: an array of arrays.
 #[derive(Drop)]
-pub(crate) struct Pieces<'a, A, P: Lengths, D: Lengths> {
+pub struct Pieces<'a, A, P: Lengths, D: Lengths> {
     pub(crate) storage: ViewRepr<'a, A>,
     // where the piece at a position begins
     pub(crate) positions: Layout<P>,
@@ -109,14 +109,6 @@ impl<'a, A, P: Lengths, D: Lengths> Pieces<'a, A, P, D> {
         part
     }
 
-    /// The pieces in row order of their positions.
-    pub(crate) fn into_iter(self) -> PiecesIter<'a, A, P, D>
-        ensures items { result ≡ self.entry.cells }
-        ensures fits { length result < 2 ^ 63 }
-    {
-        self.run(Order::RowMajor)
-    }
-
     /// The pieces in an order of their positions.
     pub(crate) fn run(self, order: Order) -> PiecesIter<'a, A, P, D>
         ensures items { result ≡ cells_in order self.entry }
@@ -128,9 +120,31 @@ impl<'a, A, P: Lengths, D: Lengths> Pieces<'a, A, P, D> {
     }
 }
 
+impl<'a, A, P: Lengths, D: Lengths> Clone for Pieces<'a, A, P, D> {
+    ghost is_clone = { λ s r. r ≡ s };
+
+    ghost is_infallible = { λ _. ⊤ };
+
+    fn clone(&self) -> Result<Pieces<'a, A, P, D>, AllocError> {
+        Ok(self.again())
+    }
+}
+
+impl<'a, A, P: Lengths, D: Lengths> IntoIterator for Pieces<'a, A, P, D> {
+    type Item = ArrayView<'a, A, D>;
+
+    type IntoIter = PiecesIter<'a, A, P, D>;
+
+    ghost into_iter_gives = { λ s it. (it ≡ s.cells) × (length it < 2 ^ 63) };
+
+    fn into_iter(self) -> PiecesIter<'a, A, P, D> {
+        self.run(Order::RowMajor)
+    }
+}
+
 /// The pieces that are still to come.
 #[derive(Drop)]
-pub(crate) struct PiecesIter<'a, A, P: Lengths, D: Lengths> {
+pub struct PiecesIter<'a, A, P: Lengths, D: Lengths> {
     pieces: Pieces<'a, A, P, D>,
     walk: Walk<P>,
 }

@@ -1,4 +1,4 @@
-//! Inside `subviews`: equal pieces of an array to write in, one at each position of a box.
+//! Equal pieces of an array to write in, one at each position of a box: lanes, exact chunks, and the items along an axis.
 
 ghost use Rattle.std.specs.Prelude.{◌≡◌, ◌^◌, ◌<◌, ◌≤◌, length, slice_index};
 ghost use Rattle.ndarray.specs.Grid.{IsGrid};
@@ -6,6 +6,7 @@ ghost use Rattle.ndarray.specs.Limits.{IsWithinLimit};
 ghost use Rattle.ndarray.specs.Orders.{cells_in};
 ghost use Rattle.ndarray.specs.Views.{axis_part};
 
+use crate::base::array::ArrayViewMut;
 use crate::base::axis::Axis;
 use crate::base::dimension::{Ix1, Lengths};
 use crate::base::layout::Layout;
@@ -16,7 +17,7 @@ use std::marker::{Model, PhantomData};
 
 /// Equal pieces of an array to write in, one at each position of a box: an array of arrays.
 #[derive(Drop)]
-pub(crate) struct PiecesMut<'a, A, P: Lengths, D: Lengths> {
+pub struct PiecesMut<'a, A, P: Lengths, D: Lengths> {
     pub(crate) region: RegionRepr<Life<'a>, A>,
     // where the piece at a position begins
     pub(crate) positions: Layout<P>,
@@ -50,7 +51,7 @@ struct EqualPiecesLayout<P, D> {
 
 /// Where equal pieces lie that are still to come.
 #[derive(Drop)]
-pub(crate) struct EqualPieceLayouts<P: Lengths, D: Lengths> {
+pub struct EqualPieceLayouts<P: Lengths, D: Lengths> {
     positions: Layout<P>,
     dim: D,
     strides: D,
@@ -124,16 +125,8 @@ impl<'a, A, P: Lengths, D: Lengths> PiecesMut<'a, A, P, D> {
         )
     }
 
-    /// The pieces in row order of their positions.
-    pub(crate) fn into_iter(self) -> PiecesIterMut<'a, A, EqualPieceLayouts<P, D>>
-        ensures items { result ≡ self.entry.cells }
-        ensures fits { length result < 2 ^ 63 }
-    {
-        self.run(Order::RowMajor)
-    }
-
     /// The pieces in an order of their positions.
-    pub(crate) fn run(self, order: Order) -> PiecesIterMut<'a, A, EqualPieceLayouts<P, D>>
+    pub(crate) fn run(self, order: Order) -> EqualPiecesIterMut<'a, A, P, D>
         ensures items { result ≡ cells_in order self.entry }
         ensures fits { length result < 2 ^ 63 }
         ensures whole { IsGrid self.entry }
@@ -156,6 +149,21 @@ impl<'a, A, P: Lengths, D: Lengths> PiecesMut<'a, A, P, D> {
             },
             lends,
         }
+    }
+}
+
+/// Equal pieces to write in that are still to come.
+pub type EqualPiecesIterMut<'a, A, P, D> = PiecesIterMut<'a, A, EqualPieceLayouts<P, D>>;
+
+impl<'a, A, P: Lengths, D: Lengths> IntoIterator for PiecesMut<'a, A, P, D> {
+    type Item = ArrayViewMut<'a, A, D>;
+
+    type IntoIter = EqualPiecesIterMut<'a, A, P, D>;
+
+    ghost into_iter_gives = { λ s it. (it ≡ s.cells) × (length it < 2 ^ 63) };
+
+    fn into_iter(self) -> EqualPiecesIterMut<'a, A, P, D> {
+        self.run(Order::RowMajor)
     }
 }
 

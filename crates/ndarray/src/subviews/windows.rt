@@ -1,8 +1,6 @@
 //! The windows of an array, along all axes or along one.
 
-ghost use Rattle.std.specs.Prelude.{◌≡◌, ◌≤◌, ◌<◌, ◌↔◌, length, replicate, ⊤, IfSome, IsTrue};
-ghost use Rattle.std.specs.Iterator.{UpTo, YieldsFirst, item_count};
-ghost use Rattle.std.specs.Iterator.SizeHint.{IsExactHint, IsWithinCount};
+ghost use Rattle.std.specs.Prelude.{◌≡◌, ◌≤◌, ◌<◌, ◌↔◌, length, replicate, IsTrue};
 ghost use Rattle.ndarray.specs.Subviews.{ArePositive, axis_windows_of, windows_of};
 
 use crate::base::array::{ArrayBase, ArrayView};
@@ -12,22 +10,14 @@ use crate::base::into_dimension::IntoDimension;
 use crate::base::storage::Data;
 use crate::subviews::pieces::{Pieces, PiecesIter};
 use crate::subviews::positions::{are_positive, ones};
-use std::alloc::AllocError;
 use std::marker::Model;
 
 /// The windows of an array, in row order of their positions.
-#[derive(Drop)]
-pub struct Windows<'a, A, D: Lengths> {
-    pub(crate) pieces: Pieces<'a, A, D, D>,
-}
+pub type Windows<'a, A, D> = Pieces<'a, A, D, D>;
 
-impl<'a, A, D: Lengths> Model for Windows<'a, A, D> {
-    ghost use Rattle.ndarray.specs.Grid.{Grid};
-
-    ghost Value = { Grid (Grid A) };
-
-    ghost view = { λ s. s.pieces };
-}
+/// The windows that are still to come, in row order of their positions, or in the order that `run`
+/// was asked for.
+pub type WindowsIter<'a, A, D> = PiecesIter<'a, A, D, D>;
 
 /// The windows of an array along one axis, from the first to the last; on the other axes they have
 /// the whole length.
@@ -65,9 +55,7 @@ impl<S: Data, D: Dimension> ArrayBase<S, D> {
         requires { ArePositive self.now.lengths (E.written_numbers window) }
         ensures { result ≡ windows_of self.now (E.written_numbers window) (replicate (length self.now.lengths) 1) }
     {
-        Windows {
-            pieces: self.pieces(window.into_dimension(), &ones(&self.layout.dim)),
-        }
+        self.pieces(window.into_dimension(), &ones(&self.layout.dim))
     }
 
     /// The windows of these lengths, with positions so many steps apart on each axis: window i of an
@@ -84,9 +72,7 @@ impl<S: Data, D: Dimension> ArrayBase<S, D> {
         requires steps { ArePositive self.now.lengths (E.written_numbers steps) }
         ensures { result ≡ windows_of self.now (E.written_numbers window) (E.written_numbers steps) }
     {
-        Windows {
-            pieces: self.pieces(window.into_dimension(), &steps.into_dimension()),
-        }
+        self.pieces(window.into_dimension(), &steps.into_dimension())
     }
 }
 
@@ -129,34 +115,6 @@ impl<S: Data, D: Lengths> ArrayBase<S, D> {
     }
 }
 
-impl<'a, A, D: Lengths> Clone for Windows<'a, A, D> {
-    ghost is_clone = { λ s r. r ≡ s };
-
-    ghost is_infallible = { λ _. ⊤ };
-
-    fn clone(&self) -> Result<Windows<'a, A, D>, AllocError> {
-        Ok(Windows {
-            pieces: self.pieces.again(),
-        })
-    }
-}
-
-impl<'a, A, D: Lengths> IntoIterator for Windows<'a, A, D> {
-    ghost use Rattle.std.specs.Prelude.{◌<◌, ◌^◌, length};
-
-    type Item = ArrayView<'a, A, D>;
-
-    type IntoIter = WindowsIter<'a, A, D>;
-
-    ghost into_iter_gives = { λ s it. (it ≡ s.cells) × (length it < 2 ^ 63) };
-
-    fn into_iter(self) -> WindowsIter<'a, A, D> {
-        WindowsIter {
-            items: self.pieces.into_iter(),
-        }
-    }
-}
-
 impl<'a, A, D: Lengths> IntoIterator for AxisWindows<'a, A, D> {
     ghost use Rattle.std.specs.Prelude.{◌<◌, ◌^◌, length};
 
@@ -167,57 +125,6 @@ impl<'a, A, D: Lengths> IntoIterator for AxisWindows<'a, A, D> {
     ghost into_iter_gives = { λ s it. (it ≡ s.cells) × (length it < 2 ^ 63) };
 
     fn into_iter(self) -> WindowsIter<'a, A, D> {
-        WindowsIter {
-            items: self.pieces.into_iter(),
-        }
-    }
-}
-
-/// The windows that are still to come, in row order of their positions, or in the order that `run`
-/// was asked for.
-#[derive(Drop)]
-pub struct WindowsIter<'a, A, D: Lengths> {
-    pub(crate) items: PiecesIter<'a, A, D, D>,
-}
-
-impl<'a, A, D: Lengths> Model for WindowsIter<'a, A, D> {
-    ghost use Rattle.std.specs.Prelude.{List};
-    ghost use Rattle.ndarray.specs.Grid.{Grid};
-
-    ghost Value = { List (Grid A) };
-
-    ghost view = { λ s. s.items };
-}
-
-impl<'a, A, D: Lengths> Iterator for WindowsIter<'a, A, D> {
-    type Item = ArrayView<'a, A, D>;
-
-    ghost next_gives = { YieldsFirst (λ rest. rest) };
-
-    ghost remaining = { item_count (λ rest. rest) };
-
-    #[inline(always)]
-    fn next(&mut self) -> Option<ArrayView<'a, A, D>> {
-        self.items.next()
-    }
-
-    fn size_hint(&self) -> (usize, Option<usize>)
-        ensures lower { IsWithinCount result.0 (item_count (λ rest. rest) self.now) }
-        ensures upper { IfSome result.1 (UpTo (item_count (λ rest. rest) self.now)) }
-        ensures exact { IsExactHint result (length self.now) }
-    {
-        self.items.size_hint()
-    }
-}
-
-impl<'a, A, D: Lengths> Clone for WindowsIter<'a, A, D> {
-    ghost is_clone = { λ s r. r ≡ s };
-
-    ghost is_infallible = { λ _. ⊤ };
-
-    fn clone(&self) -> Result<WindowsIter<'a, A, D>, AllocError> {
-        Ok(WindowsIter {
-            items: self.items.clone()?,
-        })
+        self.pieces.into_iter()
     }
 }

@@ -10,88 +10,38 @@ use crate::base::axis::Axis;
 use crate::base::dimension::{Ix1, Lengths};
 use crate::order::Order;
 use crate::subviews::axis::AxisIter;
-use crate::subviews::exact_chunks::{ExactChunks, ExactChunksIter};
-use crate::subviews::lanes::{Lanes, LanesIter};
-use crate::subviews::windows::{AxisWindows, Windows, WindowsIter};
+use crate::subviews::pieces::{Pieces, PiecesIter};
+use crate::subviews::windows::{AxisWindows, WindowsIter};
 use crate::zip::producer::{KeepsLengths, NdProducer, Shaped};
 
-impl<'a, A, D: Lengths> Shaped for Lanes<'a, A, D> {
+impl<'a, A, P: Lengths, D: Lengths> Shaped for Pieces<'a, A, P, D> {
     ghost lengths = { λ s. s.lengths };
 }
 
-impl<'a, A, D: Lengths> NdProducer for Lanes<'a, A, D> {
-    type Item = ArrayView<'a, A, Ix1>;
-
-    type Dim = D;
-
-    type Run = LanesIter<'a, A, D>;
-
-    ghost yields_at = { λ s i x. cell s i ≡ Some x };
-
-    fn raw_dim(&self) -> D {
-        self.pieces.raw_dim()
-    }
-
-    fn split_at(self, axis: Axis, index: usize) -> (Self, Self) {
-        let (first, second) = self.pieces.split_at(axis, index);
-        (Lanes { pieces: first }, Lanes { pieces: second })
-    }
-
-    fn run(self, order: Order) -> LanesIter<'a, A, D> {
-        LanesIter {
-            items: self.pieces.run(order),
-        }
-    }
-
-    type Flat = Self;
-
-    type FlatRun = LanesIter<'a, A, D>;
-
-    ghost flat_form = { λ s o flat. (flat ≡ s) × (o ≡ RowMajor) };
-
-    fn from_flat(flat: Self) -> Self {
-        flat
-    }
-
-    fn run_flat(flat: Self) -> LanesIter<'a, A, D> {
-        flat.run(Order::RowMajor)
-    }
-}
-
-impl<'a, A, D: Lengths> Shaped for ExactChunks<'a, A, D> {
-    ghost lengths = { λ s. s.lengths };
-}
-
-impl<'a, A, D: Lengths> NdProducer for ExactChunks<'a, A, D> {
+impl<'a, A, P: Lengths, D: Lengths> NdProducer for Pieces<'a, A, P, D> {
     type Item = ArrayView<'a, A, D>;
 
-    type Dim = D;
+    type Dim = P;
 
-    type Run = ExactChunksIter<'a, A, D>;
+    type Run = PiecesIter<'a, A, P, D>;
 
     ghost yields_at = { λ s i x. cell s i ≡ Some x };
 
-    fn raw_dim(&self) -> D {
-        self.pieces.raw_dim()
+    fn raw_dim(&self) -> P {
+        self.raw_dim()
     }
 
     fn split_at(self, axis: Axis, index: usize) -> (Self, Self) {
-        let (first, second) = self.pieces.split_at(axis, index);
-        (
-            ExactChunks { pieces: first },
-            ExactChunks { pieces: second },
-        )
+        self.split_at(axis, index)
     }
 
-    fn run(self, order: Order) -> ExactChunksIter<'a, A, D> {
-        ExactChunksIter {
-            items: self.pieces.run(order),
-        }
+    fn run(self, order: Order) -> PiecesIter<'a, A, P, D> {
+        self.run(order)
     }
 
     type Flat = Self;
 
-    type FlatRun = ExactChunksIter<'a, A, D>;
+    type FlatRun = PiecesIter<'a, A, P, D>;
 
     ghost flat_form = { λ s o flat. (flat ≡ s) × (o ≡ RowMajor) };
 
@@ -99,50 +49,7 @@ impl<'a, A, D: Lengths> NdProducer for ExactChunks<'a, A, D> {
         flat
     }
 
-    fn run_flat(flat: Self) -> ExactChunksIter<'a, A, D> {
-        flat.run(Order::RowMajor)
-    }
-}
-
-impl<'a, A, D: Lengths> Shaped for Windows<'a, A, D> {
-    ghost lengths = { λ s. s.lengths };
-}
-
-impl<'a, A, D: Lengths> NdProducer for Windows<'a, A, D> {
-    type Item = ArrayView<'a, A, D>;
-
-    type Dim = D;
-
-    type Run = WindowsIter<'a, A, D>;
-
-    ghost yields_at = { λ s i x. cell s i ≡ Some x };
-
-    fn raw_dim(&self) -> D {
-        self.pieces.raw_dim()
-    }
-
-    fn split_at(self, axis: Axis, index: usize) -> (Self, Self) {
-        let (first, second) = self.pieces.split_at(axis, index);
-        (Windows { pieces: first }, Windows { pieces: second })
-    }
-
-    fn run(self, order: Order) -> WindowsIter<'a, A, D> {
-        WindowsIter {
-            items: self.pieces.run(order),
-        }
-    }
-
-    type Flat = Self;
-
-    type FlatRun = WindowsIter<'a, A, D>;
-
-    ghost flat_form = { λ s o flat. (flat ≡ s) × (o ≡ RowMajor) };
-
-    fn from_flat(flat: Self) -> Self {
-        flat
-    }
-
-    fn run_flat(flat: Self) -> WindowsIter<'a, A, D> {
+    fn run_flat(flat: Self) -> PiecesIter<'a, A, P, D> {
         flat.run(Order::RowMajor)
     }
 }
@@ -180,9 +87,7 @@ impl<'a, A, D: Lengths> NdProducer for AxisWindows<'a, A, D> {
     }
 
     fn run(self, _order: Order) -> WindowsIter<'a, A, D> {
-        WindowsIter {
-            items: self.pieces.into_iter(),
-        }
+        self.pieces.into_iter()
     }
 
     type Flat = Self;
@@ -214,7 +119,7 @@ impl<'a, A, D: Lengths> NdProducer for AxisIter<'a, A, D> {
     ghost yields_at = { λ s i x. cell (one_axis s) i ≡ Some x };
 
     fn raw_dim(&self) -> Ix1 {
-        Ix1(self.items.bounded_len())
+        Ix1(self.bounded_len())
     }
 
     fn split_at(self, _axis: Axis, index: usize) -> (Self, Self) {
@@ -240,15 +145,7 @@ impl<'a, A, D: Lengths> NdProducer for AxisIter<'a, A, D> {
     }
 }
 
-impl<'a, A, D: Lengths> KeepsLengths for Lanes<'a, A, D> {
-    ghost keeps = { λ s r e. ap (λ v. v.lengths) e };
-}
-
-impl<'a, A, D: Lengths> KeepsLengths for ExactChunks<'a, A, D> {
-    ghost keeps = { λ s r e. ap (λ v. v.lengths) e };
-}
-
-impl<'a, A, D: Lengths> KeepsLengths for Windows<'a, A, D> {
+impl<'a, A, P: Lengths, D: Lengths> KeepsLengths for Pieces<'a, A, P, D> {
     ghost keeps = { λ s r e. ap (λ v. v.lengths) e };
 }
 

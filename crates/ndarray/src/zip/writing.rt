@@ -13,8 +13,7 @@ use crate::base::storage::DataMut;
 use crate::iter::elements_mut::ElementsBaseMut;
 use crate::order::Order;
 use crate::subviews::axis_mut::AxisIterMut;
-use crate::subviews::exact_chunks_mut::{ExactChunksIterMut, ExactChunksMut};
-use crate::subviews::lanes_mut::{LanesIterMut, LanesMut};
+use crate::subviews::pieces_mut::{EqualPiecesIterMut, PiecesMut};
 use crate::zip::producer::{IntoNdProducer, NdProducer, Shaped};
 use std::slice::IterMut;
 
@@ -132,83 +131,34 @@ impl<'a, A, D: Lengths> NdProducer for AxisIterMut<'a, A, D> {
     }
 }
 
-impl<'a, A, D: Lengths> Shaped for LanesMut<'a, A, D> {
+impl<'a, A, P: Lengths, D: Lengths> Shaped for PiecesMut<'a, A, P, D> {
     ghost lengths = { λ s. s.lengths };
 }
 
-impl<'a, A, D: Lengths> NdProducer for LanesMut<'a, A, D> {
-    type Item = ArrayViewMut<'a, A, Ix1>;
-
-    type Dim = D;
-
-    type Run = LanesIterMut<'a, A, D>;
-
-    ghost yields_at = { λ s i x. cell s i ≡ Some x };
-
-    fn raw_dim(&self) -> D {
-        self.pieces.raw_dim()
-    }
-
-    fn split_at(self, axis: Axis, index: usize) -> (Self, Self) {
-        let (first, second) = self.pieces.split_at(axis, index);
-        (LanesMut { pieces: first }, LanesMut { pieces: second })
-    }
-
-    fn run(self, order: Order) -> LanesIterMut<'a, A, D> {
-        LanesIterMut {
-            items: self.pieces.run(order),
-        }
-    }
-
-    type Flat = Self;
-
-    type FlatRun = LanesIterMut<'a, A, D>;
-
-    ghost flat_form = { λ s o flat. (flat ≡ s) × (o ≡ RowMajor) };
-
-    fn from_flat(flat: Self) -> Self {
-        flat
-    }
-
-    fn run_flat(flat: Self) -> LanesIterMut<'a, A, D> {
-        flat.run(Order::RowMajor)
-    }
-}
-
-impl<'a, A, D: Lengths> Shaped for ExactChunksMut<'a, A, D> {
-    ghost lengths = { λ s. s.lengths };
-}
-
-impl<'a, A, D: Lengths> NdProducer for ExactChunksMut<'a, A, D> {
+impl<'a, A, P: Lengths, D: Lengths> NdProducer for PiecesMut<'a, A, P, D> {
     type Item = ArrayViewMut<'a, A, D>;
 
-    type Dim = D;
+    type Dim = P;
 
-    type Run = ExactChunksIterMut<'a, A, D>;
+    type Run = EqualPiecesIterMut<'a, A, P, D>;
 
     ghost yields_at = { λ s i x. cell s i ≡ Some x };
 
-    fn raw_dim(&self) -> D {
-        self.pieces.raw_dim()
+    fn raw_dim(&self) -> P {
+        self.raw_dim()
     }
 
     fn split_at(self, axis: Axis, index: usize) -> (Self, Self) {
-        let (first, second) = self.pieces.split_at(axis, index);
-        (
-            ExactChunksMut { pieces: first },
-            ExactChunksMut { pieces: second },
-        )
+        self.split_at(axis, index)
     }
 
-    fn run(self, order: Order) -> ExactChunksIterMut<'a, A, D> {
-        ExactChunksIterMut {
-            items: self.pieces.run(order),
-        }
+    fn run(self, order: Order) -> EqualPiecesIterMut<'a, A, P, D> {
+        self.run(order)
     }
 
     type Flat = Self;
 
-    type FlatRun = ExactChunksIterMut<'a, A, D>;
+    type FlatRun = EqualPiecesIterMut<'a, A, P, D>;
 
     ghost flat_form = { λ s o flat. (flat ≡ s) × (o ≡ RowMajor) };
 
@@ -216,7 +166,7 @@ impl<'a, A, D: Lengths> NdProducer for ExactChunksMut<'a, A, D> {
         flat
     }
 
-    fn run_flat(flat: Self) -> ExactChunksIterMut<'a, A, D> {
+    fn run_flat(flat: Self) -> EqualPiecesIterMut<'a, A, P, D> {
         flat.run(Order::RowMajor)
     }
 }

@@ -6,8 +6,7 @@ use crate::rows::stepping::Ending;
 use crate::rows::steps::Step;
 use crate::rows::{lists, spelling, values};
 use ndarray::{
-    ArrayBase, ArrayView, Axis, Data, Ix0, Ix1, Ix2, Ix3, Ix6, IxDyn, Lengths,
-    ShapeError,
+    ArrayBase, ArrayView, Axis, Data, Ix0, Ix1, Ix2, Ix3, Ix6, IxDyn, Lengths, ShapeError,
 };
 use std::alloc::{AllocError, Global};
 

@@ -1,4 +1,4 @@
-use Rattle.std.proofs.Common.{rules, ◌≡◌, ◌-◌, Some, refl}
+use Rattle.std.proofs.Common.{rules, ◌≡◌, ◌∙◌, ◌-◌, Some, refl}
 use Rattle.ndarray.specs.Grid.{arranged, cell}
 use Rattle.ndarray.proofs.callers.Collecting.{collected, if_ok-both}
 use Rattle.ndarray_bench.specs.Callers.{rest_at}
@@ -14,6 +14,6 @@ returns g c =
     (λ i x r k inside shown call.
     let there : cell parts i ≡ Some x = shown in
     let answer : r ≡ whole - x = search (rules, call) in
-    (search (rules, call), answer ∙ rw there refl))
+    (search rules, answer ∙ rw there refl))
     ran.0 b grid ran.1)
     c.scalar_left.ensures.ran c.scalar_left.ensures.whole
