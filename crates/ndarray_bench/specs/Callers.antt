@@ -1,11 +1,17 @@
 -- What the functions of src/callers compute.
-use Rattle.std.specs.Prelude.{ℕ, ℤ, pos, ◌-◌, ◌+ℤ◌, ◌/◌, Bool, false, List, Option, Some, None, drop}
+use Rattle.std.specs.Prelude.{ℕ, ℤ, pos, ◌-◌, ◌+ℤ◌, ◌/◌, Bool, false, List, [], ◌∷◌, Option, Some, None, drop, max}
+use Rattle.std.specs.List.{fold}
 use Rattle.ndarray.specs.Grid.{Grid, cell}
+use Rattle.ndarray.specs.Subviews.{window}
 use Rattle.ndarray_bench.specs.PairedProducts.{number}
 
 -- half of the cell at an index list
 abbrev pub half_at : Grid ℕ → List ℕ → ℕ
 half_at g is = number (cell g is) / 2
+
+-- the greatest pixel of the square of three by three pixels that begins at an index list
+abbrev pub greatest_around : Grid ℕ → List ℕ → ℕ
+greatest_around image is = fold max 0 (window image (3 ∷ 3 ∷ []) (1 ∷ 1 ∷ []) is).cells
 
 -- what is left of a whole beside the cell at an index list
 abbrev pub rest_at : ℕ → Grid ℕ → List ℕ → ℕ
