@@ -1,6 +1,5 @@
 -- Vectors of what an iterator gives.
-use Rattle.std.proofs.Common.{◌≡◌, List, [], ◌∷◌, Option, None, Ok, Err, suc, length, map, refl, ap, ◌∙◌, subst, true}
-use Rattle.std.specs.Prelude.{Result, IfOk}
+use Rattle.std.proofs.Common.{◌≡◌, List, [], ◌∷◌, Option, None, suc, length, map, refl, ap, ◌∙◌, subst, true}
 use Rattle.std.specs.Fn.{Mut}
 use Rattle.std.specs.Iterator.{ActsAs, Drains, Yields}
 use Rattle.std.specs.Iterator.Adapters.{map_source, map_callee, map_steps}
@@ -8,11 +7,6 @@ use Rattle.std.specs.Iterator.Runs.{WholeRun}
 use Rattle.std.specs.declared.iter.Map.{Map}
 use Rattle.core.proofs.iter.runs.Made.{run, to_end}
 use Rattle.ndarray.specs.Collected.{GivesEach}
-
--- what holds of the value that there is
-pub if_ok : {X E : Type 0} (r : Result X E) (P Q : X → Type 0) → ((x : X) → P x → Q x) → IfOk r P → IfOk r Q
-if_ok (Ok x) P Q to h = to x h
-if_ok (Err e) P Q to h = h
 
 module _ {S A F B : Type 0} (steps : S → Option A → S → Type 0) (g : Mut F (A × Unit {0}) B) where
   -- the items that an iterator gave and what the function made of each, where the mapped iterator gave ys up to its end

@@ -5,7 +5,7 @@ use Rattle.std.proofs.lemmas.Bool.Decides.{nat_tests}
 use Rattle.std.proofs.lemmas.Grind.{same_number_lists}
 use Rattle.std.proofs.lemmas.List.{get_or_append_left, get_or-append_right, get_or-map, get_or-replicate, length-append, length-map, length-replicate}
 use Rattle.std.proofs.lemmas.Slice.Zip.{get_or-zip, length-zip}
-use Rattle.std.proofs.Math.Nat.{le-max_left, le-max_right}
+use Rattle.std.proofs.Math.Nat.{le-max_left, le-max_right, max_comm}
 use Rattle.ndarray.specs.Broadcast.{BroadcastsTo, BroadcastTogether, broadcast_lengths, meeting_length, with_ones_before}
 use Rattle.ndarray.specs.Limits.{IsWithinLimit}
 
@@ -117,6 +117,34 @@ module _ (ns ms : List ℕ) where
               ])
         ]
       ]
+
+meeting-exchanged : (x y : ℕ) → (x ≡ y) ⊎ ((x ≡ 1) ⊎ (y ≡ 1)) → meeting_length (x, y) ≡ meeting_length (y, x)
+meeting-exchanged x y h = elim h [
+  | inl same ↦ grind (arith, nat_tests)
+  | inr one ↦ elim one [ inl e ↦ grind (arith, nat_tests) | inr e ↦ grind (arith, nat_tests) ]
+]
+
+-- Two shapes broadcast together in either order, to the same lengths.
+module _ (ns ms : List ℕ) (t : BroadcastTogether ns ms) where
+  pub lengths-exchanged : broadcast_lengths ns ms ≡ broadcast_lengths ms ns
+  lengths-exchanged =
+      let l = length-broadcast ns ms in
+      let turned = max_comm (length ns) (length ms) in
+      is-broadcast ms ns (broadcast_lengths ns ms) (l ∙ turned)
+      (λ k lt.
+      let here : k < max (length ns) (length ms) = omega arith in
+      let left : left_at ns ms k ≡ right_at ms ns k = ap (λ r. get_or (with_ones_before r ns) k 0) turned in
+      let right : right_at ns ms k ≡ left_at ms ns k = ap (λ r. get_or (with_ones_before r ms) k 0) turned in
+      broadcast-at ns ms k here
+      ∙ (meeting-exchanged (left_at ns ms k) (right_at ns ms k) (meets ns ms t k here)
+      ∙ (ap (λ y. meeting_length (y, left_at ns ms k)) right ∙ ap (λ x. meeting_length (left_at ms ns k, x)) left)))
+
+  pub together-exchanged : BroadcastTogether ms ns
+  together-exchanged = record {
+    left = subst (BroadcastsTo ms) lengths-exchanged t.right;
+    right = subst (BroadcastsTo ns) lengths-exchanged t.left;
+    limit = subst IsWithinLimit lengths-exchanged t.limit;
+  }
 
 -- Where the right one broadcasts to the left one, they are the left lengths.
 module _ (ns ms : List ℕ) (t : BroadcastsTo ms ns) where

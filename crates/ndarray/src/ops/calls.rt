@@ -42,21 +42,6 @@ impl<'b, A: Clone + Drop, B: Clone + Drop, O: Operation<A, B, Output = A>> CellC
     }
 }
 
-/// An operation on an item and the cell beside it on its right.
-#[derive(Drop)]
-pub(crate) struct IntoRight<O>(pub(crate) PhantomData<O>);
-
-impl<'a, A: Clone + Drop, B: Clone + Drop, O: Operation<A, B, Output = B>> CellCall<B, &'a A>
-    for IntoRight<O> {
-    ghost can_call = { λ _ t. O.can_apply t.1.now t.0 × ClonesAreEqual A.is_clone × ClonesAreEqual B.is_clone };
-
-    ghost call_gives = { λ _ t r _. IfOk r (O.apply_gives t.1.now t.0) × (A.is_infallible t.1.now → B.is_infallible t.0 → IsOk r) };
-
-    fn call(&mut self, cell: &B, item: &'a A) -> Result<B, AllocError> {
-        Ok(O::apply(item.clone()?, cell.clone()?))
-    }
-}
-
 /// What is computed of one cell, by clones that may be refused.
 pub(crate) trait CellOperation<A>: Drop {
     /// What it answers.

@@ -9,8 +9,8 @@ use crate::base::broadcast::co_broadcast;
 use crate::base::dim_max::DimMax;
 use crate::base::dimension::Lengths;
 use crate::base::storage::Data;
-use crate::ops::calls::{CellOperation, IntoLeft, IntoRight, OnBoth, OnEach, WithLeft, WithRight};
-use crate::ops::operations::Operation;
+use crate::ops::calls::{CellOperation, IntoLeft, OnBoth, OnEach, WithLeft, WithRight};
+use crate::ops::operations::{Exchanged, Operation};
 use crate::zip::collecting::try_collect_items;
 use crate::zip::pair::Pair;
 use crate::zip::producer::{IntoBroadcast, preferred_order};
@@ -131,40 +131,7 @@ where
     requires right_clones { ClonesAreEqual B.is_clone }
     ensures { UpdatesCombined O.apply_gives A.is_infallible B.is_infallible right.lengths left.now right result }
 {
-    let dim = broadcast_dim_of_right(left, &right);
-    combined_into_right_at::<O, A, B, D, E, _>(left.view(), right, dim)
-}
-
-/// The same as `combined_into_right`, at the lengths of the result.
-fn combined_into_right_at<O, A, B, D, E, R>(
-    left: ArrayView<'_, A, D>,
-    right: Array<B, E>,
-    dim: R,
-) -> Result<Array<B, R>, AllocError>
-where
-    O: Operation<A, B, Output = B>,
-    A: Clone + Drop,
-    B: Clone + Drop,
-    D: Lengths,
-    E: Lengths,
-    R: Lengths,
-    requires lengths { R.numbers dim ≡ broadcast_lengths left.lengths right.lengths }
-    requires can { CanCombine left right O.can_apply }
-    requires left_clones { ClonesAreEqual A.is_clone }
-    requires right_clones { ClonesAreEqual B.is_clone }
-    ensures { UpdatesCombined O.apply_gives A.is_infallible B.is_infallible right.lengths left.entry right result }
-{
-    if dim.slice() != right.shape() {
-        return combined_at::<O, A, B, D, E, _>(right.allocator(), left, right.view(), dim);
-    }
-    let Ok(mut cells) = right.into_dimensionality() else {
-        unreachable!()
-    };
-    let call: IntoRight<O> = IntoRight(PhantomData);
-    match try_update(&mut cells, left.into_broadcast(dim), call) {
-        Ok(()) => Ok(cells),
-        Err(refused) => Err(refused),
-    }
+    combined_into_left::<Exchanged<O>, B, A, _, E, D>(right, left)
 }
 
 /// The lengths of two arrays broadcast together.
@@ -182,25 +149,6 @@ where
     ensures axes { D.Output.has_axes (length (broadcast_lengths left.now.lengths right.now.lengths)) }
 {
     let lengths: Option<<D as DimMax<E>>::Output> = co_broadcast(&left.raw_dim(), &right.raw_dim());
-    let Some(dim) = lengths else { unreachable!() };
-    dim
-}
-
-/// The same as the right array's dimension broadcasts.
-fn broadcast_dim_of_right<S, S2, D, E>(
-    left: &ArrayBase<S, D>,
-    right: &ArrayBase<S2, E>,
-) -> <E as DimMax<D>>::Output
-where
-    S: Data,
-    S2: Data,
-    D: Lengths,
-    E: DimMax<D>,
-    requires { BroadcastTogether left.now.lengths right.now.lengths }
-    ensures lengths { E.Output.numbers result ≡ broadcast_lengths left.now.lengths right.now.lengths }
-    ensures axes { E.Output.has_axes (length (broadcast_lengths left.now.lengths right.now.lengths)) }
-{
-    let lengths: Option<<E as DimMax<D>>::Output> = co_broadcast(&left.raw_dim(), &right.raw_dim());
     let Some(dim) = lengths else { unreachable!() };
     dim
 }

@@ -1,5 +1,6 @@
 //! The operations on elements, each as a type, so that what computes arrays of them stands once for all.
 
+use std::marker::PhantomData;
 use std::ops::{
     Add, AddAssign, BitAnd, BitAndAssign, BitOr, BitOrAssign, BitXor, BitXorAssign, Div, DivAssign,
     Mul, MulAssign, Neg, Not, Rem, RemAssign, Shl, ShlAssign, Shr, ShrAssign, Sub, SubAssign,
@@ -37,6 +38,21 @@ pub(crate) trait UnaryOperation<A> {
     fn apply(a: A) -> Self::Output
         requires { can_apply a }
         ensures { apply_gives a result };
+}
+
+/// An operation with its sides exchanged.
+pub(crate) struct Exchanged<O>(PhantomData<O>);
+
+impl<A, B, O: Operation<B, A>> Operation<A, B> for Exchanged<O> {
+    type Output = O::Output;
+
+    ghost can_apply = { λ a b. O.can_apply b a };
+
+    ghost apply_gives = { λ a b. O.apply_gives b a };
+
+    fn apply(a: A, b: B) -> O::Output {
+        O::apply(b, a)
+    }
 }
 
 /// `+`.

@@ -2,8 +2,9 @@ use Rattle.std.proofs.Common.{◌≡◌, List, length, map, subst}
 use Rattle.std.specs.Iterator.{ActsAs, Drains}
 use Rattle.std.specs.Iterator.Adapters.{map_steps}
 use Rattle.std.specs.Iterator.Runs.{WholeRun}
+use Rattle.std.proofs.lemmas.Result.{IfOk-weaker}
 use Rattle.ndarray.specs.Collected.{GivesEach}
-use Rattle.ndarray.proofs.lists.Collections.{if_ok, mapped-drains, mapped-runs}
+use Rattle.ndarray.proofs.lists.Collections.{mapped-drains, mapped-runs}
 use Rattle.ndarray.proofs.iter.collected.to_vec_mapped.Goals as goal
 use Rattle.ndarray.proofs.iter.collected.to_vec_mapped.Goals.{After-to_vec}
 
@@ -15,12 +16,12 @@ made g c ys d =
 
 pub returns-clause-ran : goal.returns-clause-ran
 returns-clause-ran g c =
-    if_ok c.to_vec.result (λ v. Drains (map_steps g.I.Iterator.next_gives g.F.FnMut) c.map.result v.items)
+    IfOk-weaker c.to_vec.result (λ v. Drains (map_steps g.I.Iterator.next_gives g.F.FnMut) c.map.result v.items)
     (λ v. (xs : List g.row.I-Item.Denot) × (last : g.row.F.Denot) × Drains g.I.Iterator.next_gives c.args.iter xs × GivesEach g.F.FnMut c.args.f xs v.items last)
     (λ v d. made g c v.items d) c.to_vec.ensures.ran
 
 pub returns-clause-runs : goal.returns-clause-runs
 returns-clause-runs g c =
-    if_ok c.to_vec.result (λ v. Drains (map_steps g.I.Iterator.next_gives g.F.FnMut) c.map.result v.items)
+    IfOk-weaker c.to_vec.result (λ v. Drains (map_steps g.I.Iterator.next_gives g.F.FnMut) c.map.result v.items)
     (λ v. WholeRun g.I.Iterator.next_gives c.args.iter (λ p. (length v.items ≡ p.len) × ((h : g.row.I-Item.Denot → g.row.B.Denot) → ActsAs g.F.FnMut c.args.f h → v.items ≡ map h p.items)))
     (λ v d. mapped-runs g.I.Iterator.next_gives g.F.FnMut c.args.iter c.args.f v.items (made g c v.items d)) c.to_vec.ensures.ran

@@ -1,9 +1,9 @@
 use Rattle.std.proofs.Common.{◌≡◌, ◌∙◌, refl, sym, subst}
+use Rattle.std.proofs.lemmas.Result.{IfOk-weaker}
 use Rattle.ndarray.specs.Calls.{can_call_by_ref2, call_gives_by_ref2}
 use Rattle.ndarray.specs.Orders.{box_in}
 use Rattle.ndarray.specs.Runs.{Collects, MayGather, TurnAt, TakesAt, GatherTurn}
 use Rattle.ndarray.specs.Updates.{is_cell}
-use Rattle.ndarray.proofs.lists.Collections.{if_ok}
 use Rattle.ndarray.proofs.runs.RunsThrough.{folds_known, may_known}
 use Rattle.ndarray.proofs.ops.left_scalars.scalar_left.Goals as goal
 
@@ -25,7 +25,7 @@ returns-clause-ran g c =
     let v = c.view-cells.result in
     let o = c.preferred_order-order.result in
     let scalar = c.args.scalar in
-    if_ok c.collect_items.result _ _
+    IfOk-weaker c.collect_items.result _ _
     (λ a k. (
       o,
       subst (λ w. Collects (is_cell w) (λ f x r h. call_gives_by_ref2 g.F.FnMut f (scalar, x) r h) o w.lengths c.args.f a) c.view-cells.ensures.same (record {

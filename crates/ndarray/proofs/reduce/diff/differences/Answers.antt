@@ -1,6 +1,6 @@
 use Rattle.std.proofs.Common.{◌≡◌, ◌∙◌, ◌-◌, ◌<◌, ◌≤◌, ◌⊎◌, ℕ, inl, inr, refl, arith, ap, get_or, set, subst, sym}
-use Rattle.std.specs.Prelude.{Result, Ok, Err, IfOk}
 use Rattle.std.proofs.lemmas.Bool.{false≢true}
+use Rattle.std.proofs.lemmas.Result.{IfOk-weaker}
 use Rattle.ndarray.specs.AlongAxis.{IsDifferenceOf}
 use Rattle.ndarray.specs.Grid.{IsGrid}
 use Rattle.ndarray.specs.Index.{size}
@@ -12,20 +12,17 @@ use Rattle.ndarray.proofs.reduce.diff.differences.Goals as goal
 order-below : (n len : ℕ) → (n ≡ 0 → ⊥) → (n ≡ 0) ⊎ (n < len) → n < len
 order-below n len some h = elim h [ inl e ↦ absurd (some e) | inr lt ↦ lt ]
 
--- the answer is the array that was copied
-copied : {A E : Type 0} (result : Result A E) (P : A → Type 0) (source : A) → P source → IfOk result (λ r. r ≡ source) → IfOk result P
-copied (Ok r) P source h e = subst P (sym e) h
-copied (Err e) P source h same = tt
-
 pub returns-then-len-eq0-clause-differences : goal.returns-then-len-eq0-clause-differences
 returns-then-len-eq0-clause-differences g c =
     let same = c.view.ensures.same in
     let axis = c.args.axis.0 in
     let rest : c.len_of.result - c.args.n ≡ get_or c.args.array.now.lengths axis 0 - c.args.n = ap (λ n. n - c.args.n) c.len_of.ensures.value in
-    copied c.copy_of-then-len-eq0-2.result (IsDifferenceOf g.A.Sub.sub_gives axis c.args.n c.args.array.now) _
+    let whole = IsDifferenceOf g.A.Sub.sub_gives axis c.args.n c.args.array.now in
+    IfOk-weaker c.copy_of-then-len-eq0-2.result _ whole
+    (λ r copy. subst whole (sym copy)
     (difference-without_cells g.A.Sub.sub_gives axis c.args.array.now c.args.n _ (subst IsGrid same c.view.ensures.whole) (sym c.len.ensures.size ∙ c.if-len-eq0.true) c.requires.axis (order-at_most _ _ c.requires.order)
     c.part-then-len-eq0.ensures.whole
-    (part-lengths c.args.array.now c.view.result _ axis 0 (c.len_of.result - c.args.n) same c.part-then-len-eq0.ensures.value ∙ ap (set c.args.array.now.lengths axis) rest))
+    (part-lengths c.args.array.now c.view.result _ axis 0 (c.len_of.result - c.args.n) same c.part-then-len-eq0.ensures.value ∙ ap (set c.args.array.now.lengths axis) rest)))
     c.copy_of-then-len-eq0-2.ensures.same
 
 pub returns-then-len-eq0-clause-empty : goal.returns-then-len-eq0-clause-empty
