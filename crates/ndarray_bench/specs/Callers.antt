@@ -10,8 +10,8 @@ abbrev pub half_at : Grid ℕ → List ℕ → ℕ
 half_at g is = number (cell g is) / 2
 
 -- the greatest pixel of the square of three by three pixels that begins at an index list
-abbrev pub greatest_around : Grid ℕ → List ℕ → ℕ
-greatest_around image is = fold max 0 (window image (3 ∷ 3 ∷ []) (1 ∷ 1 ∷ []) is).cells
+abbrev pub greatest_in_square : Grid ℕ → List ℕ → ℕ
+greatest_in_square image is = fold max 0 (window image (3 ∷ 3 ∷ []) (1 ∷ 1 ∷ []) is).cells
 
 -- what is left of a whole beside the cell at an index list
 abbrev pub rest_at : ℕ → Grid ℕ → List ℕ → ℕ

@@ -14,7 +14,7 @@ ghost use Rattle.ndarray.specs.Products.{matrix_of, product_of, products_of};
 ghost use Rattle.ndarray.specs.Subviews.{lane, window_counts};
 ghost use Rattle.ndarray.specs.Sums.{IsSummable, total, total_by};
 ghost use Rattle.ndarray.specs.Views.{axis_item};
-ghost use Rattle.ndarray_bench.specs.Callers.{greatest_around, half_at, rest_at, sum_at, sum_below};
+ghost use Rattle.ndarray_bench.specs.Callers.{greatest_in_square, half_at, rest_at, sum_at, sum_below};
 ghost use Rattle.ndarray_bench.specs.Residue.{Below, modulus, modulus_pos, residue_products, residue_sums};
 
 use crate::residue::Residue;
@@ -57,13 +57,13 @@ pub fn greatest<S: Data<Elem = u64>, D: Lengths>(a: &ArrayBase<S, D>) -> u64
     Zip::from(a.view()).fold(0, |most, x| most.max(*x))
 }
 
-/// The greatest pixel of each square of three by three pixels, from the top left corner of the image; no pixel where a side is
+/// The greatest pixel of each whole square of three by three pixels; the answer has no pixel where a side of the image is
 /// shorter.
-pub fn dilated<S: Data<Elem = u64>>(
+pub fn maximum_filter<S: Data<Elem = u64>>(
     alloc: Global,
     image: &ArrayBase<S, Ix2>,
 ) -> Result<Array<u64, Ix2>, AllocError>
-    ensures { IfOk result (λ d. d ≡ arranged (window_counts image.now.lengths (3 ∷ 3 ∷ []) (1 ∷ 1 ∷ [])) (greatest_around image.now)) }
+    ensures { IfOk result (λ d. d ≡ arranged (window_counts image.now.lengths (3 ∷ 3 ∷ []) (1 ∷ 1 ∷ [])) (greatest_in_square image.now)) }
 {
     let _axes = image.ndim();
     Zip::from(image.windows((3, 3))).map_collect(alloc, |square| greatest(&square))
