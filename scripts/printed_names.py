@@ -21,6 +21,14 @@ def is_function(text):
     return bool(FUNCTION.match(text))
 
 
+def is_of_trait(parts, at):
+    """Whether a function's piece is a method of a trait, or of an impl of one."""
+    if not parts[at][1].startswith(" "):
+        return False
+    kind, header = re.findall(rf"(?m)^{ITEM.pattern}", "".join(text for _, text in parts[:at]))[-1]
+    return kind == "trait" or " for " in re.split(r"\bwhere\b", " ".join(header.split()))[0]
+
+
 def types_in(text):
     """The structs and enums that a file declares."""
     return TYPE.findall(text)
