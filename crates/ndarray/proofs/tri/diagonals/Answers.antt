@@ -3,7 +3,7 @@ use Rattle.std.specs.Prelude.{filter_map, int_le, ◌&&◌, if◌then◌else◌}
 use Rattle.std.specs.Int.{cast_signed, cast_unsigned}
 use Rattle.std.proofs.lemmas.Int.{to_z-of_z}
 use Rattle.std.proofs.lemmas.List.Elements.{All-tail}
-use Rattle.ndarray.specs.Grid.{Grid, cell}
+use Rattle.ndarray.specs.Grid.{cell}
 use Rattle.ndarray.specs.Index.{InBox, row_order, size}
 use Rattle.ndarray.specs.Orders.{cells_in}
 use Rattle.ndarray.specs.Triangles.{column_minus_row, diagonals_kept}
