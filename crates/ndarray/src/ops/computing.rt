@@ -10,6 +10,7 @@ ghost use Rattle.ndarray.specs.Producers.{both};
 ghost use Rattle.ndarray.specs.Runs.{Collects, MayGather};
 ghost use Rattle.ndarray.specs.Updates.{answers};
 ghost use Rattle.ndarray.specs.declared.base.shape.Order.{Order};
+ghost use Rattle.ndarray.specs.declared.base.shape.Order.TheVariants.{RowMajor, ColumnMajor};
 
 use crate::base::array::{Array, ArrayBase, ArrayView};
 use crate::base::broadcast::co_broadcast;
@@ -218,7 +219,8 @@ where
     P: NdProducer,
     R: Drop,
     C: ItemCall<P::Item, Out = Result<R, AllocError>>,
-    requires { (o : Order) → MayGather (P.yields_at cells) (answers C.call_gives) C.can_call (box_in o (P.lengths cells)) call }
+    requires by_rows { MayGather (P.yields_at cells) (answers C.call_gives) C.can_call (box_in RowMajor (P.lengths cells)) call }
+    requires by_columns { MayGather (P.yields_at cells) (answers C.call_gives) C.can_call (box_in ColumnMajor (P.lengths cells)) call }
     ensures ran { IfOk result (λ g. (o : Order) × Collects (P.yields_at cells) (answers C.call_gives) o (P.lengths cells) call g) }
     ensures whole { IfOk result IsGrid }
     ensures empty { size (P.lengths cells) ≡ 0 → IsOk result }

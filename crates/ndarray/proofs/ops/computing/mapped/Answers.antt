@@ -1,12 +1,16 @@
 use Rattle.std.proofs.Common.{◌≡◌, ◌∙◌, ap, refl, subst, sym}
 use Rattle.ndarray.specs.Grid.{cell}
 use Rattle.ndarray.specs.Index.{size}
+use Rattle.ndarray.specs.declared.base.shape.Order.TheVariants.{RowMajor, ColumnMajor}
 use Rattle.ndarray.proofs.callers.Collecting.{if_ok-both, may-gather}
 use Rattle.ndarray.proofs.cells.Elementwise.{maps-of}
 use Rattle.ndarray.proofs.ops.computing.mapped.Goals as goal
 
-pub collected-requires : goal.collected-requires
-collected-requires g c = λ o. may-gather _ _ _ _ (λ i x r k s h. h.1) _ o (λ i x b s. c.requires i x.now (ap (λ v. cell v i) (sym c.view.ensures.same) ∙ s))
+pub collected-requires-clause-by_rows : goal.collected-requires-clause-by_rows
+collected-requires-clause-by_rows g c = may-gather _ _ _ _ (λ i x r k s h. h.1) _ RowMajor (λ i x b s. c.requires i x.now (ap (λ v. cell v i) (sym c.view.ensures.same) ∙ s))
+
+pub collected-requires-clause-by_columns : goal.collected-requires-clause-by_columns
+collected-requires-clause-by_columns g c = may-gather _ _ _ _ (λ i x r k s h. h.1) _ ColumnMajor (λ i x b s. c.requires i x.now (ap (λ v. cell v i) (sym c.view.ensures.same) ∙ s))
 
 pub returns : goal.returns
 returns g c =
