@@ -83,7 +83,7 @@ pub fn products_of_residues(alloc: Global, checks: &mut Checks) -> Result<(), Al
 }
 
 /// Three times a table, and twice its square.
-fn combined(
+fn general_product(
     alloc: Global,
     table: &ArrayView<'_, Residue<5>, Ix2>,
 ) -> Result<Array<Residue<5>, Ix2>, AllocError> {
@@ -100,7 +100,7 @@ pub fn a_general_product_of_residues(alloc: Global, checks: &mut Checks) -> Resu
     let Ok(table) = ArrayView::from_shape((2, 2), &cells) else {
         unreachable!()
     };
-    checks.same(numbers(&combined(alloc, &table)?), [2, 1, 4, 1]);
+    checks.same(numbers(&general_product(alloc, &table)?), [2, 1, 4, 1]);
     Ok(())
 }
 
