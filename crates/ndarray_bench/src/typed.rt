@@ -93,8 +93,6 @@ fn of_writing<R: Print + AllocGlobal>(rt: &R, given: Counts) -> io::Result<Count
         writing::two_columns_held_together_are_written(alloc),
         writing::a_cell_of_one_axis_is_a_view_of_none(),
         writing::cells_side_by_side_in_row_order_are_a_slice(alloc),
-        writing::a_column_is_no_slice(alloc),
-        writing::an_array_just_made_is_a_slice(alloc),
         writing::stepped_reversed_and_transposed_cells_are_no_slice(),
     )
 }
@@ -111,7 +109,7 @@ fn of_callers<R: Print + AllocGlobal>(rt: &R, given: Counts) -> io::Result<Count
         residues::a_general_product_of_residues(alloc),
         residues::fibonacci_numbers_of_residues(alloc),
         zip::dot_of_two_layouts(),
-        zip::what_fits_and_what_broadcasts(),
+        zip::a_row_broadcasts(),
         zip::azip_adds(),
         zip::a_generic_caller_doubles(alloc),
         zip::a_producer_is_asked(),

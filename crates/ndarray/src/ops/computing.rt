@@ -1,8 +1,16 @@
 //! What the operators call: each way of computing stands here once, for all operations.
 
-ghost use Rattle.std.specs.Prelude.{◌≡◌, length, ⊤};
+ghost use Rattle.std.specs.Prelude.{◌≡◌, IfOk, IsOk, length, ⊤};
 ghost use Rattle.ndarray.specs.Broadcast.{BroadcastTogether, broadcast_lengths};
 ghost use Rattle.ndarray.specs.Elementwise.{CanCombine, CanMap, ClonesAreEqual, MakesCombined, MakesMapped, UpdatesCombined, UpdatesMapped};
+ghost use Rattle.ndarray.specs.Grid.{IsGrid};
+ghost use Rattle.ndarray.specs.Index.{size};
+ghost use Rattle.ndarray.specs.Orders.{box_in};
+ghost use Rattle.ndarray.specs.Producers.{both};
+ghost use Rattle.ndarray.specs.Runs.{Collects, MayGather};
+ghost use Rattle.ndarray.specs.Updates.{answers};
+ghost use Rattle.ndarray.specs.declared.base.shape.Order.{Order};
+ghost use Rattle.ndarray.specs.declared.base.shape.Order.TheVariants.{RowMajor, ColumnMajor};
 
 use crate::base::array::{Array, ArrayBase, ArrayView};
 use crate::base::broadcast::co_broadcast;
@@ -11,9 +19,10 @@ use crate::base::dimension::Lengths;
 use crate::base::storage::Data;
 use crate::ops::calls::{CellOperation, IntoLeft, OnBoth, OnEach, WithLeft, WithRight};
 use crate::ops::operations::{Exchanged, Operation};
+use crate::zip::calls::ItemCall;
 use crate::zip::collecting::try_collect_items;
 use crate::zip::pair::Pair;
-use crate::zip::producer::{IntoBroadcast, preferred_order};
+use crate::zip::producer::{IntoBroadcast, NdProducer, preferred_order};
 use crate::zip::units::Units;
 use crate::zip::updating::try_update;
 use std::alloc::{AllocError, Global};
@@ -174,12 +183,49 @@ where
     requires right_clones { ClonesAreEqual B.is_clone }
     ensures { MakesCombined O.apply_gives left.entry right.entry result }
 {
-    let cells = Pair {
-        first: left.into_broadcast(dim.copied()),
-        second: right.into_broadcast(dim),
-    };
-    let order = preferred_order(&cells);
     let call: OnBoth<O> = OnBoth(PhantomData);
+    collected_of_both(
+        alloc,
+        left.into_broadcast(dim.copied()),
+        right.into_broadcast(dim),
+        call,
+    )
+}
+
+/// The array of what a call answers at the items of two producers, in one order or the other.
+fn collected_of_both<P, Q, R, C>(
+    alloc: Global,
+    first: P,
+    second: Q,
+    call: C,
+) -> Result<Array<R, P::Dim>, AllocError>
+where
+    P: NdProducer,
+    Q: NdProducer,
+    R: Drop,
+    C: ItemCall<(P::Item, Q::Item), Out = Result<R, AllocError>>,
+    requires same { P.lengths first ≡ Q.lengths second }
+    requires callable { (o : Order) → MayGather (both (P.yields_at first) (Q.yields_at second)) (answers C.call_gives) C.can_call (box_in o (P.lengths first)) call }
+    ensures ran { IfOk result (λ g. (o : Order) × Collects (both (P.yields_at first) (Q.yields_at second)) (answers C.call_gives) o (P.lengths first) call g) }
+    ensures whole { IfOk result IsGrid }
+    ensures empty { size (P.lengths first) ≡ 0 → IsOk result }
+{
+    collected(alloc, Pair { first, second }, call)
+}
+
+/// The same at the items of one producer.
+fn collected<P, R, C>(alloc: Global, cells: P, call: C) -> Result<Array<R, P::Dim>, AllocError>
+where
+    P: NdProducer,
+    R: Drop,
+    C: ItemCall<P::Item, Out = Result<R, AllocError>>,
+    requires by_rows { MayGather (P.yields_at cells) (answers C.call_gives) C.can_call (box_in RowMajor (P.lengths cells)) call }
+    requires by_columns { MayGather (P.yields_at cells) (answers C.call_gives) C.can_call (box_in ColumnMajor (P.lengths cells)) call }
+    ensures ran { IfOk result (λ g. (o : Order) × Collects (P.yields_at cells) (answers C.call_gives) o (P.lengths cells) call g) }
+    ensures whole { IfOk result IsGrid }
+    ensures empty { size (P.lengths cells) ≡ 0 → IsOk result }
+{
+    let order = preferred_order(&cells);
     try_collect_items(alloc, cells, order, call)
 }
 
@@ -196,9 +242,7 @@ where
     requires { CanMap (C.can_apply operation) array.now }
     ensures { MakesMapped (C.apply_gives operation) array.now result }
 {
-    let cells = array.view();
-    let order = preferred_order(&cells);
-    try_collect_items(array.allocator(), cells, order, OnEach(operation))
+    collected(array.allocator(), array.view(), OnEach(operation))
 }
 
 /// The same into the array's own cells.

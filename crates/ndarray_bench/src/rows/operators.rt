@@ -1,4 +1,4 @@
-//! Operators on a table, in each form of ownership.
+//! Operators on a table: each with both sides borrowed, and those of sums in each form of ownership.
 
 ghost use Rattle.ndarray.specs.Broadcast.{BroadcastTogether};
 
@@ -20,7 +20,7 @@ pub type View<'a> = ArrayView<'a, Wrapped, IxDyn>;
 
 /// What an operator gives on a table, after calls that view it; `None` where the call after those is no operator.
 ///
-/// Each form is carried out, with each layout of the right table. Answers that differ are joined by `or`.
+/// The forms are carried out with each layout of the right table. Answers that differ are joined by `or`.
 pub fn answer(alloc: Global, table: &Table, calls: &[&str]) -> Result<Option<String>, AllocError> {
     let views = views_spelled(alloc, calls)?;
     let [call] = calls.get(views.len()..).unwrap_or(&[]) else {
@@ -41,18 +41,24 @@ pub fn answer(alloc: Global, table: &Table, calls: &[&str]) -> Result<Option<Str
 /// An operator.
 #[derive(Clone, Copy)]
 enum Operator {
-    Arithmetic(Arithmetic),
+    Sums(Sums),
+    Products(Products),
     Bits(Bits),
     // These two have no right side.
     Neg,
     Not,
 }
 
-/// An operator of numbers.
+/// An operator that adds or takes away. Rows carry out each form of these; unproved/ops.txt has the forms of the others.
 #[derive(Clone, Copy)]
-enum Arithmetic {
+enum Sums {
     Add,
     Sub,
+}
+
+/// An operator that multiplies or divides.
+#[derive(Clone, Copy)]
+enum Products {
     Mul,
     Div,
     Rem,
@@ -71,13 +77,15 @@ enum Bits {
 impl Operator {
     /// The operator of this name.
     fn named(name: &str) -> Option<Operator> {
-        if let Some(operator) = Arithmetic::named(name) {
-            return Some(Operator::Arithmetic(operator));
-        }
         if let Some(operator) = Bits::named(name) {
             return Some(Operator::Bits(operator));
         }
+        if let Some(operator) = Products::named(name) {
+            return Some(Operator::Products(operator));
+        }
         match name {
+            "add" => Some(Operator::Sums(Sums::Add)),
+            "sub" => Some(Operator::Sums(Sums::Sub)),
             "neg" => Some(Operator::Neg),
             "not" => Some(Operator::Not),
             _ => None,
@@ -85,15 +93,13 @@ impl Operator {
     }
 }
 
-impl Arithmetic {
+impl Products {
     /// The operator of this name.
-    fn named(name: &str) -> Option<Arithmetic> {
+    fn named(name: &str) -> Option<Products> {
         match name {
-            "add" => Some(Arithmetic::Add),
-            "sub" => Some(Arithmetic::Sub),
-            "mul" => Some(Arithmetic::Mul),
-            "div" => Some(Arithmetic::Div),
-            "rem" => Some(Arithmetic::Rem),
+            "mul" => Some(Products::Mul),
+            "div" => Some(Products::Div),
+            "rem" => Some(Products::Rem),
             _ => None,
         }
     }
@@ -169,7 +175,7 @@ fn of_each_cell(alloc: Global, view: &View<'_>, operator: Operator) -> Result<St
     Ok(text)
 }
 
-/// What an operator gives with a scalar, on an owned array and on a reference to it.
+/// What an operator gives with a scalar, on a reference to an array, and one of sums on the array itself.
 fn with_scalar(
     alloc: Global,
     view: &View<'_>,
@@ -178,16 +184,12 @@ fn with_scalar(
 ) -> Result<String, AllocError> {
     let array = ArrayView::to_owned(view, alloc)?;
     let mut text = String::new(alloc);
-    match operator {
-        Operator::Arithmetic(operator) => {
-            push_answer(&mut text, alloc, operator.with(&array, scalar)?)?;
-            push_answer(&mut text, alloc, operator.with_in_place(array, scalar)?)?;
-        }
-        Operator::Bits(operator) => {
-            push_answer(&mut text, alloc, operator.with(&array, scalar)?)?;
-            push_answer(&mut text, alloc, operator.with_in_place(array, scalar)?)?;
-        }
-        _ => text.push_str("not understood")?,
+    match operator.with(&array, scalar)? {
+        Some(answer) => push_answer(&mut text, alloc, answer)?,
+        None => text.push_str("not understood")?,
+    }
+    if let Operator::Sums(operator) = operator {
+        push_answer(&mut text, alloc, operator.with_in_place(array, scalar)?)?;
     }
     Ok(text)
 }
@@ -213,8 +215,8 @@ fn with_tables(
     Ok(text)
 }
 
-/// Appends what an operator gives between two tables, in each form; `refused` where their shapes do not broadcast
-/// together.
+/// Appends what an operator gives between two tables, with both borrowed, and one of sums in each form; `refused` where
+/// their shapes do not broadcast together.
 fn push_between(
     text: &mut String,
     alloc: Global,
@@ -226,20 +228,16 @@ fn push_between(
         return push_text(text, "refused");
     }
     let array = ArrayView::to_owned(left, alloc)?;
-    let owned = ArrayView::to_owned(right, alloc)?;
-    match operator {
-        Operator::Arithmetic(operator) => {
-            push_answer(text, alloc, operator.between(&array, right)?)?;
-            push_answer(text, alloc, operator.into_left(array, right)?)?;
-            push_answer(text, alloc, operator.into_right(left, owned)?)
-        }
-        Operator::Bits(operator) => {
-            push_answer(text, alloc, operator.between(&array, right)?)?;
-            push_answer(text, alloc, operator.into_left(array, right)?)?;
-            push_answer(text, alloc, operator.into_right(left, owned)?)
-        }
-        _ => push_text(text, "not understood"),
+    match operator.between(&array, right)? {
+        Some(answer) => push_answer(text, alloc, answer)?,
+        None => push_text(text, "not understood")?,
     }
+    if let Operator::Sums(operator) = operator {
+        push_answer(text, alloc, operator.into_left(array, right)?)?;
+        let owned = ArrayView::to_owned(right, alloc)?;
+        push_answer(text, alloc, operator.into_right(left, owned)?)?;
+    }
+    Ok(())
 }
 
 /// Appends an array to other answers, unless it is the same.
@@ -263,49 +261,95 @@ pub fn push_text(text: &mut String, next: &str) -> Result<(), AllocError> {
     text.push_str(next)
 }
 
-/// An operator of numbers between two values.
-macro_rules! arithmetic {
+impl Operator {
+    /// With both sides borrowed; `None` for one that has no right side.
+    fn between(self, left: &Owned, right: &View<'_>) -> Result<Option<Owned>, AllocError>
+        requires { BroadcastTogether left.now.lengths right.now.lengths }
+    {
+        match self {
+            Operator::Sums(operator) => operator.between(left, right).map(Some),
+            Operator::Products(operator) => operator.between(left, right).map(Some),
+            Operator::Bits(operator) => operator.between(left, right).map(Some),
+            _ => Ok(None),
+        }
+    }
+
+    /// With a scalar; `None` for one that has no right side.
+    fn with(self, left: &Owned, scalar: Wrapped) -> Result<Option<Owned>, AllocError> {
+        match self {
+            Operator::Sums(operator) => operator.with(left, scalar).map(Some),
+            Operator::Products(operator) => operator.with(left, scalar).map(Some),
+            Operator::Bits(operator) => operator.with(left, scalar).map(Some),
+            _ => Ok(None),
+        }
+    }
+}
+
+/// An operator of sums between two values.
+macro_rules! sums {
     ($operator:expr, $left:expr, $right:expr) => {
         match $operator {
-            Arithmetic::Add => $left + $right,
-            Arithmetic::Sub => $left - $right,
-            Arithmetic::Mul => $left * $right,
-            Arithmetic::Div => $left / $right,
-            Arithmetic::Rem => $left % $right,
+            Sums::Add => $left + $right,
+            Sums::Sub => $left - $right,
         }
     };
 }
 
-impl Arithmetic {
+impl Sums {
     /// With both sides borrowed.
     fn between(self, left: &Owned, right: &View<'_>) -> Result<Owned, AllocError>
         requires { BroadcastTogether left.now.lengths right.now.lengths }
     {
-        arithmetic!(self, left, right)
+        sums!(self, left, right)
     }
 
     /// With the left side owned.
     fn into_left(self, left: Owned, right: &View<'_>) -> Result<Owned, AllocError>
         requires { BroadcastTogether left.lengths right.now.lengths }
     {
-        arithmetic!(self, left, right)
+        sums!(self, left, right)
     }
 
     /// With the right side owned.
     fn into_right(self, left: &View<'_>, right: Owned) -> Result<Owned, AllocError>
         requires { BroadcastTogether left.now.lengths right.lengths }
     {
-        arithmetic!(self, left, right)
+        sums!(self, left, right)
     }
 
     /// With a scalar.
     fn with(self, left: &Owned, scalar: Wrapped) -> Result<Owned, AllocError> {
-        arithmetic!(self, left, scalar)
+        sums!(self, left, scalar)
     }
 
     /// With a scalar, and the left side owned.
     fn with_in_place(self, left: Owned, scalar: Wrapped) -> Result<Owned, AllocError> {
-        arithmetic!(self, left, scalar)
+        sums!(self, left, scalar)
+    }
+}
+
+/// An operator that multiplies or divides between two values.
+macro_rules! products {
+    ($operator:expr, $left:expr, $right:expr) => {
+        match $operator {
+            Products::Mul => $left * $right,
+            Products::Div => $left / $right,
+            Products::Rem => $left % $right,
+        }
+    };
+}
+
+impl Products {
+    /// With both sides borrowed.
+    fn between(self, left: &Owned, right: &View<'_>) -> Result<Owned, AllocError>
+        requires { BroadcastTogether left.now.lengths right.now.lengths }
+    {
+        products!(self, left, right)
+    }
+
+    /// With a scalar.
+    fn with(self, left: &Owned, scalar: Wrapped) -> Result<Owned, AllocError> {
+        products!(self, left, scalar)
     }
 }
 
@@ -330,27 +374,8 @@ impl Bits {
         bits!(self, left, right)
     }
 
-    /// With the left side owned.
-    fn into_left(self, left: Owned, right: &View<'_>) -> Result<Owned, AllocError>
-        requires { BroadcastTogether left.lengths right.now.lengths }
-    {
-        bits!(self, left, right)
-    }
-
-    /// With the right side owned.
-    fn into_right(self, left: &View<'_>, right: Owned) -> Result<Owned, AllocError>
-        requires { BroadcastTogether left.now.lengths right.lengths }
-    {
-        bits!(self, left, right)
-    }
-
     /// With a scalar.
     fn with(self, left: &Owned, scalar: Wrapped) -> Result<Owned, AllocError> {
-        bits!(self, left, scalar)
-    }
-
-    /// With a scalar, and the left side owned.
-    fn with_in_place(self, left: Owned, scalar: Wrapped) -> Result<Owned, AllocError> {
         bits!(self, left, scalar)
     }
 }

@@ -1,6 +1,6 @@
 //! Calls on arrays that own their cells, or may own them.
 
-use crate::rows::calls::ViewCall;
+use crate::rows::calls::{ViewCall, WriteCall};
 use crate::rows::layouts::{Layout, Table, cut};
 use crate::rows::shown::as_text;
 use crate::rows::stepping::forward;
@@ -155,7 +155,10 @@ fn written(alloc: Global, given: Array<i64, IxDyn>, calls: &[&str]) -> Result<St
         return "not understood".to_string(alloc);
     };
     let mut array = given;
-    let ending = writing::written(alloc, &mut array, call, steps.as_slice())?;
+    let ending = match call {
+        WriteCall::GetMut(at, value) => writing::set(alloc, &mut array, at, value)?,
+        call => writing::written(alloc, &mut array.view_mut(), call, steps.as_slice())?,
+    };
     writing::ending_shown(alloc, &array.view(), ending)
 }
 

@@ -113,6 +113,39 @@ impl Answers {
         Ok(true)
     }
 
+    /// Carries out a step that an iterator has which goes from both ends, and answers whether it is one.
+    fn step_from_ends<I: BothEnds>(&mut self, items: &mut I, step: Step) -> Result<bool, AllocError>
+    where
+        I::Item: Item,
+        requires can { (it : I) → I.can_next it }
+        requires back { (it : I) → I.can_next_back it }
+        requires ends { (it : I) → IsFinite (I.remaining it) }
+    {
+        match step {
+            Step::NextBack => self.take(items.next_back())?,
+            Step::Nth(count) => self.take(items.after(count))?,
+            Step::Clone => return self.take_twin(items.twin()),
+            step => return self.step(items, step),
+        }
+        Ok(true)
+    }
+
+    /// Takes all items of a clone, and answers whether there is one.
+    fn take_twin<I: Iterator + Drop>(&mut self, twin: Option<I>) -> Result<bool, AllocError>
+    where
+        I::Item: Item,
+        requires can { (it : I) → I.can_next it }
+        requires ends { (it : I) → IsFinite (I.remaining it) }
+    {
+        match twin {
+            Some(twin) => {
+                self.take_part(twin)?;
+                Ok(true)
+            }
+            None => Ok(false),
+        }
+    }
+
     /// Carries out a step that takes all items.
     fn last_step<I: Iterator + Drop>(self, items: I, step: Step) -> Result<Ending, AllocError>
     where
@@ -194,7 +227,9 @@ pub trait BothEnds: DoubleEndedIterator + Drop {
     fn after(&mut self, count: usize) -> Option<Self::Item>;
 
     /// A clone, where it has clones.
-    fn twin(&self) -> Option<Self>;
+    fn twin(&self) -> Option<Self> {
+        None
+    }
 }
 
 /// Carries out the steps of an iterator that goes from both ends, and is split.
@@ -208,23 +243,14 @@ where
     let mut items = given;
     let mut answers = Answers::new(alloc);
     for step in steps {
-        match *step {
-            Step::NextBack => answers.take(items.next_back())?,
-            Step::Nth(count) => answers.take(items.after(count))?,
-            Step::Clone => match items.twin() {
-                Some(twin) => answers.take_part(twin)?,
-                None => return Ok(Ending::Unknown),
-            },
-            Step::SplitAt(count) => {
-                let Some((first, second)) = items.split(count) else {
-                    return Ok(Ending::Refused);
-                };
-                answers.take_part(first)?;
-                items = second;
-            }
-            step => if !answers.step(&mut items, step)? {
-                return answers.last_step(items, step);
-            },
+        if let Step::SplitAt(count) = *step {
+            let Some((first, second)) = items.split(count) else {
+                return Ok(Ending::Refused);
+            };
+            answers.take_part(first)?;
+            items = second;
+        } else if !answers.step_from_ends(&mut items, *step)? {
+            return answers.last_step(items, *step);
         }
     }
     Ok(Ending::Done(answers.text))
@@ -275,10 +301,6 @@ impl<'a> BothEnds for AxisIterMut<'a, i64, IxDyn> {
     fn after(&mut self, count: usize) -> Option<ArrayViewMut<'a, i64, IxDyn>> {
         self.nth(count)
     }
-
-    fn twin(&self) -> Option<Self> {
-        None
-    }
 }
 
 impl<'a> BothEnds for AxisChunksIterMut<'a, i64, IxDyn> {
@@ -291,9 +313,5 @@ impl<'a> BothEnds for AxisChunksIterMut<'a, i64, IxDyn> {
 
     fn after(&mut self, count: usize) -> Option<ArrayViewMut<'a, i64, IxDyn>> {
         self.nth(count)
-    }
-
-    fn twin(&self) -> Option<Self> {
-        None
     }
 }

@@ -11,6 +11,9 @@ use ndarray::iter::ElementsBaseMut;
 use ndarray::{Array, ArrayBase, ArrayViewMut, Axis, DataMut, IxDyn, Lengths, Slice};
 use std::alloc::{AllocError, Global};
 
+/// A view to write in with any number of axes.
+type ViewMut<'a> = ArrayViewMut<'a, i64, IxDyn>;
+
 /// What a table holds after the calls on a view to write in, and behind it the answers of the steps.
 ///
 /// Each item that a step takes is written with its number, counted from 1: the cell, each cell of the
@@ -160,11 +163,7 @@ fn hidden(array: &Array<i64, IxDyn>) -> usize {
 }
 
 /// Carries out calls on a view, or on the part of it that the first of them borrows.
-fn part_written(
-    alloc: Global,
-    given: ArrayViewMut<'_, i64, IxDyn>,
-    calls: Calls,
-) -> Result<Ending, AllocError> {
+fn part_written(alloc: Global, given: ViewMut<'_>, calls: Calls) -> Result<Ending, AllocError> {
     let mut view = given;
     match calls.part {
         Some(part) => match part_of(&mut view, part) {
@@ -176,10 +175,7 @@ fn part_written(
 }
 
 /// The part of a view that a call borrows; `None` where its test says no.
-fn part_of<'b>(
-    view: &'b mut ArrayViewMut<'_, i64, IxDyn>,
-    call: PartCall,
-) -> Option<ArrayViewMut<'b, i64, IxDyn>> {
+fn part_of<'b>(view: &'b mut ViewMut<'_>, call: PartCall) -> Option<ViewMut<'b>> {
     match call {
         PartCall::View => Some(view.view_mut()),
         PartCall::SliceAxis(axis, slice) => slice_of(view, axis, slice),
@@ -189,11 +185,7 @@ fn part_of<'b>(
 }
 
 /// A slice of an axis of a view; `None` where its test says no.
-fn slice_of<'b>(
-    view: &'b mut ArrayViewMut<'_, i64, IxDyn>,
-    axis: Axis,
-    slice: Slice,
-) -> Option<ArrayViewMut<'b, i64, IxDyn>> {
+fn slice_of<'b>(view: &'b mut ViewMut<'_>, axis: Axis, slice: Slice) -> Option<ViewMut<'b>> {
     if view.slice_ok(axis, &slice) {
         Some(view.slice_axis_mut(axis, slice))
     } else {
@@ -202,11 +194,7 @@ fn slice_of<'b>(
 }
 
 /// An item along an axis of a view; `None` where there is none.
-fn item_of<'b>(
-    view: &'b mut ArrayViewMut<'_, i64, IxDyn>,
-    axis: Axis,
-    index: usize,
-) -> Option<ArrayViewMut<'b, i64, IxDyn>> {
+fn item_of<'b>(view: &'b mut ViewMut<'_>, axis: Axis, index: usize) -> Option<ViewMut<'b>> {
     if view.axis_ok(axis) && index < view.len_of(axis) {
         Some(view.index_axis_mut(axis, index))
     } else {
@@ -215,11 +203,7 @@ fn item_of<'b>(
 }
 
 /// Makes the views that the calls name, one of another, and writes to the last.
-fn view_written(
-    alloc: Global,
-    given: ArrayViewMut<'_, i64, IxDyn>,
-    calls: Calls,
-) -> Result<Ending, AllocError> {
+fn view_written(alloc: Global, given: ViewMut<'_>, calls: Calls) -> Result<Ending, AllocError> {
     let mut view = given;
     for call in calls.views.as_slice() {
         view = match viewed(view, *call) {
@@ -233,7 +217,7 @@ fn view_written(
 /// Writes to the items of a call, which may take the view itself.
 fn last_written(
     alloc: Global,
-    given: ArrayViewMut<'_, i64, IxDyn>,
+    given: ViewMut<'_>,
     call: WriteCall,
     steps: &[Step],
 ) -> Result<Ending, AllocError> {
@@ -247,47 +231,47 @@ fn last_written(
     }
 }
 
-/// Writes to the items of a call, whatever keeps the cells.
-pub fn written<S: DataMut<Elem = i64>>(
+/// Writes to the items of a call.
+pub fn written(
     alloc: Global,
-    array: &mut ArrayBase<S, IxDyn>,
+    view: &mut ViewMut<'_>,
     call: WriteCall,
     steps: &[Step],
 ) -> Result<Ending, AllocError> {
     match call {
-        WriteCall::GetMut(at, value) => set(alloc, array, at, value),
-        WriteCall::SplitAt(axis, index) => Ok(both_written(alloc, array.view_mut(), axis, index)),
-        WriteCall::Cells(call) => cells_written(alloc, array, call, steps),
-        WriteCall::Pieces(pieces) => pieces_written(alloc, array, pieces, steps),
+        WriteCall::GetMut(at, value) => set(alloc, view, at, value),
+        WriteCall::SplitAt(axis, index) => Ok(both_written(alloc, view.view_mut(), axis, index)),
+        WriteCall::Cells(call) => cells_written(alloc, view, call, steps),
+        WriteCall::Pieces(pieces) => pieces_written(alloc, view, pieces, steps),
         WriteCall::IntoIter | WriteCall::ElementsBaseMut => Ok(Ending::Unknown),
     }
 }
 
 /// Writes to each cell of an iterator over cells.
-fn cells_written<S: DataMut<Elem = i64>>(
+fn cells_written(
     alloc: Global,
-    array: &mut ArrayBase<S, IxDyn>,
+    view: &mut ViewMut<'_>,
     call: CellsMut,
     steps: &[Step],
 ) -> Result<Ending, AllocError> {
     match call {
-        CellsMut::IterMut => forward(alloc, array.iter_mut(), steps),
-        CellsMut::IndexedIterMut => forward(alloc, array.indexed_iter_mut(), steps),
-        CellsMut::MutIntoIter => by_reference(alloc, array, steps),
+        CellsMut::IterMut => forward(alloc, view.iter_mut(), steps),
+        CellsMut::IndexedIterMut => forward(alloc, view.indexed_iter_mut(), steps),
+        CellsMut::MutIntoIter => by_reference(alloc, view, steps),
     }
 }
 
-/// Writes to the items of an iterator that is made of a reference to an array.
-fn by_reference<S: DataMut<Elem = i64>>(
+/// Writes to the items of an iterator that is made of a reference to a view.
+fn by_reference(
     alloc: Global,
-    array: &mut ArrayBase<S, IxDyn>,
+    view: &mut ViewMut<'_>,
     steps: &[Step],
 ) -> Result<Ending, AllocError> {
-    forward(alloc, array.into_iter(), steps)
+    forward(alloc, view.into_iter(), steps)
 }
 
-/// Writes a number to the cell at an index list.
-fn set<S: DataMut<Elem = i64>>(
+/// Writes a number to the cell at an index list, whatever keeps the cells.
+pub fn set<S: DataMut<Elem = i64>>(
     alloc: Global,
     array: &mut ArrayBase<S, IxDyn>,
     index: IxDyn,
@@ -303,12 +287,7 @@ fn set<S: DataMut<Elem = i64>>(
 }
 
 /// Writes 2 to the second part of a view and then 1 to the first, which is held beside it.
-fn both_written(
-    alloc: Global,
-    view: ArrayViewMut<'_, i64, IxDyn>,
-    axis: Axis,
-    index: usize,
-) -> Ending {
+fn both_written(alloc: Global, view: ViewMut<'_>, axis: Axis, index: usize) -> Ending {
     if !view.axis_ok(axis) || view.len_of(axis) < index {
         return Ending::Refused;
     }
@@ -319,85 +298,85 @@ fn both_written(
 }
 
 /// Writes to the subviews of a call.
-fn pieces_written<S: DataMut<Elem = i64>>(
+fn pieces_written(
     alloc: Global,
-    array: &mut ArrayBase<S, IxDyn>,
+    view: &mut ViewMut<'_>,
     pieces: Pieces,
     steps: &[Step],
 ) -> Result<Ending, AllocError> {
     match pieces {
-        Pieces::AxisIter(axis) => items_written(alloc, array, axis, steps),
-        Pieces::OuterIter => outer_written(alloc, array, steps),
-        Pieces::AxisChunksIter(axis, size) => chunks_written(alloc, array, axis, size, steps),
-        Pieces::Lanes(axis) => lanes_written(alloc, array, axis, steps),
-        Pieces::Rows => forward(alloc, array.rows_mut().into_iter(), steps),
-        Pieces::Columns => forward(alloc, array.columns_mut().into_iter(), steps),
-        Pieces::ExactChunks(chunk) => exact_chunks_written(alloc, array, chunk, steps),
+        Pieces::AxisIter(axis) => items_written(alloc, view, axis, steps),
+        Pieces::OuterIter => outer_written(alloc, view, steps),
+        Pieces::AxisChunksIter(axis, size) => chunks_written(alloc, view, axis, size, steps),
+        Pieces::Lanes(axis) => lanes_written(alloc, view, axis, steps),
+        Pieces::Rows => forward(alloc, view.rows_mut().into_iter(), steps),
+        Pieces::Columns => forward(alloc, view.columns_mut().into_iter(), steps),
+        Pieces::ExactChunks(chunk) => exact_chunks_written(alloc, view, chunk, steps),
         _ => Ok(Ending::Unknown),
     }
 }
 
 /// Writes to the items along an axis.
-fn items_written<S: DataMut<Elem = i64>>(
+fn items_written(
     alloc: Global,
-    array: &mut ArrayBase<S, IxDyn>,
+    view: &mut ViewMut<'_>,
     axis: Axis,
     steps: &[Step],
 ) -> Result<Ending, AllocError> {
-    if !array.axis_ok(axis) {
+    if !view.axis_ok(axis) {
         return Ok(Ending::Refused);
     }
-    parted(alloc, array.axis_iter_mut(axis), steps)
+    parted(alloc, view.axis_iter_mut(axis), steps)
 }
 
 /// Writes to the items along the first axis.
-fn outer_written<S: DataMut<Elem = i64>>(
+fn outer_written(
     alloc: Global,
-    array: &mut ArrayBase<S, IxDyn>,
+    view: &mut ViewMut<'_>,
     steps: &[Step],
 ) -> Result<Ending, AllocError> {
-    if !array.axis_ok(Axis(0)) {
+    if !view.axis_ok(Axis(0)) {
         return Ok(Ending::Refused);
     }
-    parted(alloc, array.outer_iter_mut(), steps)
+    parted(alloc, view.outer_iter_mut(), steps)
 }
 
 /// Writes to the chunks along an axis.
-fn chunks_written<S: DataMut<Elem = i64>>(
+fn chunks_written(
     alloc: Global,
-    array: &mut ArrayBase<S, IxDyn>,
+    view: &mut ViewMut<'_>,
     axis: Axis,
     size: usize,
     steps: &[Step],
 ) -> Result<Ending, AllocError> {
-    if !array.chunk_ok(axis, size) {
+    if !view.chunk_ok(axis, size) {
         return Ok(Ending::Refused);
     }
-    parted(alloc, array.axis_chunks_iter_mut(axis, size), steps)
+    parted(alloc, view.axis_chunks_iter_mut(axis, size), steps)
 }
 
 /// Writes to the lanes along an axis.
-fn lanes_written<S: DataMut<Elem = i64>>(
+fn lanes_written(
     alloc: Global,
-    array: &mut ArrayBase<S, IxDyn>,
+    view: &mut ViewMut<'_>,
     axis: Axis,
     steps: &[Step],
 ) -> Result<Ending, AllocError> {
-    if !array.lanes_ok(axis) {
+    if !view.lanes_ok(axis) {
         return Ok(Ending::Refused);
     }
-    forward(alloc, array.lanes_mut(axis).into_iter(), steps)
+    forward(alloc, view.lanes_mut(axis).into_iter(), steps)
 }
 
 /// Writes to the whole chunks of these lengths.
-fn exact_chunks_written<S: DataMut<Elem = i64>>(
+fn exact_chunks_written(
     alloc: Global,
-    array: &mut ArrayBase<S, IxDyn>,
+    view: &mut ViewMut<'_>,
     chunk: IxDyn,
     steps: &[Step],
 ) -> Result<Ending, AllocError> {
-    if !array.chunks_ok(&chunk) {
+    if !view.chunks_ok(&chunk) {
         return Ok(Ending::Refused);
     }
-    forward(alloc, array.exact_chunks_mut(chunk).into_iter(), steps)
+    forward(alloc, view.exact_chunks_mut(chunk).into_iter(), steps)
 }

@@ -1,7 +1,9 @@
-//! Loops that write, in code that does not know what keeps the cells.
+//! Loops that write, in code that does not know what keeps the cells. Each loop stands in a function of its own over an
+//! iterator, where what keeps them is no parameter.
 
 use crate::typed::checks::Checks;
 use crate::typed::layouts::array;
+use ndarray::iter::{AxisChunksIterMut, AxisIterMut, LanesMut};
 use ndarray::{
     ArrayBase, ArrayViewMut, ArrayViewMut1, Axis, DataMut, Dimension, Lengths, RemoveAxis,
 };
@@ -14,19 +16,9 @@ fn begin<A: Copy>(lane: &mut ArrayViewMut1<'_, A>, value: A) {
     }
 }
 
-/// Writes a value into the first cell of each row.
-fn begin_rows<A: Copy, S: DataMut<Elem = A>, D: Dimension>(array: &mut ArrayBase<S, D>, value: A) {
-    for mut lane in array.rows_mut() {
-        begin(&mut lane, value);
-    }
-}
-
-/// Writes a value into the first cell of each column.
-fn begin_columns<A: Copy, S: DataMut<Elem = A>, D: Dimension>(
-    array: &mut ArrayBase<S, D>,
-    value: A,
-) {
-    for mut lane in array.columns_mut() {
+/// Writes a value into the first cell of each lane.
+fn begin_all<A: Copy, D: Lengths>(lanes: LanesMut<'_, A, D>, value: A) {
+    for mut lane in lanes {
         begin(&mut lane, value);
     }
 }
@@ -37,8 +29,8 @@ fn begin_lanes<A: Copy, S: DataMut<Elem = A>, D: Dimension>(
     row: A,
     column: A,
 ) {
-    begin_rows(array, row);
-    begin_columns(array, column);
+    begin_all(array.rows_mut(), row);
+    begin_all(array.columns_mut(), column);
 }
 
 /// Writes a value into each cell of a view.
@@ -48,28 +40,31 @@ fn fill<A: Copy, D: Lengths>(view: &mut ArrayViewMut<'_, A, D>, value: A) {
     }
 }
 
-/// Writes a value into each cell of a view, beside its index list.
-fn fill_indexed<A: Copy, D: Dimension>(view: &mut ArrayViewMut<'_, A, D>, value: A) {
-    for (_index, cell) in view.indexed_iter_mut() {
-        *cell = value;
+/// Writes a value into each cell of each item along an axis.
+fn fill_each<A: Copy, D: Lengths>(items: AxisIterMut<'_, A, D>, value: A) {
+    for mut item in items {
+        fill(&mut item, value);
     }
 }
 
 /// Writes a value into each cell of each item along axis 0.
 fn fill_items<A: Copy, S: DataMut<Elem = A>, D: RemoveAxis>(array: &mut ArrayBase<S, D>, value: A) {
     if array.axis_ok(Axis(0)) {
-        for mut item in array.axis_iter_mut(Axis(0)) {
-            fill(&mut item, value);
-        }
+        fill_each(array.axis_iter_mut(Axis(0)), value);
+    }
+}
+
+/// Writes a value into each cell of each chunk along an axis.
+fn fill_each_chunk<A: Copy, D: Lengths>(chunks: AxisChunksIterMut<'_, A, D>, value: A) {
+    for mut chunk in chunks {
+        fill(&mut chunk, value);
     }
 }
 
 /// Writes a value into each cell of each chunk along axis 0.
-fn fill_chunks<A: Copy, S: DataMut<Elem = A>, D: Dimension>(array: &mut ArrayBase<S, D>, value: A) {
+fn fill_chunks<A: Copy, S: DataMut<Elem = A>, D: Lengths>(array: &mut ArrayBase<S, D>, value: A) {
     if array.chunk_ok(Axis(0), 2) {
-        for mut chunk in array.axis_chunks_iter_mut(Axis(0), 2) {
-            fill_indexed(&mut chunk, value);
-        }
+        fill_each_chunk(array.axis_chunks_iter_mut(Axis(0), 2), value);
     }
 }
 

@@ -1,5 +1,7 @@
 //! Views to write in: two held together, a view within a view, and slices taken from them.
 
+ghost use Rattle.std.specs.Prelude.{◌≡◌, ◌∷◌, []};
+
 use crate::typed::checks::Checks;
 use crate::typed::layouts::{array, table};
 use ndarray::{ArrayView, ArrayViewMut, ArrayViewMut1, Axis, Ix0, Lengths, Slice};
@@ -40,18 +42,26 @@ pub fn two_columns_held_together_are_written(
     Ok(())
 }
 
+/// Writes a value to a cell, where there is one.
+fn write(cell: Option<&mut i64>, value: i64) {
+    if let Some(cell) = cell {
+        *cell = value;
+    }
+}
+
+/// Writes 9 to the third cell, and 8 to the second one as a view of no axes.
+fn write_nine_and_eight(given: ArrayViewMut1<'_, i64>)
+    requires { given.lengths ≡ 3 ∷ [] }
+{
+    let mut view = given;
+    write(view.get_mut(2), 9);
+    let mut cell: ArrayViewMut<'_, i64, Ix0> = view.index_axis_mut(Axis(0), 1);
+    write(cell.get_mut(()), 8);
+}
+
 pub fn a_cell_of_one_axis_is_a_view_of_none(checks: &mut Checks) {
     let mut numbers = [1i64, 2, 3];
-    let mut view = ArrayViewMut1::from(numbers.as_mut_slice());
-    if let Some(cell) = view.get_mut(2) {
-        *cell = 9;
-    }
-    let mut cell: ArrayViewMut<'_, i64, Ix0> = view.index_axis_mut(Axis(0), 1);
-    if let Some(cell) = cell.get_mut(()) {
-        *cell = 8;
-    }
-    drop(cell);
-    drop(view);
+    write_nine_and_eight(ArrayViewMut1::from(numbers.as_mut_slice()));
     checks.same(numbers, [1, 8, 9]);
 }
 
@@ -79,13 +89,6 @@ pub fn cells_side_by_side_in_row_order_are_a_slice(
     Ok(())
 }
 
-pub fn a_column_is_no_slice(alloc: Global, checks: &mut Checks) -> Result<(), AllocError> {
-    let mut array = array(alloc)?;
-    let column = array.index_axis_mut(Axis(1), 1);
-    checks.holds(column.try_into_slice().is_err());
-    Ok(())
-}
-
 /// Which of `as_slice`, `to_slice` and `as_slice_memory_order` give a slice.
 fn are_slices<D: Lengths>(view: &ArrayView<'_, i64, D>) -> (bool, bool, bool) {
     (
@@ -93,16 +96,6 @@ fn are_slices<D: Lengths>(view: &ArrayView<'_, i64, D>) -> (bool, bool, bool) {
         view.to_slice().is_some(),
         view.as_slice_memory_order().is_some(),
     )
-}
-
-pub fn an_array_just_made_is_a_slice(alloc: Global, checks: &mut Checks) -> Result<(), AllocError> {
-    let array = array(alloc)?;
-    let cells = [1i64, 2, 3, 4, 5, 6];
-    let view = array.view();
-    checks.same(array.as_slice(), Some(cells.as_slice()));
-    checks.same(array.as_slice_memory_order(), Some(cells.as_slice()));
-    checks.same(view.to_slice(), Some(cells.as_slice()));
-    Ok(())
 }
 
 pub fn stepped_reversed_and_transposed_cells_are_no_slice(checks: &mut Checks) {

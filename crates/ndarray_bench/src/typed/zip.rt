@@ -15,11 +15,8 @@ pub fn dot_of_two_layouts(checks: &mut Checks) {
     checks.same(products_of_two_layouts(), 88);
 }
 
-pub fn what_fits_and_what_broadcasts(checks: &mut Checks) {
+pub fn a_row_broadcasts(checks: &mut Checks) {
     let a = table();
-    let pair = ArrayView1::from([10i64, 20].as_slice());
-    checks.holds(!Zip::from(&a).fits(&a.t()));
-    checks.holds(!Zip::from(&a).broadcasts(&pair));
     checks.holds(Zip::from(&a).broadcasts(&a.index_axis(Axis(0), 1)));
 }
 
@@ -64,21 +61,7 @@ fn first_above_one<'a, N: NdProducer<Item = &'a u64, Dim = Ix1>>(
     first.into_inner()
 }
 
-/// Whether all numbers of a producer are below 7.
-fn all_below_seven<'a, N: NdProducer<Item = &'a u64, Dim = Ix1>>(
-    zip: Zip<Parts<N, One>, Ix1>,
-) -> bool {
-    zip.all(|x| *x < 7)
-}
-
-/// Whether a number of a producer is 6.
-fn has_six<'a, N: NdProducer<Item = &'a u64, Dim = Ix1>>(zip: Zip<Parts<N, One>, Ix1>) -> bool {
-    zip.any(|x| *x == 6)
-}
-
 pub fn a_producer_is_asked(checks: &mut Checks) {
     let a = ArrayView1::from([1u64, 6, 5].as_slice());
     checks.same(first_above_one(Zip::from(&a)), 6);
-    checks.holds(all_below_seven(Zip::from(&a)));
-    checks.holds(has_six(Zip::from(&a)));
 }

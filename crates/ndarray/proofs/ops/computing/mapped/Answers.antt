@@ -1,22 +1,24 @@
 use Rattle.std.proofs.Common.{◌≡◌, ◌∙◌, ap, refl, subst, sym}
 use Rattle.ndarray.specs.Grid.{cell}
 use Rattle.ndarray.specs.Index.{size}
+use Rattle.ndarray.specs.declared.base.shape.Order.TheVariants.{RowMajor, ColumnMajor}
 use Rattle.ndarray.proofs.callers.Collecting.{if_ok-both, may-gather}
 use Rattle.ndarray.proofs.cells.Elementwise.{maps-of}
 use Rattle.ndarray.proofs.ops.computing.mapped.Goals as goal
 
-pub try_collect_items-requires : goal.try_collect_items-requires
-try_collect_items-requires g c = record {
-  callable = may-gather _ _ _ _ (λ i x r k s h. h.1) _ c.preferred_order-order.result (λ i x b s. c.requires i x.now (ap (λ v. cell v i) (sym c.view-cells.ensures.same) ∙ s));
-}
+pub collected-requires-clause-by_rows : goal.collected-requires-clause-by_rows
+collected-requires-clause-by_rows g c = may-gather _ _ _ _ (λ i x r k s h. h.1) _ RowMajor (λ i x b s. c.requires i x.now (ap (λ v. cell v i) (sym c.view.ensures.same) ∙ s))
+
+pub collected-requires-clause-by_columns : goal.collected-requires-clause-by_columns
+collected-requires-clause-by_columns g c = may-gather _ _ _ _ (λ i x r k s h. h.1) _ ColumnMajor (λ i x b s. c.requires i x.now (ap (λ v. cell v i) (sym c.view.ensures.same) ∙ s))
 
 pub returns : goal.returns
 returns g c =
-    let same = c.view-cells.ensures.same in
+    let same = c.view.ensures.same in
     record {
-      made = if_ok-both c.try_collect_items.result _ _ _
-          (λ r ran whole. maps-of _ _ (λ f. f.0 ≡ c.args.operation) (λ f x z h n k. ap (λ f. f.0) k.1 ∙ n) c.preferred_order-order.result _ refl r whole c.args.array.now (λ x. x.now) _
-          (λ i x s. ap (λ v. cell v i) (sym same) ∙ s) (λ f x z h n k. subst (λ f. g.C.CellOperation.apply_gives f x.now z) n k.0) _ (ap (λ v. v.lengths) same) ran)
-          c.try_collect_items.ensures.ran c.try_collect_items.ensures.whole;
-      empty = λ none. c.try_collect_items.ensures.empty (ap (λ v. size v.lengths) same ∙ none);
+      made = if_ok-both c.collected.result _ _ _
+          (λ r ran whole. maps-of _ _ (λ f. f.0 ≡ c.args.operation) (λ f x z h n k. ap (λ f. f.0) k.1 ∙ n) ran.0 _ refl r whole c.args.array.now (λ x. x.now) _
+          (λ i x s. ap (λ v. cell v i) (sym same) ∙ s) (λ f x z h n k. subst (λ f. g.C.CellOperation.apply_gives f x.now z) n k.0) _ (ap (λ v. v.lengths) same) ran.1)
+          c.collected.ensures.ran c.collected.ensures.whole;
+      empty = λ none. c.collected.ensures.empty (ap (λ v. size v.lengths) same ∙ none);
     }
