@@ -27,7 +27,7 @@ use ndarray::{
 use std::alloc::{AllocError, Global};
 
 /// Half of each cell, rounded down, whatever keeps the cells and however they lie.
-pub fn halved<S: Data<Elem = u64>, D: Lengths>(
+pub fn halve<S: Data<Elem = u64>, D: Lengths>(
     alloc: Global,
     a: &ArrayBase<S, D>,
 ) -> Result<Array<u64, D>, AllocError>
@@ -194,7 +194,7 @@ pub fn two_rows(
 }
 
 /// Two vectors, one behind the other, whatever keeps their cells and however they lie.
-pub fn appended<S: Data<Elem = i64>, T: Data<Elem = i64>>(
+pub fn join_vectors<S: Data<Elem = i64>, T: Data<Elem = i64>>(
     alloc: Global,
     first: &ArrayBase<S, Ix1>,
     second: &ArrayBase<T, Ix1>,
@@ -205,7 +205,7 @@ pub fn appended<S: Data<Elem = i64>, T: Data<Elem = i64>>(
 }
 
 /// A signal with zeros behind it.
-pub fn padded<S: Data<Elem = i64>>(
+pub fn pad_with_zeros<S: Data<Elem = i64>>(
     alloc: Global,
     signal: &ArrayBase<S, Ix1>,
     more: usize,
@@ -214,7 +214,7 @@ pub fn padded<S: Data<Elem = i64>>(
     ensures { IfOk result (λ p. p ≡ one_axis (signal.now.cells ++ replicate more (pos 0))) }
 {
     let zeros: Array<i64, Ix1> = Array::zeros(alloc, more)?;
-    appended(alloc, signal, &zeros)
+    join_vectors(alloc, signal, &zeros)
 }
 
 /// The cells of a table on and below its diagonal, and zero above it.

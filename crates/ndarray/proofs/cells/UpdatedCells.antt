@@ -1,6 +1,6 @@
 -- What updates leave in the cells of an array.
-use Rattle.std.proofs.Common.{◌≡◌, ℕ, List, [], ◌∷◌, ◌++◌, length, Ok, Err, arith, subst, ap, length-append, inl, inr}
-use Rattle.std.specs.Prelude.{IsOk, Result}
+use Rattle.std.proofs.Common.{◌≡◌, ℕ, List, [], ◌∷◌, ◌++◌, length, Ok, Err, arith, subst, ap, length-append, inl, inr, refl}
+use Rattle.std.specs.Prelude.{IfErr, IsOk, Result}
 use Rattle.std.specs.List.{FoldsTo}
 use Rattle.ndarray.specs.Index.{size}
 use Rattle.ndarray.specs.Grid.{Grid, IsGrid}
@@ -50,3 +50,18 @@ module _ {F X A E : Type 0} (yields_at : List ℕ → X → Type 0) (call_gives 
         | inl h ↦ rw h.1.0
         | inr h ↦ (let l = length-box_in o old.lengths in let p : length (done ++ (h.0 ∷ h.1)) ≡ length (box_in o old.lengths) = ap (length {A = List ℕ}) h.2 in absurd (omega (arith, length-append done (h.0 ∷ h.1))))
       ]
+
+-- a call that updates an array answers it, unless updates stopped
+module _ {F X A B E : Type 0} (yields_at : List ℕ → X → Type 0) (call_gives : F → X → Result A E → F → Type 0) (f : F) (old : Grid A) where
+  abbrev Stopped : Result B E → Type 0
+  Stopped r = IfErr r (λ e. (o : Order) × (new : Grid A) × UpdatesUntil yields_at call_gives o f old (Err e) new)
+
+  pub stopped-never : (Known : F → Type 0) → ((g : F) (x : X) (a : A) (h : F) → Known g → call_gives g x (Ok a) h → Known h) → Known f
+      → ((i : List ℕ) (g : F) (x : X) (e : E) (h : F) → Known g → yields_at i x → call_gives g x (Err e) h → ⊥)
+      → (r : Result B E) → Stopped r → IsOk r
+  stopped-never Known keeps known never (Ok x) s = refl
+  stopped-never Known keeps known never (Err e) (o, new, u) = let ok = updates-ok yields_at call_gives o f old new Known keeps known never (Err e) u in absurd (cc)
+
+  pub stopped-none : (r : Result B E) → size old.lengths ≡ 0 → Stopped r → IsOk r
+  stopped-none (Ok x) none s = refl
+  stopped-none (Err e) none (o, new, u) = let ok = updates-none yields_at call_gives o f old new (Err e) none u in absurd (cc)

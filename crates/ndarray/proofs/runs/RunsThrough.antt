@@ -1,7 +1,7 @@
 -- Turns seen through a function of their states.
-use Rattle.std.proofs.Common.{ℕ, List, [], ◌∷◌, ap, inl, inr, subst, Ok, Err}
+use Rattle.std.proofs.Common.{◌≡◌, ℕ, List, [], ◌∷◌, ◌∙◌, ap, inl, inr, subst, Ok, Err}
 use Rattle.std.specs.List.{FoldsTo}
-use Rattle.ndarray.specs.Runs.{MayTurnAt, RunsUntil, TurnAt, TakesAt, GatherTurn, MayGather}
+use Rattle.ndarray.specs.Runs.{Collects, MayTurnAt, RunsUntil, TurnAt, TakesAt, GatherTurn, MayGather}
 use Rattle.ndarray.specs.Updates.{answers, UpdatesUntil}
 use Rattle.std.specs.Prelude.{Result}
 use Rattle.ndarray.specs.Grid.{Grid}
@@ -56,3 +56,27 @@ module _ {P Q X : Type 0} (turn : P → X → P → Type 0) (turn' : Q → X →
   pub may_known : (takes : P → X → Type 0) (takes' : Q → X → Type 0) (can_call : (p : P) (i : X) → Known p → takes' (k p) i → takes p i)
       → (is : List X) (p : P) → Known p → MayTurnAt turn' takes' (k p) is → MayTurnAt turn takes p is
   may_known takes takes' can_call is p n m = record { at = λ done i rest q e f. let r = folds_known done p q n f in can_call q i r.1 (m.at done i rest (k q) e r.0) }
+
+-- the same of what such calls collect, beside a function of the items
+module _ {F G R X Y : Type 0} (yields_at : List ℕ → X → Type 0) (yields_at' : List ℕ → Y → Type 0) (call_gives : F → X → R → F → Type 0) (call_gives' : G → Y → R → G → Type 0) (k : F → G) (m : X → Y) (Known : F → Type 0)
+    (seen : (i : List ℕ) (x : X) → yields_at i x → yields_at' i (m x)) (each : (f : F) (x : X) (r : R) (h : F) → Known f → call_gives f x r h → call_gives' (k f) (m x) r (k h) × Known h) (f : F) (known : Known f) where
+  turn_known : (p : F × List R) (i : List ℕ) (q : F × List R) → Known p.0 → TurnAt yields_at (GatherTurn call_gives) p i q → TurnAt yields_at' (GatherTurn call_gives') (k p.0, p.1) i (k q.0, q.1) × Known q.0
+  turn_known p i q n t = let e = each p.0 t.0 t.2.0 q.0 n t.2.2 in ((m t.0, seen i t.0 t.1, (t.2.0, t.2.1, e.0)), e.1)
+
+  pub MayGather-known : (can_call : F → X → Type 0) (can_call' : G → Y → Type 0) → ((h : F) (x : X) → Known h → can_call' (k h) (m x) → can_call h x)
+      → (is js : List (List ℕ)) → js ≡ is → MayGather yields_at' call_gives' can_call' js (k f) → MayGather yields_at call_gives can_call is f
+  MayGather-known can_call can_call' less is js same may = may_known {P = F × List R} {Q = G × List R} _ _ (λ p. (k p.0, p.1)) (λ p. Known p.0) turn_known (TakesAt yields_at (λ p x. can_call p.0 x)) (TakesAt yields_at' (λ p x. can_call' p.0 x))
+      (λ p i n h x s. less p.0 x n (h (m x) (seen i x s))) is (f, []) known (subst (λ l. MayGather yields_at' call_gives' can_call' l (k f)) same may)
+
+  pub Collects-known : (o : Order) (ns ms : List ℕ) → ns ≡ ms → (g : Grid R) → Collects yields_at call_gives o ns f g → Collects yields_at' call_gives' o ms (k f) g
+  Collects-known o ns ms same g c = record {
+    lengths = c.lengths ∙ same;
+    answers = c.answers;
+    cells = c.cells;
+    list = c.list;
+    gathered = (
+      k c.gathered.0,
+      subst (λ l. FoldsTo {P = G × List R} (TurnAt yields_at' (GatherTurn call_gives')) (k f, []) (box_in o l) (k c.gathered.0, c.answers)) same
+          (folds_known {P = F × List R} {Q = G × List R} _ _ (λ p. (k p.0, p.1)) (λ p. Known p.0) turn_known _ _ _ known c.gathered.1).0,
+    );
+  }

@@ -10,8 +10,8 @@ use crate::base::storage::{Data, DataMut};
 use crate::elements::ScalarOperand;
 use crate::ops::assigning::{assign, assign_scalar};
 use crate::ops::computing::{
-    combined, combined_into_left, combined_into_left_by_value, combined_into_right, mapped_left,
-    mapped_left_in_place, mapped_right, mapped_right_in_place,
+    combine, combine_into_left, combine_into_left_by_value, combine_into_right,
+    combine_left_scalar, combine_left_scalar_in_place, combine_scalar, combine_scalar_in_place,
 };
 use crate::ops::operations::{Conjunction, ConjunctionAssign};
 use std::alloc::AllocError;
@@ -32,7 +32,7 @@ where
     ghost bitand_gives = { λ a b r. MakesCombined A.bitand_gives a.now b.now r };
 
     fn bitand(self, rhs: &'b ArrayBase<S2, E>) -> Self::Output {
-        combined::<Conjunction, A, B, _, D, E>(self, rhs)
+        combine::<Conjunction, A, B, _, D, E>(self, rhs)
     }
 }
 
@@ -51,7 +51,7 @@ where
     ghost bitand_gives = { λ a b r. UpdatesCombined A.bitand_gives A.is_infallible B.is_infallible a.lengths a b.now r };
 
     fn bitand(self, rhs: &'b ArrayBase<S2, E>) -> Self::Output {
-        combined_into_left::<Conjunction, A, B, _, D, E>(self, rhs)
+        combine_into_left::<Conjunction, A, B, _, D, E>(self, rhs)
     }
 }
 
@@ -69,7 +69,7 @@ where
     ghost bitand_gives = { λ a b r. UpdatesCombined A.bitand_gives A.is_infallible B.is_infallible a.lengths a b r };
 
     fn bitand(self, rhs: Array<B, E>) -> Self::Output {
-        combined_into_left_by_value::<Conjunction, A, B, _, D, E>(self, rhs)
+        combine_into_left_by_value::<Conjunction, A, B, _, D, E>(self, rhs)
     }
 }
 
@@ -87,7 +87,7 @@ where
     ghost bitand_gives = { λ a b r. UpdatesCombined A.bitand_gives A.is_infallible B.is_infallible a.lengths a b r };
 
     fn bitand(self, rhs: ArrayView<'b, B, E>) -> Self::Output {
-        combined_into_left_by_value::<Conjunction, A, B, _, D, E>(self, rhs)
+        combine_into_left_by_value::<Conjunction, A, B, _, D, E>(self, rhs)
     }
 }
 
@@ -106,7 +106,7 @@ where
     ghost bitand_gives = { λ a b r. UpdatesCombined A.bitand_gives A.is_infallible B.is_infallible b.lengths a.now b r };
 
     fn bitand(self, rhs: Array<B, E>) -> Self::Output {
-        combined_into_right::<Conjunction, A, B, _, D, E>(self, rhs)
+        combine_into_right::<Conjunction, A, B, _, D, E>(self, rhs)
     }
 }
 
@@ -123,7 +123,7 @@ where
     ghost bitand_gives = { λ a b r. UpdatesMapped (λ x z. A.bitand_gives x b z) (λ x. A.is_infallible x × B.is_infallible b) a r };
 
     fn bitand(self, rhs: B) -> Self::Output {
-        mapped_right_in_place::<Conjunction, A, B, D>(self, rhs)
+        combine_scalar_in_place::<Conjunction, A, B, D>(self, rhs)
     }
 }
 
@@ -140,7 +140,7 @@ where
     ghost bitand_gives = { λ a b r. MakesMapped (λ x z. A.bitand_gives x b z) a.now r };
 
     fn bitand(self, rhs: B) -> Self::Output {
-        mapped_right::<Conjunction, A, B, D>(self, rhs)
+        combine_scalar::<Conjunction, A, B, D>(self, rhs)
     }
 }
 
@@ -185,7 +185,7 @@ impl<D: Lengths> BitAnd<Array<u8, D>> for u8 {
     ghost bitand_gives = { λ a b r. UpdatesMapped (λ x z. ⟦<u8 as BitAnd<u8>>⟧.bitand_gives a x z) (λ _. ⊤) b r };
 
     fn bitand(self, rhs: Array<u8, D>) -> Self::Output {
-        mapped_left_in_place::<Conjunction, u8, u8, D>(self, rhs)
+        combine_left_scalar_in_place::<Conjunction, u8, u8, D>(self, rhs)
     }
 }
 
@@ -197,7 +197,7 @@ impl<'b, D: Lengths> BitAnd<&'b Array<u8, D>> for u8 {
     ghost bitand_gives = { λ a b r. MakesMapped (λ x z. ⟦<u8 as BitAnd<u8>>⟧.bitand_gives a x z) b.now r };
 
     fn bitand(self, rhs: &'b Array<u8, D>) -> Self::Output {
-        mapped_left::<Conjunction, u8, u8, D>(self, rhs)
+        combine_left_scalar::<Conjunction, u8, u8, D>(self, rhs)
     }
 }
 
@@ -209,7 +209,7 @@ impl<D: Lengths> BitAnd<Array<i32, D>> for i32 {
     ghost bitand_gives = { λ a b r. UpdatesMapped (λ x z. ⟦<i32 as BitAnd<i32>>⟧.bitand_gives a x z) (λ _. ⊤) b r };
 
     fn bitand(self, rhs: Array<i32, D>) -> Self::Output {
-        mapped_left_in_place::<Conjunction, i32, i32, D>(self, rhs)
+        combine_left_scalar_in_place::<Conjunction, i32, i32, D>(self, rhs)
     }
 }
 
@@ -221,7 +221,7 @@ impl<'b, D: Lengths> BitAnd<&'b Array<i32, D>> for i32 {
     ghost bitand_gives = { λ a b r. MakesMapped (λ x z. ⟦<i32 as BitAnd<i32>>⟧.bitand_gives a x z) b.now r };
 
     fn bitand(self, rhs: &'b Array<i32, D>) -> Self::Output {
-        mapped_left::<Conjunction, i32, i32, D>(self, rhs)
+        combine_left_scalar::<Conjunction, i32, i32, D>(self, rhs)
     }
 }
 
@@ -233,7 +233,7 @@ impl<D: Lengths> BitAnd<Array<i64, D>> for i64 {
     ghost bitand_gives = { λ a b r. UpdatesMapped (λ x z. ⟦<i64 as BitAnd<i64>>⟧.bitand_gives a x z) (λ _. ⊤) b r };
 
     fn bitand(self, rhs: Array<i64, D>) -> Self::Output {
-        mapped_left_in_place::<Conjunction, i64, i64, D>(self, rhs)
+        combine_left_scalar_in_place::<Conjunction, i64, i64, D>(self, rhs)
     }
 }
 
@@ -245,7 +245,7 @@ impl<'b, D: Lengths> BitAnd<&'b Array<i64, D>> for i64 {
     ghost bitand_gives = { λ a b r. MakesMapped (λ x z. ⟦<i64 as BitAnd<i64>>⟧.bitand_gives a x z) b.now r };
 
     fn bitand(self, rhs: &'b Array<i64, D>) -> Self::Output {
-        mapped_left::<Conjunction, i64, i64, D>(self, rhs)
+        combine_left_scalar::<Conjunction, i64, i64, D>(self, rhs)
     }
 }
 
@@ -257,7 +257,7 @@ impl<D: Lengths> BitAnd<Array<usize, D>> for usize {
     ghost bitand_gives = { λ a b r. UpdatesMapped (λ x z. ⟦<usize as BitAnd<usize>>⟧.bitand_gives a x z) (λ _. ⊤) b r };
 
     fn bitand(self, rhs: Array<usize, D>) -> Self::Output {
-        mapped_left_in_place::<Conjunction, usize, usize, D>(self, rhs)
+        combine_left_scalar_in_place::<Conjunction, usize, usize, D>(self, rhs)
     }
 }
 
@@ -269,7 +269,7 @@ impl<'b, D: Lengths> BitAnd<&'b Array<usize, D>> for usize {
     ghost bitand_gives = { λ a b r. MakesMapped (λ x z. ⟦<usize as BitAnd<usize>>⟧.bitand_gives a x z) b.now r };
 
     fn bitand(self, rhs: &'b Array<usize, D>) -> Self::Output {
-        mapped_left::<Conjunction, usize, usize, D>(self, rhs)
+        combine_left_scalar::<Conjunction, usize, usize, D>(self, rhs)
     }
 }
 
@@ -281,7 +281,7 @@ impl<D: Lengths> BitAnd<Array<bool, D>> for bool {
     ghost bitand_gives = { λ a b r. UpdatesMapped (λ x z. ⟦<bool as BitAnd<bool>>⟧.bitand_gives a x z) (λ _. ⊤) b r };
 
     fn bitand(self, rhs: Array<bool, D>) -> Self::Output {
-        mapped_left_in_place::<Conjunction, bool, bool, D>(self, rhs)
+        combine_left_scalar_in_place::<Conjunction, bool, bool, D>(self, rhs)
     }
 }
 
@@ -293,6 +293,6 @@ impl<'b, D: Lengths> BitAnd<&'b Array<bool, D>> for bool {
     ghost bitand_gives = { λ a b r. MakesMapped (λ x z. ⟦<bool as BitAnd<bool>>⟧.bitand_gives a x z) b.now r };
 
     fn bitand(self, rhs: &'b Array<bool, D>) -> Self::Output {
-        mapped_left::<Conjunction, bool, bool, D>(self, rhs)
+        combine_left_scalar::<Conjunction, bool, bool, D>(self, rhs)
     }
 }

@@ -10,8 +10,8 @@ use crate::base::storage::{Data, DataMut};
 use crate::elements::ScalarOperand;
 use crate::ops::assigning::{assign, assign_scalar};
 use crate::ops::computing::{
-    combined, combined_into_left, combined_into_left_by_value, combined_into_right, mapped_left,
-    mapped_left_in_place, mapped_right, mapped_right_in_place,
+    combine, combine_into_left, combine_into_left_by_value, combine_into_right,
+    combine_left_scalar, combine_left_scalar_in_place, combine_scalar, combine_scalar_in_place,
 };
 use crate::ops::operations::{Disjunction, DisjunctionAssign};
 use std::alloc::AllocError;
@@ -32,7 +32,7 @@ where
     ghost bitor_gives = { λ a b r. MakesCombined A.bitor_gives a.now b.now r };
 
     fn bitor(self, rhs: &'b ArrayBase<S2, E>) -> Self::Output {
-        combined::<Disjunction, A, B, _, D, E>(self, rhs)
+        combine::<Disjunction, A, B, _, D, E>(self, rhs)
     }
 }
 
@@ -51,7 +51,7 @@ where
     ghost bitor_gives = { λ a b r. UpdatesCombined A.bitor_gives A.is_infallible B.is_infallible a.lengths a b.now r };
 
     fn bitor(self, rhs: &'b ArrayBase<S2, E>) -> Self::Output {
-        combined_into_left::<Disjunction, A, B, _, D, E>(self, rhs)
+        combine_into_left::<Disjunction, A, B, _, D, E>(self, rhs)
     }
 }
 
@@ -69,7 +69,7 @@ where
     ghost bitor_gives = { λ a b r. UpdatesCombined A.bitor_gives A.is_infallible B.is_infallible a.lengths a b r };
 
     fn bitor(self, rhs: Array<B, E>) -> Self::Output {
-        combined_into_left_by_value::<Disjunction, A, B, _, D, E>(self, rhs)
+        combine_into_left_by_value::<Disjunction, A, B, _, D, E>(self, rhs)
     }
 }
 
@@ -87,7 +87,7 @@ where
     ghost bitor_gives = { λ a b r. UpdatesCombined A.bitor_gives A.is_infallible B.is_infallible a.lengths a b r };
 
     fn bitor(self, rhs: ArrayView<'b, B, E>) -> Self::Output {
-        combined_into_left_by_value::<Disjunction, A, B, _, D, E>(self, rhs)
+        combine_into_left_by_value::<Disjunction, A, B, _, D, E>(self, rhs)
     }
 }
 
@@ -106,7 +106,7 @@ where
     ghost bitor_gives = { λ a b r. UpdatesCombined A.bitor_gives A.is_infallible B.is_infallible b.lengths a.now b r };
 
     fn bitor(self, rhs: Array<B, E>) -> Self::Output {
-        combined_into_right::<Disjunction, A, B, _, D, E>(self, rhs)
+        combine_into_right::<Disjunction, A, B, _, D, E>(self, rhs)
     }
 }
 
@@ -123,7 +123,7 @@ where
     ghost bitor_gives = { λ a b r. UpdatesMapped (λ x z. A.bitor_gives x b z) (λ x. A.is_infallible x × B.is_infallible b) a r };
 
     fn bitor(self, rhs: B) -> Self::Output {
-        mapped_right_in_place::<Disjunction, A, B, D>(self, rhs)
+        combine_scalar_in_place::<Disjunction, A, B, D>(self, rhs)
     }
 }
 
@@ -140,7 +140,7 @@ where
     ghost bitor_gives = { λ a b r. MakesMapped (λ x z. A.bitor_gives x b z) a.now r };
 
     fn bitor(self, rhs: B) -> Self::Output {
-        mapped_right::<Disjunction, A, B, D>(self, rhs)
+        combine_scalar::<Disjunction, A, B, D>(self, rhs)
     }
 }
 
@@ -185,7 +185,7 @@ impl<D: Lengths> BitOr<Array<u8, D>> for u8 {
     ghost bitor_gives = { λ a b r. UpdatesMapped (λ x z. ⟦<u8 as BitOr<u8>>⟧.bitor_gives a x z) (λ _. ⊤) b r };
 
     fn bitor(self, rhs: Array<u8, D>) -> Self::Output {
-        mapped_left_in_place::<Disjunction, u8, u8, D>(self, rhs)
+        combine_left_scalar_in_place::<Disjunction, u8, u8, D>(self, rhs)
     }
 }
 
@@ -197,7 +197,7 @@ impl<'b, D: Lengths> BitOr<&'b Array<u8, D>> for u8 {
     ghost bitor_gives = { λ a b r. MakesMapped (λ x z. ⟦<u8 as BitOr<u8>>⟧.bitor_gives a x z) b.now r };
 
     fn bitor(self, rhs: &'b Array<u8, D>) -> Self::Output {
-        mapped_left::<Disjunction, u8, u8, D>(self, rhs)
+        combine_left_scalar::<Disjunction, u8, u8, D>(self, rhs)
     }
 }
 
@@ -209,7 +209,7 @@ impl<D: Lengths> BitOr<Array<i32, D>> for i32 {
     ghost bitor_gives = { λ a b r. UpdatesMapped (λ x z. ⟦<i32 as BitOr<i32>>⟧.bitor_gives a x z) (λ _. ⊤) b r };
 
     fn bitor(self, rhs: Array<i32, D>) -> Self::Output {
-        mapped_left_in_place::<Disjunction, i32, i32, D>(self, rhs)
+        combine_left_scalar_in_place::<Disjunction, i32, i32, D>(self, rhs)
     }
 }
 
@@ -221,7 +221,7 @@ impl<'b, D: Lengths> BitOr<&'b Array<i32, D>> for i32 {
     ghost bitor_gives = { λ a b r. MakesMapped (λ x z. ⟦<i32 as BitOr<i32>>⟧.bitor_gives a x z) b.now r };
 
     fn bitor(self, rhs: &'b Array<i32, D>) -> Self::Output {
-        mapped_left::<Disjunction, i32, i32, D>(self, rhs)
+        combine_left_scalar::<Disjunction, i32, i32, D>(self, rhs)
     }
 }
 
@@ -233,7 +233,7 @@ impl<D: Lengths> BitOr<Array<i64, D>> for i64 {
     ghost bitor_gives = { λ a b r. UpdatesMapped (λ x z. ⟦<i64 as BitOr<i64>>⟧.bitor_gives a x z) (λ _. ⊤) b r };
 
     fn bitor(self, rhs: Array<i64, D>) -> Self::Output {
-        mapped_left_in_place::<Disjunction, i64, i64, D>(self, rhs)
+        combine_left_scalar_in_place::<Disjunction, i64, i64, D>(self, rhs)
     }
 }
 
@@ -245,7 +245,7 @@ impl<'b, D: Lengths> BitOr<&'b Array<i64, D>> for i64 {
     ghost bitor_gives = { λ a b r. MakesMapped (λ x z. ⟦<i64 as BitOr<i64>>⟧.bitor_gives a x z) b.now r };
 
     fn bitor(self, rhs: &'b Array<i64, D>) -> Self::Output {
-        mapped_left::<Disjunction, i64, i64, D>(self, rhs)
+        combine_left_scalar::<Disjunction, i64, i64, D>(self, rhs)
     }
 }
 
@@ -257,7 +257,7 @@ impl<D: Lengths> BitOr<Array<usize, D>> for usize {
     ghost bitor_gives = { λ a b r. UpdatesMapped (λ x z. ⟦<usize as BitOr<usize>>⟧.bitor_gives a x z) (λ _. ⊤) b r };
 
     fn bitor(self, rhs: Array<usize, D>) -> Self::Output {
-        mapped_left_in_place::<Disjunction, usize, usize, D>(self, rhs)
+        combine_left_scalar_in_place::<Disjunction, usize, usize, D>(self, rhs)
     }
 }
 
@@ -269,7 +269,7 @@ impl<'b, D: Lengths> BitOr<&'b Array<usize, D>> for usize {
     ghost bitor_gives = { λ a b r. MakesMapped (λ x z. ⟦<usize as BitOr<usize>>⟧.bitor_gives a x z) b.now r };
 
     fn bitor(self, rhs: &'b Array<usize, D>) -> Self::Output {
-        mapped_left::<Disjunction, usize, usize, D>(self, rhs)
+        combine_left_scalar::<Disjunction, usize, usize, D>(self, rhs)
     }
 }
 
@@ -281,7 +281,7 @@ impl<D: Lengths> BitOr<Array<bool, D>> for bool {
     ghost bitor_gives = { λ a b r. UpdatesMapped (λ x z. ⟦<bool as BitOr<bool>>⟧.bitor_gives a x z) (λ _. ⊤) b r };
 
     fn bitor(self, rhs: Array<bool, D>) -> Self::Output {
-        mapped_left_in_place::<Disjunction, bool, bool, D>(self, rhs)
+        combine_left_scalar_in_place::<Disjunction, bool, bool, D>(self, rhs)
     }
 }
 
@@ -293,6 +293,6 @@ impl<'b, D: Lengths> BitOr<&'b Array<bool, D>> for bool {
     ghost bitor_gives = { λ a b r. MakesMapped (λ x z. ⟦<bool as BitOr<bool>>⟧.bitor_gives a x z) b.now r };
 
     fn bitor(self, rhs: &'b Array<bool, D>) -> Self::Output {
-        mapped_left::<Disjunction, bool, bool, D>(self, rhs)
+        combine_left_scalar::<Disjunction, bool, bool, D>(self, rhs)
     }
 }

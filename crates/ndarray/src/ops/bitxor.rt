@@ -10,8 +10,8 @@ use crate::base::storage::{Data, DataMut};
 use crate::elements::ScalarOperand;
 use crate::ops::assigning::{assign, assign_scalar};
 use crate::ops::computing::{
-    combined, combined_into_left, combined_into_left_by_value, combined_into_right, mapped_left,
-    mapped_left_in_place, mapped_right, mapped_right_in_place,
+    combine, combine_into_left, combine_into_left_by_value, combine_into_right,
+    combine_left_scalar, combine_left_scalar_in_place, combine_scalar, combine_scalar_in_place,
 };
 use crate::ops::operations::{ExclusiveDisjunction, ExclusiveDisjunctionAssign};
 use std::alloc::AllocError;
@@ -32,7 +32,7 @@ where
     ghost bitxor_gives = { λ a b r. MakesCombined A.bitxor_gives a.now b.now r };
 
     fn bitxor(self, rhs: &'b ArrayBase<S2, E>) -> Self::Output {
-        combined::<ExclusiveDisjunction, A, B, _, D, E>(self, rhs)
+        combine::<ExclusiveDisjunction, A, B, _, D, E>(self, rhs)
     }
 }
 
@@ -51,7 +51,7 @@ where
     ghost bitxor_gives = { λ a b r. UpdatesCombined A.bitxor_gives A.is_infallible B.is_infallible a.lengths a b.now r };
 
     fn bitxor(self, rhs: &'b ArrayBase<S2, E>) -> Self::Output {
-        combined_into_left::<ExclusiveDisjunction, A, B, _, D, E>(self, rhs)
+        combine_into_left::<ExclusiveDisjunction, A, B, _, D, E>(self, rhs)
     }
 }
 
@@ -69,7 +69,7 @@ where
     ghost bitxor_gives = { λ a b r. UpdatesCombined A.bitxor_gives A.is_infallible B.is_infallible a.lengths a b r };
 
     fn bitxor(self, rhs: Array<B, E>) -> Self::Output {
-        combined_into_left_by_value::<ExclusiveDisjunction, A, B, _, D, E>(self, rhs)
+        combine_into_left_by_value::<ExclusiveDisjunction, A, B, _, D, E>(self, rhs)
     }
 }
 
@@ -87,7 +87,7 @@ where
     ghost bitxor_gives = { λ a b r. UpdatesCombined A.bitxor_gives A.is_infallible B.is_infallible a.lengths a b r };
 
     fn bitxor(self, rhs: ArrayView<'b, B, E>) -> Self::Output {
-        combined_into_left_by_value::<ExclusiveDisjunction, A, B, _, D, E>(self, rhs)
+        combine_into_left_by_value::<ExclusiveDisjunction, A, B, _, D, E>(self, rhs)
     }
 }
 
@@ -106,7 +106,7 @@ where
     ghost bitxor_gives = { λ a b r. UpdatesCombined A.bitxor_gives A.is_infallible B.is_infallible b.lengths a.now b r };
 
     fn bitxor(self, rhs: Array<B, E>) -> Self::Output {
-        combined_into_right::<ExclusiveDisjunction, A, B, _, D, E>(self, rhs)
+        combine_into_right::<ExclusiveDisjunction, A, B, _, D, E>(self, rhs)
     }
 }
 
@@ -123,7 +123,7 @@ where
     ghost bitxor_gives = { λ a b r. UpdatesMapped (λ x z. A.bitxor_gives x b z) (λ x. A.is_infallible x × B.is_infallible b) a r };
 
     fn bitxor(self, rhs: B) -> Self::Output {
-        mapped_right_in_place::<ExclusiveDisjunction, A, B, D>(self, rhs)
+        combine_scalar_in_place::<ExclusiveDisjunction, A, B, D>(self, rhs)
     }
 }
 
@@ -140,7 +140,7 @@ where
     ghost bitxor_gives = { λ a b r. MakesMapped (λ x z. A.bitxor_gives x b z) a.now r };
 
     fn bitxor(self, rhs: B) -> Self::Output {
-        mapped_right::<ExclusiveDisjunction, A, B, D>(self, rhs)
+        combine_scalar::<ExclusiveDisjunction, A, B, D>(self, rhs)
     }
 }
 
@@ -185,7 +185,7 @@ impl<D: Lengths> BitXor<Array<u8, D>> for u8 {
     ghost bitxor_gives = { λ a b r. UpdatesMapped (λ x z. ⟦<u8 as BitXor<u8>>⟧.bitxor_gives a x z) (λ _. ⊤) b r };
 
     fn bitxor(self, rhs: Array<u8, D>) -> Self::Output {
-        mapped_left_in_place::<ExclusiveDisjunction, u8, u8, D>(self, rhs)
+        combine_left_scalar_in_place::<ExclusiveDisjunction, u8, u8, D>(self, rhs)
     }
 }
 
@@ -197,7 +197,7 @@ impl<'b, D: Lengths> BitXor<&'b Array<u8, D>> for u8 {
     ghost bitxor_gives = { λ a b r. MakesMapped (λ x z. ⟦<u8 as BitXor<u8>>⟧.bitxor_gives a x z) b.now r };
 
     fn bitxor(self, rhs: &'b Array<u8, D>) -> Self::Output {
-        mapped_left::<ExclusiveDisjunction, u8, u8, D>(self, rhs)
+        combine_left_scalar::<ExclusiveDisjunction, u8, u8, D>(self, rhs)
     }
 }
 
@@ -209,7 +209,7 @@ impl<D: Lengths> BitXor<Array<i32, D>> for i32 {
     ghost bitxor_gives = { λ a b r. UpdatesMapped (λ x z. ⟦<i32 as BitXor<i32>>⟧.bitxor_gives a x z) (λ _. ⊤) b r };
 
     fn bitxor(self, rhs: Array<i32, D>) -> Self::Output {
-        mapped_left_in_place::<ExclusiveDisjunction, i32, i32, D>(self, rhs)
+        combine_left_scalar_in_place::<ExclusiveDisjunction, i32, i32, D>(self, rhs)
     }
 }
 
@@ -221,7 +221,7 @@ impl<'b, D: Lengths> BitXor<&'b Array<i32, D>> for i32 {
     ghost bitxor_gives = { λ a b r. MakesMapped (λ x z. ⟦<i32 as BitXor<i32>>⟧.bitxor_gives a x z) b.now r };
 
     fn bitxor(self, rhs: &'b Array<i32, D>) -> Self::Output {
-        mapped_left::<ExclusiveDisjunction, i32, i32, D>(self, rhs)
+        combine_left_scalar::<ExclusiveDisjunction, i32, i32, D>(self, rhs)
     }
 }
 
@@ -233,7 +233,7 @@ impl<D: Lengths> BitXor<Array<i64, D>> for i64 {
     ghost bitxor_gives = { λ a b r. UpdatesMapped (λ x z. ⟦<i64 as BitXor<i64>>⟧.bitxor_gives a x z) (λ _. ⊤) b r };
 
     fn bitxor(self, rhs: Array<i64, D>) -> Self::Output {
-        mapped_left_in_place::<ExclusiveDisjunction, i64, i64, D>(self, rhs)
+        combine_left_scalar_in_place::<ExclusiveDisjunction, i64, i64, D>(self, rhs)
     }
 }
 
@@ -245,7 +245,7 @@ impl<'b, D: Lengths> BitXor<&'b Array<i64, D>> for i64 {
     ghost bitxor_gives = { λ a b r. MakesMapped (λ x z. ⟦<i64 as BitXor<i64>>⟧.bitxor_gives a x z) b.now r };
 
     fn bitxor(self, rhs: &'b Array<i64, D>) -> Self::Output {
-        mapped_left::<ExclusiveDisjunction, i64, i64, D>(self, rhs)
+        combine_left_scalar::<ExclusiveDisjunction, i64, i64, D>(self, rhs)
     }
 }
 
@@ -257,7 +257,7 @@ impl<D: Lengths> BitXor<Array<usize, D>> for usize {
     ghost bitxor_gives = { λ a b r. UpdatesMapped (λ x z. ⟦<usize as BitXor<usize>>⟧.bitxor_gives a x z) (λ _. ⊤) b r };
 
     fn bitxor(self, rhs: Array<usize, D>) -> Self::Output {
-        mapped_left_in_place::<ExclusiveDisjunction, usize, usize, D>(self, rhs)
+        combine_left_scalar_in_place::<ExclusiveDisjunction, usize, usize, D>(self, rhs)
     }
 }
 
@@ -269,7 +269,7 @@ impl<'b, D: Lengths> BitXor<&'b Array<usize, D>> for usize {
     ghost bitxor_gives = { λ a b r. MakesMapped (λ x z. ⟦<usize as BitXor<usize>>⟧.bitxor_gives a x z) b.now r };
 
     fn bitxor(self, rhs: &'b Array<usize, D>) -> Self::Output {
-        mapped_left::<ExclusiveDisjunction, usize, usize, D>(self, rhs)
+        combine_left_scalar::<ExclusiveDisjunction, usize, usize, D>(self, rhs)
     }
 }
 
@@ -281,7 +281,7 @@ impl<D: Lengths> BitXor<Array<bool, D>> for bool {
     ghost bitxor_gives = { λ a b r. UpdatesMapped (λ x z. ⟦<bool as BitXor<bool>>⟧.bitxor_gives a x z) (λ _. ⊤) b r };
 
     fn bitxor(self, rhs: Array<bool, D>) -> Self::Output {
-        mapped_left_in_place::<ExclusiveDisjunction, bool, bool, D>(self, rhs)
+        combine_left_scalar_in_place::<ExclusiveDisjunction, bool, bool, D>(self, rhs)
     }
 }
 
@@ -293,6 +293,6 @@ impl<'b, D: Lengths> BitXor<&'b Array<bool, D>> for bool {
     ghost bitxor_gives = { λ a b r. MakesMapped (λ x z. ⟦<bool as BitXor<bool>>⟧.bitxor_gives a x z) b.now r };
 
     fn bitxor(self, rhs: &'b Array<bool, D>) -> Self::Output {
-        mapped_left::<ExclusiveDisjunction, bool, bool, D>(self, rhs)
+        combine_left_scalar::<ExclusiveDisjunction, bool, bool, D>(self, rhs)
     }
 }

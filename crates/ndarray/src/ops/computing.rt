@@ -1,16 +1,14 @@
 //! What the operators call: each way of computing stands here once, for all operations.
 
-ghost use Rattle.std.specs.Prelude.{◌≡◌, IfOk, IsOk, length, ⊤};
+ghost use Rattle.std.specs.Prelude.{◌≡◌, Err, IfErr, IfOk, IsOk, length, ⊤};
 ghost use Rattle.ndarray.specs.Broadcast.{BroadcastTogether, broadcast_lengths};
 ghost use Rattle.ndarray.specs.Elementwise.{CanCombine, CanMap, ClonesAreEqual, MakesCombined, MakesMapped, UpdatesCombined, UpdatesMapped};
-ghost use Rattle.ndarray.specs.Grid.{IsGrid};
+ghost use Rattle.ndarray.specs.Grid.{Grid, IsGrid};
 ghost use Rattle.ndarray.specs.Index.{size};
 ghost use Rattle.ndarray.specs.Orders.{box_in};
-ghost use Rattle.ndarray.specs.Producers.{both};
 ghost use Rattle.ndarray.specs.Runs.{Collects, MayGather};
-ghost use Rattle.ndarray.specs.Updates.{answers};
+ghost use Rattle.ndarray.specs.Updates.{UpdatesUntil, answers, is_cell_beside};
 ghost use Rattle.ndarray.specs.declared.base.shape.Order.{Order};
-ghost use Rattle.ndarray.specs.declared.base.shape.Order.TheVariants.{RowMajor, ColumnMajor};
 
 use crate::base::array::{Array, ArrayBase, ArrayView};
 use crate::base::broadcast::co_broadcast;
@@ -19,17 +17,15 @@ use crate::base::dimension::Lengths;
 use crate::base::storage::Data;
 use crate::ops::calls::{CellOperation, IntoLeft, OnBoth, OnEach, WithLeft, WithRight};
 use crate::ops::operations::{Exchanged, Operation};
-use crate::zip::calls::ItemCall;
-use crate::zip::collecting::try_collect_items;
-use crate::zip::pair::Pair;
-use crate::zip::producer::{IntoBroadcast, NdProducer, preferred_order};
+use crate::zip::collecting::{try_collect_in_either_order, try_collect_of_both};
+use crate::zip::producer::{IntoBroadcast, NdProducer};
 use crate::zip::units::Units;
-use crate::zip::updating::try_update;
+use crate::zip::updating::{CellCall, try_update};
 use std::alloc::{AllocError, Global};
 use std::marker::PhantomData;
 
 /// The array of what an operation gives on the cells of two arrays broadcast together.
-pub(crate) fn combined<O, A, B, S2, D, E>(
+pub(crate) fn combine<O, A, B, S2, D, E>(
     left: &Array<A, D>,
     right: &ArrayBase<S2, E>,
 ) -> Result<Array<O::Output, <D as DimMax<E>>::Output>, AllocError>
@@ -47,11 +43,11 @@ where
     ensures { MakesCombined O.apply_gives left.now right.now result }
 {
     let dim = broadcast_dim(left, right);
-    combined_at::<O, A, B, D, E, _>(left.allocator(), left.view(), right.view(), dim)
+    combine_at::<O, A, B, D, E, _>(left.allocator(), left.view(), right.view(), dim)
 }
 
 /// The same into the cells of the left array, where it has the result's lengths.
-pub(crate) fn combined_into_left<O, A, B, S2, D, E>(
+pub(crate) fn combine_into_left<O, A, B, S2, D, E>(
     left: Array<A, D>,
     right: &ArrayBase<S2, E>,
 ) -> Result<Array<A, <D as DimMax<E>>::Output>, AllocError>
@@ -68,11 +64,11 @@ where
     ensures { UpdatesCombined O.apply_gives A.is_infallible B.is_infallible left.lengths left right.now result }
 {
     let dim = broadcast_dim(&left, right);
-    combined_into_left_at::<O, A, B, D, E, _>(left, right.view(), dim)
+    combine_into_left_at::<O, A, B, D, E, _>(left, right.view(), dim)
 }
 
 /// The same of a right array that is passed by value.
-pub(crate) fn combined_into_left_by_value<O, A, B, S2, D, E>(
+pub(crate) fn combine_into_left_by_value<O, A, B, S2, D, E>(
     left: Array<A, D>,
     right: ArrayBase<S2, E>,
 ) -> Result<Array<A, <D as DimMax<E>>::Output>, AllocError>
@@ -88,11 +84,11 @@ where
     requires right_clones { ClonesAreEqual B.is_clone }
     ensures { UpdatesCombined O.apply_gives A.is_infallible B.is_infallible left.lengths left right result }
 {
-    combined_into_left::<O, A, B, _, D, E>(left, &right)
+    combine_into_left::<O, A, B, _, D, E>(left, &right)
 }
 
-/// The same as `combined_into_left`, at the lengths of the result.
-fn combined_into_left_at<O, A, B, D, E, R>(
+/// The same as `combine_into_left`, at the lengths of the result.
+fn combine_into_left_at<O, A, B, D, E, R>(
     left: Array<A, D>,
     right: ArrayView<'_, B, E>,
     dim: R,
@@ -111,20 +107,17 @@ where
     ensures { UpdatesCombined O.apply_gives A.is_infallible B.is_infallible left.lengths left right.entry result }
 {
     if dim.slice() != left.shape() {
-        return combined_at::<O, A, B, D, E, _>(left.allocator(), left.view(), right, dim);
+        return combine_at::<O, A, B, D, E, _>(left.allocator(), left.view(), right, dim);
     }
     let Ok(mut cells) = left.into_dimensionality() else {
         unreachable!()
     };
     let call: IntoLeft<O> = IntoLeft(PhantomData);
-    match try_update(&mut cells, right.into_broadcast(dim), call) {
-        Ok(()) => Ok(cells),
-        Err(refused) => Err(refused),
-    }
+    update_cells(cells, right.into_broadcast(dim), call)
 }
 
 /// The same into the cells of the right array, where it has the result's lengths.
-pub(crate) fn combined_into_right<O, A, B, S, D, E>(
+pub(crate) fn combine_into_right<O, A, B, S, D, E>(
     left: &ArrayBase<S, D>,
     right: Array<B, E>,
 ) -> Result<Array<B, <E as DimMax<D>>::Output>, AllocError>
@@ -140,7 +133,7 @@ where
     requires right_clones { ClonesAreEqual B.is_clone }
     ensures { UpdatesCombined O.apply_gives A.is_infallible B.is_infallible right.lengths left.now right result }
 {
-    combined_into_left::<Exchanged<O>, B, A, _, E, D>(right, left)
+    combine_into_left::<Exchanged<O>, B, A, _, E, D>(right, left)
 }
 
 /// The lengths of two arrays broadcast together.
@@ -162,8 +155,8 @@ where
     dim
 }
 
-/// The same as `combined`, at the lengths of the result.
-fn combined_at<O, A, B, D, E, R>(
+/// The same as `combine`, at the lengths of the result.
+fn combine_at<O, A, B, D, E, R>(
     alloc: Global,
     left: ArrayView<'_, A, D>,
     right: ArrayView<'_, B, E>,
@@ -184,7 +177,7 @@ where
     ensures { MakesCombined O.apply_gives left.entry right.entry result }
 {
     let call: OnBoth<O> = OnBoth(PhantomData);
-    collected_of_both(
+    try_collect_of_both(
         alloc,
         left.into_broadcast(dim.copied()),
         right.into_broadcast(dim),
@@ -192,45 +185,8 @@ where
     )
 }
 
-/// The array of what a call answers at the items of two producers, in one order or the other.
-fn collected_of_both<P, Q, R, C>(
-    alloc: Global,
-    first: P,
-    second: Q,
-    call: C,
-) -> Result<Array<R, P::Dim>, AllocError>
-where
-    P: NdProducer,
-    Q: NdProducer,
-    R: Drop,
-    C: ItemCall<(P::Item, Q::Item), Out = Result<R, AllocError>>,
-    requires same { P.lengths first ≡ Q.lengths second }
-    requires callable { (o : Order) → MayGather (both (P.yields_at first) (Q.yields_at second)) (answers C.call_gives) C.can_call (box_in o (P.lengths first)) call }
-    ensures ran { IfOk result (λ g. (o : Order) × Collects (both (P.yields_at first) (Q.yields_at second)) (answers C.call_gives) o (P.lengths first) call g) }
-    ensures whole { IfOk result IsGrid }
-    ensures empty { size (P.lengths first) ≡ 0 → IsOk result }
-{
-    collected(alloc, Pair { first, second }, call)
-}
-
-/// The same at the items of one producer.
-fn collected<P, R, C>(alloc: Global, cells: P, call: C) -> Result<Array<R, P::Dim>, AllocError>
-where
-    P: NdProducer,
-    R: Drop,
-    C: ItemCall<P::Item, Out = Result<R, AllocError>>,
-    requires by_rows { MayGather (P.yields_at cells) (answers C.call_gives) C.can_call (box_in RowMajor (P.lengths cells)) call }
-    requires by_columns { MayGather (P.yields_at cells) (answers C.call_gives) C.can_call (box_in ColumnMajor (P.lengths cells)) call }
-    ensures ran { IfOk result (λ g. (o : Order) × Collects (P.yields_at cells) (answers C.call_gives) o (P.lengths cells) call g) }
-    ensures whole { IfOk result IsGrid }
-    ensures empty { size (P.lengths cells) ≡ 0 → IsOk result }
-{
-    let order = preferred_order(&cells);
-    try_collect_items(alloc, cells, order, call)
-}
-
 /// The array of what is computed of each cell of an array.
-pub(crate) fn mapped<A, D, C>(
+pub(crate) fn map_cells<A, D, C>(
     array: &Array<A, D>,
     operation: C,
 ) -> Result<Array<C::Output, D>, AllocError>
@@ -242,11 +198,11 @@ where
     requires { CanMap (C.can_apply operation) array.now }
     ensures { MakesMapped (C.apply_gives operation) array.now result }
 {
-    collected(array.allocator(), array.view(), OnEach(operation))
+    try_collect_in_either_order(array.allocator(), array.view(), OnEach(operation))
 }
 
 /// The same into the array's own cells.
-pub(crate) fn mapped_in_place<A, D, C>(
+pub(crate) fn map_cells_in_place<A, D, C>(
     array: Array<A, D>,
     operation: C,
 ) -> Result<Array<A, D>, AllocError>
@@ -257,16 +213,34 @@ where
     requires { CanMap (C.can_apply operation) array }
     ensures { UpdatesMapped (C.apply_gives operation) (C.is_infallible operation) array result }
 {
-    let mut cells = array;
-    let each = Units::of(cells.raw_dim());
-    match try_update(&mut cells, each, OnEach(operation)) {
+    let each = Units::of(array.raw_dim());
+    update_cells(array, each, OnEach(operation))
+}
+
+/// An array with what a call answers at each of its cells, and the item of a producer there, in the place of the cell.
+fn update_cells<P, A, C>(
+    mut cells: Array<A, P::Dim>,
+    items: P,
+    call: C,
+) -> Result<Array<A, P::Dim>, AllocError>
+where
+    P: NdProducer,
+    A: Drop,
+    C: CellCall<A, P::Item>,
+    requires same { P.lengths items ≡ cells.lengths }
+    requires callable { (o : Order) → MayGather (is_cell_beside cells (P.yields_at items)) (answers C.call_gives) C.can_call (box_in o cells.lengths) call }
+    ensures ran { IfOk result (λ r. (o : Order) × Collects (is_cell_beside cells (P.yields_at items)) (answers C.call_gives) o cells.lengths call r) }
+    ensures whole { IfOk result IsGrid }
+    ensures stopped { IfErr result (λ e. (o : Order) × (new : Grid A) × UpdatesUntil (is_cell_beside cells (P.yields_at items)) C.call_gives o call cells (Err e) new) }
+{
+    match try_update(&mut cells, items, call) {
         Ok(()) => Ok(cells),
         Err(refused) => Err(refused),
     }
 }
 
 /// The array of what an operation gives on clones of each cell and of a scalar.
-pub(crate) fn mapped_right<O, A, B, D>(
+pub(crate) fn combine_scalar<O, A, B, D>(
     array: &Array<A, D>,
     scalar: B,
 ) -> Result<Array<O::Output, D>, AllocError>
@@ -285,11 +259,11 @@ where
         scalar,
         operation: PhantomData,
     };
-    mapped(array, operation)
+    map_cells(array, operation)
 }
 
 /// The same into the array's own cells.
-pub(crate) fn mapped_right_in_place<O, A, B, D>(
+pub(crate) fn combine_scalar_in_place<O, A, B, D>(
     array: Array<A, D>,
     scalar: B,
 ) -> Result<Array<A, D>, AllocError>
@@ -307,11 +281,11 @@ where
         scalar,
         operation: PhantomData,
     };
-    mapped_in_place(array, operation)
+    map_cells_in_place(array, operation)
 }
 
 /// The array of what an operation gives on copies of a scalar and of each cell.
-pub(crate) fn mapped_left<O, X, A, D>(
+pub(crate) fn combine_left_scalar<O, X, A, D>(
     scalar: X,
     array: &Array<A, D>,
 ) -> Result<Array<O::Output, D>, AllocError>
@@ -328,11 +302,11 @@ where
         scalar,
         operation: PhantomData,
     };
-    mapped(array, operation)
+    map_cells(array, operation)
 }
 
 /// The same into the array's own cells.
-pub(crate) fn mapped_left_in_place<O, X, A, D>(
+pub(crate) fn combine_left_scalar_in_place<O, X, A, D>(
     scalar: X,
     array: Array<A, D>,
 ) -> Result<Array<A, D>, AllocError>
@@ -348,5 +322,5 @@ where
         scalar,
         operation: PhantomData,
     };
-    mapped_in_place(array, operation)
+    map_cells_in_place(array, operation)
 }

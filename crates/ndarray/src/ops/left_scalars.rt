@@ -13,8 +13,7 @@ use crate::base::array::{Array, ArrayBase};
 use crate::base::dimension::Lengths;
 use crate::base::storage::Data;
 use crate::zip::calls::ItemCall;
-use crate::zip::collecting::collect_items;
-use crate::zip::producer::preferred_order;
+use crate::zip::collecting::collect_in_either_order;
 use std::alloc::{AllocError, Global};
 
 /// The array whose cell at each index list is what `f` returns at the scalar and at the cell of `array` there, in this
@@ -38,9 +37,7 @@ pub fn scalar_left<X: Drop, A, R: Drop, S: Data<Elem = A>, D: Lengths, F: FnMut(
     ensures whole { IfOk result IsGrid }
     ensures empty { size array.now.lengths ≡ 0 → IsOk result }
 {
-    let cells = array.view();
-    let order = preferred_order(&cells);
-    collect_items(alloc, cells, order, AtScalar { scalar, f })
+    collect_in_either_order(alloc, array.view(), AtScalar { scalar, f })
 }
 
 /// A closure at a scalar and a cell, as a call at the cell.

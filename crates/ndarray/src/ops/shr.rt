@@ -10,8 +10,8 @@ use crate::base::storage::{Data, DataMut};
 use crate::elements::ScalarOperand;
 use crate::ops::assigning::{assign, assign_scalar};
 use crate::ops::computing::{
-    combined, combined_into_left, combined_into_left_by_value, combined_into_right, mapped_left,
-    mapped_left_in_place, mapped_right, mapped_right_in_place,
+    combine, combine_into_left, combine_into_left_by_value, combine_into_right,
+    combine_left_scalar, combine_left_scalar_in_place, combine_scalar, combine_scalar_in_place,
 };
 use crate::ops::operations::{RightShift, RightShiftAssign};
 use std::alloc::AllocError;
@@ -32,7 +32,7 @@ where
     ghost shr_gives = { λ a b r. MakesCombined A.shr_gives a.now b.now r };
 
     fn shr(self, rhs: &'b ArrayBase<S2, E>) -> Self::Output {
-        combined::<RightShift, A, B, _, D, E>(self, rhs)
+        combine::<RightShift, A, B, _, D, E>(self, rhs)
     }
 }
 
@@ -51,7 +51,7 @@ where
     ghost shr_gives = { λ a b r. UpdatesCombined A.shr_gives A.is_infallible B.is_infallible a.lengths a b.now r };
 
     fn shr(self, rhs: &'b ArrayBase<S2, E>) -> Self::Output {
-        combined_into_left::<RightShift, A, B, _, D, E>(self, rhs)
+        combine_into_left::<RightShift, A, B, _, D, E>(self, rhs)
     }
 }
 
@@ -69,7 +69,7 @@ where
     ghost shr_gives = { λ a b r. UpdatesCombined A.shr_gives A.is_infallible B.is_infallible a.lengths a b r };
 
     fn shr(self, rhs: Array<B, E>) -> Self::Output {
-        combined_into_left_by_value::<RightShift, A, B, _, D, E>(self, rhs)
+        combine_into_left_by_value::<RightShift, A, B, _, D, E>(self, rhs)
     }
 }
 
@@ -87,7 +87,7 @@ where
     ghost shr_gives = { λ a b r. UpdatesCombined A.shr_gives A.is_infallible B.is_infallible a.lengths a b r };
 
     fn shr(self, rhs: ArrayView<'b, B, E>) -> Self::Output {
-        combined_into_left_by_value::<RightShift, A, B, _, D, E>(self, rhs)
+        combine_into_left_by_value::<RightShift, A, B, _, D, E>(self, rhs)
     }
 }
 
@@ -106,7 +106,7 @@ where
     ghost shr_gives = { λ a b r. UpdatesCombined A.shr_gives A.is_infallible B.is_infallible b.lengths a.now b r };
 
     fn shr(self, rhs: Array<B, E>) -> Self::Output {
-        combined_into_right::<RightShift, A, B, _, D, E>(self, rhs)
+        combine_into_right::<RightShift, A, B, _, D, E>(self, rhs)
     }
 }
 
@@ -123,7 +123,7 @@ where
     ghost shr_gives = { λ a b r. UpdatesMapped (λ x z. A.shr_gives x b z) (λ x. A.is_infallible x × B.is_infallible b) a r };
 
     fn shr(self, rhs: B) -> Self::Output {
-        mapped_right_in_place::<RightShift, A, B, D>(self, rhs)
+        combine_scalar_in_place::<RightShift, A, B, D>(self, rhs)
     }
 }
 
@@ -140,7 +140,7 @@ where
     ghost shr_gives = { λ a b r. MakesMapped (λ x z. A.shr_gives x b z) a.now r };
 
     fn shr(self, rhs: B) -> Self::Output {
-        mapped_right::<RightShift, A, B, D>(self, rhs)
+        combine_scalar::<RightShift, A, B, D>(self, rhs)
     }
 }
 
@@ -185,7 +185,7 @@ impl<D: Lengths> Shr<Array<u8, D>> for u8 {
     ghost shr_gives = { λ a b r. UpdatesMapped (λ x z. ⟦<u8 as Shr<u8>>⟧.shr_gives a x z) (λ _. ⊤) b r };
 
     fn shr(self, rhs: Array<u8, D>) -> Self::Output {
-        mapped_left_in_place::<RightShift, u8, u8, D>(self, rhs)
+        combine_left_scalar_in_place::<RightShift, u8, u8, D>(self, rhs)
     }
 }
 
@@ -197,7 +197,7 @@ impl<'b, D: Lengths> Shr<&'b Array<u8, D>> for u8 {
     ghost shr_gives = { λ a b r. MakesMapped (λ x z. ⟦<u8 as Shr<u8>>⟧.shr_gives a x z) b.now r };
 
     fn shr(self, rhs: &'b Array<u8, D>) -> Self::Output {
-        mapped_left::<RightShift, u8, u8, D>(self, rhs)
+        combine_left_scalar::<RightShift, u8, u8, D>(self, rhs)
     }
 }
 
@@ -209,7 +209,7 @@ impl<D: Lengths> Shr<Array<i32, D>> for i32 {
     ghost shr_gives = { λ a b r. UpdatesMapped (λ x z. ⟦<i32 as Shr<i32>>⟧.shr_gives a x z) (λ _. ⊤) b r };
 
     fn shr(self, rhs: Array<i32, D>) -> Self::Output {
-        mapped_left_in_place::<RightShift, i32, i32, D>(self, rhs)
+        combine_left_scalar_in_place::<RightShift, i32, i32, D>(self, rhs)
     }
 }
 
@@ -221,7 +221,7 @@ impl<'b, D: Lengths> Shr<&'b Array<i32, D>> for i32 {
     ghost shr_gives = { λ a b r. MakesMapped (λ x z. ⟦<i32 as Shr<i32>>⟧.shr_gives a x z) b.now r };
 
     fn shr(self, rhs: &'b Array<i32, D>) -> Self::Output {
-        mapped_left::<RightShift, i32, i32, D>(self, rhs)
+        combine_left_scalar::<RightShift, i32, i32, D>(self, rhs)
     }
 }
 
@@ -233,7 +233,7 @@ impl<D: Lengths> Shr<Array<i64, D>> for i64 {
     ghost shr_gives = { λ a b r. UpdatesMapped (λ x z. ⟦<i64 as Shr<i64>>⟧.shr_gives a x z) (λ _. ⊤) b r };
 
     fn shr(self, rhs: Array<i64, D>) -> Self::Output {
-        mapped_left_in_place::<RightShift, i64, i64, D>(self, rhs)
+        combine_left_scalar_in_place::<RightShift, i64, i64, D>(self, rhs)
     }
 }
 
@@ -245,7 +245,7 @@ impl<'b, D: Lengths> Shr<&'b Array<i64, D>> for i64 {
     ghost shr_gives = { λ a b r. MakesMapped (λ x z. ⟦<i64 as Shr<i64>>⟧.shr_gives a x z) b.now r };
 
     fn shr(self, rhs: &'b Array<i64, D>) -> Self::Output {
-        mapped_left::<RightShift, i64, i64, D>(self, rhs)
+        combine_left_scalar::<RightShift, i64, i64, D>(self, rhs)
     }
 }
 
@@ -257,7 +257,7 @@ impl<D: Lengths> Shr<Array<usize, D>> for usize {
     ghost shr_gives = { λ a b r. UpdatesMapped (λ x z. ⟦<usize as Shr<usize>>⟧.shr_gives a x z) (λ _. ⊤) b r };
 
     fn shr(self, rhs: Array<usize, D>) -> Self::Output {
-        mapped_left_in_place::<RightShift, usize, usize, D>(self, rhs)
+        combine_left_scalar_in_place::<RightShift, usize, usize, D>(self, rhs)
     }
 }
 
@@ -269,6 +269,6 @@ impl<'b, D: Lengths> Shr<&'b Array<usize, D>> for usize {
     ghost shr_gives = { λ a b r. MakesMapped (λ x z. ⟦<usize as Shr<usize>>⟧.shr_gives a x z) b.now r };
 
     fn shr(self, rhs: &'b Array<usize, D>) -> Self::Output {
-        mapped_left::<RightShift, usize, usize, D>(self, rhs)
+        combine_left_scalar::<RightShift, usize, usize, D>(self, rhs)
     }
 }

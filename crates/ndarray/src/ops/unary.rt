@@ -5,7 +5,7 @@ ghost use Rattle.ndarray.specs.Elementwise.{CanMap, ClonesAreEqual, MakesMapped,
 use crate::base::array::Array;
 use crate::base::dimension::Lengths;
 use crate::ops::calls::OnOne;
-use crate::ops::computing::{mapped, mapped_in_place};
+use crate::ops::computing::{map_cells, map_cells_in_place};
 use crate::ops::operations::{Complement, Negation};
 use std::alloc::AllocError;
 use std::marker::PhantomData;
@@ -24,7 +24,7 @@ where
 
     fn neg(self) -> Self::Output {
         let operation: OnOne<Negation> = OnOne(PhantomData);
-        mapped_in_place(self, operation)
+        map_cells_in_place(self, operation)
     }
 }
 
@@ -41,7 +41,7 @@ where
 
     fn neg(self) -> Self::Output {
         let operation: OnOne<Negation> = OnOne(PhantomData);
-        mapped(self, operation)
+        map_cells(self, operation)
     }
 }
 
@@ -58,7 +58,7 @@ where
 
     fn not(self) -> Self::Output {
         let operation: OnOne<Complement> = OnOne(PhantomData);
-        mapped_in_place(self, operation)
+        map_cells_in_place(self, operation)
     }
 }
 
@@ -75,6 +75,6 @@ where
 
     fn not(self) -> Self::Output {
         let operation: OnOne<Complement> = OnOne(PhantomData);
-        mapped(self, operation)
+        map_cells(self, operation)
     }
 }

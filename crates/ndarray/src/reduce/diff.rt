@@ -10,9 +10,7 @@ use crate::base::axis::Axis;
 use crate::base::dimension::Lengths;
 use crate::base::storage::Data;
 use crate::zip::calls::ItemCall;
-use crate::zip::collecting::collect_items;
-use crate::zip::pair::Pair;
-use crate::zip::producer::preferred_order;
+use crate::zip::collecting::{collect_in_either_order, collect_of_both};
 use std::alloc::{AllocError, Global};
 use std::ops::Sub;
 
@@ -88,9 +86,7 @@ fn copy_of<A: Copy, D: Lengths>(
     ensures axes { IfOk result (λ r. D.has_axes (length r.lengths)) }
     ensures empty { size array.now.lengths ≡ 0 → IsOk result }
 {
-    let cells = array.view();
-    let order = preferred_order(&cells);
-    collect_items(alloc, cells, order, Copies)
+    collect_in_either_order(alloc, array.view(), Copies)
 }
 
 /// The difference of order 1.
@@ -108,12 +104,12 @@ fn difference<A: Copy + Sub<A, Output = A>, S: Data<Elem = A>, D: Lengths>(
 {
     let view = array.view();
     let rest = view.len_of(axis) - 1;
-    let cells = Pair {
-        first: view.part(axis.0, 1, rest),
-        second: view.part(axis.0, 0, rest),
-    };
-    let order = preferred_order(&cells);
-    collect_items(alloc, cells, order, Minus)
+    collect_of_both(
+        alloc,
+        view.part(axis.0, 1, rest),
+        view.part(axis.0, 0, rest),
+        Minus,
+    )
 }
 
 /// A copy of a cell, as a call.

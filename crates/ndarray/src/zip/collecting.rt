@@ -5,15 +5,19 @@ ghost use Rattle.ndarray.specs.base.Builder.{pushed_to};
 ghost use Rattle.ndarray.specs.Grid.{IsGrid};
 ghost use Rattle.ndarray.specs.Index.{size};
 ghost use Rattle.ndarray.specs.Orders.{box_in};
+ghost use Rattle.ndarray.specs.Producers.{both};
 ghost use Rattle.ndarray.specs.Runs.{MayGather, Collects};
 ghost use Rattle.ndarray.specs.Updates.{answers};
+ghost use Rattle.ndarray.specs.declared.base.shape.Order.{Order};
+ghost use Rattle.ndarray.specs.declared.base.shape.Order.TheVariants.{RowMajor, ColumnMajor};
 
 use crate::base::array::Array;
 use crate::base::builder::ArrayBuilder;
 use crate::base::dimension::Lengths;
 use crate::order::Order;
 use crate::zip::calls::ItemCall;
-use crate::zip::producer::NdProducer;
+use crate::zip::pair::Pair;
+use crate::zip::producer::{NdProducer, preferred_order};
 use crate::zip::turns::{Turn, take_items};
 use std::alloc::{AllocError, Global};
 use std::marker::Model;
@@ -51,6 +55,73 @@ pub(crate) fn try_collect_items<
         Ok(collected) => Ok(collected.builder.finish()),
         Err(refused) => Err(refused),
     }
+}
+
+/// The array of what a closure answers at the items of a producer, filled in the order that suits it.
+pub(crate) fn collect_in_either_order<P: NdProducer, R: Drop, C: ItemCall<P::Item, Out = R>>(
+    alloc: Global,
+    p: P,
+    f: C,
+) -> Result<Array<R, P::Dim>, AllocError>
+    requires by_rows { MayGather (P.yields_at p) C.call_gives C.can_call (box_in RowMajor (P.lengths p)) f }
+    requires by_columns { MayGather (P.yields_at p) C.call_gives C.can_call (box_in ColumnMajor (P.lengths p)) f }
+    ensures ran { IfOk result (λ g. (o : Order) × Collects (P.yields_at p) C.call_gives o (P.lengths p) f g) }
+    ensures axes { IfOk result (λ g. P.Dim.has_axes (length g.lengths)) }
+    ensures whole { IfOk result IsGrid }
+    ensures empty { size (P.lengths p) ≡ 0 → IsOk result }
+{
+    try_collect_in_either_order(alloc, p, NeverRefused(f))
+}
+
+/// The same of a closure that may refuse.
+pub(crate) fn try_collect_in_either_order<
+    P: NdProducer,
+    R: Drop,
+    C: ItemCall<P::Item, Out = Result<R, AllocError>>,
+>(alloc: Global, p: P, f: C) -> Result<Array<R, P::Dim>, AllocError>
+    requires by_rows { MayGather (P.yields_at p) (answers C.call_gives) C.can_call (box_in RowMajor (P.lengths p)) f }
+    requires by_columns { MayGather (P.yields_at p) (answers C.call_gives) C.can_call (box_in ColumnMajor (P.lengths p)) f }
+    ensures ran { IfOk result (λ g. (o : Order) × Collects (P.yields_at p) (answers C.call_gives) o (P.lengths p) f g) }
+    ensures axes { IfOk result (λ g. P.Dim.has_axes (length g.lengths)) }
+    ensures whole { IfOk result IsGrid }
+    ensures empty { size (P.lengths p) ≡ 0 → IsOk result }
+{
+    let order = preferred_order(&p);
+    try_collect_items(alloc, p, order, f)
+}
+
+/// The array of what a closure answers at the items of two producers of one shape, side by side.
+pub(crate) fn collect_of_both<
+    P: NdProducer,
+    Q: NdProducer,
+    R: Drop,
+    C: ItemCall<(P::Item, Q::Item), Out = R>,
+>(alloc: Global, first: P, second: Q, f: C) -> Result<Array<R, P::Dim>, AllocError>
+    requires same { P.lengths first ≡ Q.lengths second }
+    requires callable { (o : Order) → MayGather (both (P.yields_at first) (Q.yields_at second)) C.call_gives C.can_call (box_in o (P.lengths first)) f }
+    ensures ran { IfOk result (λ g. (o : Order) × Collects (both (P.yields_at first) (Q.yields_at second)) C.call_gives o (P.lengths first) f g) }
+    ensures axes { IfOk result (λ g. P.Dim.has_axes (length g.lengths)) }
+    ensures whole { IfOk result IsGrid }
+    ensures empty { size (P.lengths first) ≡ 0 → IsOk result }
+{
+    collect_in_either_order(alloc, Pair { first, second }, f)
+}
+
+/// The same of a closure that may refuse.
+pub(crate) fn try_collect_of_both<
+    P: NdProducer,
+    Q: NdProducer,
+    R: Drop,
+    C: ItemCall<(P::Item, Q::Item), Out = Result<R, AllocError>>,
+>(alloc: Global, first: P, second: Q, f: C) -> Result<Array<R, P::Dim>, AllocError>
+    requires same { P.lengths first ≡ Q.lengths second }
+    requires callable { (o : Order) → MayGather (both (P.yields_at first) (Q.yields_at second)) (answers C.call_gives) C.can_call (box_in o (P.lengths first)) f }
+    ensures ran { IfOk result (λ g. (o : Order) × Collects (both (P.yields_at first) (Q.yields_at second)) (answers C.call_gives) o (P.lengths first) f g) }
+    ensures axes { IfOk result (λ g. P.Dim.has_axes (length g.lengths)) }
+    ensures whole { IfOk result IsGrid }
+    ensures empty { size (P.lengths first) ≡ 0 → IsOk result }
+{
+    try_collect_in_either_order(alloc, Pair { first, second }, f)
 }
 
 /// An array that is being filled with what a closure answers.

@@ -58,8 +58,8 @@ update_run-requires-in-Ok-try_flat-clause-can g t c =
           (λ is. left.seen (counted_from c.in-Some.cut.axis.0 0 is)),
           (
             c.run_flat-in-Ok-try_flat.ensures.gives first o c.in-Ok-try_flat.ensures.flat,
-            first-along left i.0 long low high _ i.4 _ (omega arith),
-            first-may left i.0 long low high q.1.1,
+            first-along {ns = g.P.Shaped.lengths c.args.p} {yields_at = g.P.NdProducer.yields_at c.args.p} {axis = c.in-Some.cut.axis.0} left i.0 long low high _ i.4 _ (omega arith),
+            first-may {ns = g.P.Shaped.lengths c.args.p} {yields_at = g.P.NdProducer.yields_at c.args.p} {axis = c.in-Some.cut.axis.0} left i.0 long low high q.1.1,
           ),
         ),
       ),
@@ -76,8 +76,8 @@ returns-in-Err-update_run-clause-ran g t c = λ at along.
     let part : ℕ = c.loop-done.from + length c.args.slice.now / c.in-Some.cut.len - c.loop-done.from in
     let all-of : part ≡ length c.args.slice.now / c.in-Some.cut.len = omega arith in
     let left = i.5 at along in
-    first-failed left i.0 long low high _ i.4 part all-of c.in-Err-update_run.refused c.update_run-in-Ok-try_flat.new.slice c.in-Err-update_run.ensures.as_long
-    (c.in-Err-update_run.ensures.ran first o (λ is. left.seen (counted_from c.in-Some.cut.axis.0 0 is)) (c.run_flat-in-Ok-try_flat.ensures.gives first o c.in-Ok-try_flat.ensures.flat) (first-along left i.0 long low high _ i.4 part all-of))
+    first-failed {ns = g.P.Shaped.lengths c.args.p} {yields_at = g.P.NdProducer.yields_at c.args.p} {axis = c.in-Some.cut.axis.0} left i.0 long low high _ i.4 part all-of c.in-Err-update_run.refused c.update_run-in-Ok-try_flat.new.slice c.in-Err-update_run.ensures.as_long
+    (c.in-Err-update_run.ensures.ran first o (λ is. left.seen (counted_from c.in-Some.cut.axis.0 0 is)) (c.run_flat-in-Ok-try_flat.ensures.gives first o c.in-Ok-try_flat.ensures.flat) (first-along {ns = g.P.Shaped.lengths c.args.p} {yields_at = g.P.NdProducer.yields_at c.args.p} {axis = c.in-Some.cut.axis.0} left i.0 long low high _ i.4 part all-of))
 
 pub update_parts-requires : goal.update_parts-requires
 update_parts-requires g t c κs within =
@@ -95,8 +95,8 @@ update_parts-requires g t c κs within =
     let many = ap sum back.lengths in
     let less = first-sum o i.0 long low high in
     let seen : List ℕ → Option g.row.A.Denot = λ is. left.seen (counted_from c.in-Some.cut.axis.0 0 is) in
-    let along = subst (λ ns. map seen (box_in o ns) ≡ map Some (take part (drop c.loop-done.from c.loop-done.slice))) (sym back.lengths) (first-along left i.0 long low high _ i.4 part all-of) in
-    (omega (arith, many, less, i.1, i.2, c.loop-done.auto.done-end, c.loop-done-test.true, c.in-Some.ensures.long, c.decreases), (within.0, (within.1.0, (within.1.1.0, (within.1.1.1.0, (within.1.1.1.1.0, (within.1.1.1.1.1.0, (within.1.1.1.1.1.1.0, (within.1.1.1.1.1.1.1, (seen, (along, may-overwrite-less o back seen g.C.CellCall.call_gives c.loop-done.f g.C.CellCall.can_call (first-may left i.0 long low high q.1.1))))))))))))
+    let along = subst (λ ns. map seen (box_in o ns) ≡ map Some (take part (drop c.loop-done.from c.loop-done.slice))) (sym back.lengths) (first-along {ns = g.P.Shaped.lengths c.args.p} {yields_at = g.P.NdProducer.yields_at c.args.p} {axis = c.in-Some.cut.axis.0} left i.0 long low high _ i.4 part all-of) in
+    (omega (arith, many, less, i.1, i.2, c.loop-done.auto.done-end, c.loop-done-test.true, c.in-Some.ensures.long, c.decreases), (within.0, (within.1.0, (within.1.1.0, (within.1.1.1.0, (within.1.1.1.1.0, (within.1.1.1.1.1.0, (within.1.1.1.1.1.1.0, (within.1.1.1.1.1.1.1, (seen, (along, may-overwrite-less o back seen g.C.CellCall.call_gives c.loop-done.f g.C.CellCall.can_call (first-may {ns = g.P.Shaped.lengths c.args.p} {yields_at = g.P.NdProducer.yields_at c.args.p} {axis = c.in-Some.cut.axis.0} left i.0 long low high q.1.1))))))))))))
 
 pub returns-in-Err-update_parts-clause-ran : goal.returns-in-Err-update_parts-clause-ran
 returns-in-Err-update_parts-clause-ran g t c = λ at along.
@@ -111,8 +111,8 @@ returns-in-Err-update_parts-clause-ran g t c = λ at along.
     let left = i.5 at along in
     let back = c.in-Err-try_flat.ensures.back in
     let seen : List ℕ → Option g.row.A.Denot = λ is. left.seen (counted_from c.in-Some.cut.axis.0 0 is) in
-    let here = first-along left i.0 long low high _ i.4 part all-of in
-    first-failed left i.0 long low high _ i.4 part all-of c.in-Err-update_parts.refused c.update_parts.new.slice c.in-Err-update_parts.ensures.as_long
+    let here = first-along {ns = g.P.Shaped.lengths c.args.p} {yields_at = g.P.NdProducer.yields_at c.args.p} {axis = c.in-Some.cut.axis.0} left i.0 long low high _ i.4 part all-of in
+    first-failed {ns = g.P.Shaped.lengths c.args.p} {yields_at = g.P.NdProducer.yields_at c.args.p} {axis = c.in-Some.cut.axis.0} left i.0 long low high _ i.4 part all-of c.in-Err-update_parts.refused c.update_parts.new.slice c.in-Err-update_parts.ensures.as_long
     (overwrote-less o back seen g.C.CellCall.call_gives c.loop-done.f (take part (drop c.loop-done.from c.loop-done.slice)) (Err c.in-Err-update_parts.refused) c.update_parts.new.slice
     (c.in-Err-update_parts.ensures.ran seen (subst (λ ns. map seen (box_in o ns) ≡ map Some (take part (drop c.loop-done.from c.loop-done.slice))) (sym back.lengths) here)))
 
@@ -130,13 +130,13 @@ update_run-requires-then-not-flat-clause-can g t c =
     let left = i.5 q.0 q.1.0 in
     let back = c.in-Err-try_flat.ensures.back in
     let seen : List ℕ → Option g.row.A.Denot = λ is. left.seen (counted_from c.in-Some.cut.axis.0 0 is) in
-    let here = first-along left i.0 long low high _ i.4 part all-of in
+    let here = first-along {ns = g.P.Shaped.lengths c.args.p} {yields_at = g.P.NdProducer.yields_at c.args.p} {axis = c.in-Some.cut.axis.0} left i.0 long low high _ i.4 part all-of in
     let k = c.in-Ok-update_parts.field-0.turn in
     let ys = c.update_parts.new.slice in
     let ran =
     overwrote-less o back seen g.C.CellCall.call_gives c.loop-done.f (take part (drop c.loop-done.from c.loop-done.slice)) (Ok k) ys
     (c.in-Ok-update_parts.ensures.ran seen (subst (λ ns. map seen (box_in o ns) ≡ map Some (take part (drop c.loop-done.from c.loop-done.slice))) (sym back.lengths) here)) in
-    let rest = left-rest left i.0 long low high _ i.4 part all-of k ys c.in-Ok-update_parts.ensures.as_long (omega (arith, i.4)) ran (put_mid c.loop-done.from part c.loop-done.slice ys) (c.loop-done.from + length c.args.slice.now / c.in-Some.cut.len) refl (omega arith) in
+    let rest = left-rest {ns = g.P.Shaped.lengths c.args.p} {yields_at = g.P.NdProducer.yields_at c.args.p} {axis = c.in-Some.cut.axis.0} left i.0 long low high _ i.4 part all-of k ys c.in-Ok-update_parts.ensures.as_long (omega (arith, i.4)) ran (put_mid c.loop-done.from part c.loop-done.slice ys) (c.loop-done.from + length c.args.slice.now / c.in-Some.cut.len) refl (omega arith) in
     (c.split_at-first.result.1, (o, (rest.seen, (c.run-then-not-flat.ensures.gives, left-along rest, rest.may q.1.1))))
 
 pub returns-then-not-flat-clause-ran : goal.returns-then-not-flat-clause-ran
@@ -152,13 +152,13 @@ returns-then-not-flat-clause-ran g t c = λ at along.
     let left = i.5 at along in
     let back = c.in-Err-try_flat.ensures.back in
     let seen : List ℕ → Option g.row.A.Denot = λ is. left.seen (counted_from c.in-Some.cut.axis.0 0 is) in
-    let here = first-along left i.0 long low high _ i.4 part all-of in
+    let here = first-along {ns = g.P.Shaped.lengths c.args.p} {yields_at = g.P.NdProducer.yields_at c.args.p} {axis = c.in-Some.cut.axis.0} left i.0 long low high _ i.4 part all-of in
     let k = c.in-Ok-update_parts.field-0.turn in
     let ys = c.update_parts.new.slice in
     let ran =
     overwrote-less o back seen g.C.CellCall.call_gives c.loop-done.f (take part (drop c.loop-done.from c.loop-done.slice)) (Ok k) ys
     (c.in-Ok-update_parts.ensures.ran seen (subst (λ ns. map seen (box_in o ns) ≡ map Some (take part (drop c.loop-done.from c.loop-done.slice))) (sym back.lengths) here)) in
-    let rest = left-rest left i.0 long low high _ i.4 part all-of k ys c.in-Ok-update_parts.ensures.as_long (omega (arith, i.4)) ran (put_mid c.loop-done.from part c.loop-done.slice ys) (c.loop-done.from + length c.args.slice.now / c.in-Some.cut.len) refl (omega arith) in
+    let rest = left-rest {ns = g.P.Shaped.lengths c.args.p} {yields_at = g.P.NdProducer.yields_at c.args.p} {axis = c.in-Some.cut.axis.0} left i.0 long low high _ i.4 part all-of k ys c.in-Ok-update_parts.ensures.as_long (omega (arith, i.4)) ran (put_mid c.loop-done.from part c.loop-done.slice ys) (c.loop-done.from + length c.args.slice.now / c.in-Some.cut.len) refl (omega arith) in
     let end : ℕ = c.loop-done.from + length c.args.slice.now / c.in-Some.cut.len in
     let after : List g.row.A.Denot = put_mid c.loop-done.from part c.loop-done.slice ys in
     let zs = c.update_run-then-not-flat.new.slice in
@@ -189,15 +189,15 @@ loop-done-preserved g t c =
       λ at along.
           let left = i.5 at along in
           let seen : List ℕ → Option g.row.A.Denot = λ is. left.seen (counted_from axis 0 is) in
-          let here = first-along left i.0 long low high _ i.4 part all-of in
+          let here = first-along {ns = g.P.Shaped.lengths c.args.p} {yields_at = g.P.NdProducer.yields_at c.args.p} {axis = c.in-Some.cut.axis.0} left i.0 long low high _ i.4 part all-of in
           elim c.match-try_flat.branch [
             | in-Ok-try_flat+in-Ok-update_run w ↦
                 subst (λ k. Left o (g.P.Shaped.lengths c.args.p) (g.P.NdProducer.yields_at c.args.p) g.C.CellCall.call_gives g.C.CellCall.can_call c.args.f c.args.slice.now at (g.P.Shaped.lengths c.split_at-first.result.1) (g.P.NdProducer.yields_at c.split_at-first.result.1) k c.match-try_flat.slice (c.loop-done.from + length c.args.slice.now / c.in-Some.cut.len)) (sym w.f-is)
-                (left-rest left i.0 long low high _ i.4 part all-of w.in-Ok-update_run.next w.update_run-in-Ok-try_flat.new.slice w.in-Ok-update_run.ensures.as_long (omega (arith, i.4))
+                (left-rest {ns = g.P.Shaped.lengths c.args.p} {yields_at = g.P.NdProducer.yields_at c.args.p} {axis = c.in-Some.cut.axis.0} left i.0 long low high _ i.4 part all-of w.in-Ok-update_run.next w.update_run-in-Ok-try_flat.new.slice w.in-Ok-update_run.ensures.as_long (omega (arith, i.4))
                 (w.in-Ok-update_run.ensures.ran first o seen (w.run_flat-in-Ok-try_flat.ensures.gives first o w.in-Ok-try_flat.ensures.flat) here) c.match-try_flat.slice (c.loop-done.from + length c.args.slice.now / c.in-Some.cut.len) w.slice-is (omega arith))
             | in-Err-try_flat+in-Ok-update_parts+else-not-flat w ↦
                 subst (λ k. Left o (g.P.Shaped.lengths c.args.p) (g.P.NdProducer.yields_at c.args.p) g.C.CellCall.call_gives g.C.CellCall.can_call c.args.f c.args.slice.now at (g.P.Shaped.lengths c.split_at-first.result.1) (g.P.NdProducer.yields_at c.split_at-first.result.1) k c.match-try_flat.slice (c.loop-done.from + length c.args.slice.now / c.in-Some.cut.len)) (sym w.f-is)
-                (left-rest left i.0 long low high _ i.4 part all-of w.in-Ok-update_parts.field-0.turn w.update_parts.new.slice w.in-Ok-update_parts.ensures.as_long (omega (arith, i.4))
+                (left-rest {ns = g.P.Shaped.lengths c.args.p} {yields_at = g.P.NdProducer.yields_at c.args.p} {axis = c.in-Some.cut.axis.0} left i.0 long low high _ i.4 part all-of w.in-Ok-update_parts.field-0.turn w.update_parts.new.slice w.in-Ok-update_parts.ensures.as_long (omega (arith, i.4))
                 (overwrote-less o w.in-Err-try_flat.ensures.back seen g.C.CellCall.call_gives c.loop-done.f (take part (drop c.loop-done.from c.loop-done.slice)) (Ok w.in-Ok-update_parts.field-0.turn) w.update_parts.new.slice
                 (w.in-Ok-update_parts.ensures.ran seen (subst (λ ns. map seen (box_in o ns) ≡ map Some (take part (drop c.loop-done.from c.loop-done.slice))) (sym w.in-Err-try_flat.ensures.back.lengths) here)))
                 c.match-try_flat.slice (c.loop-done.from + length c.args.slice.now / c.in-Some.cut.len) w.slice-is (omega arith))

@@ -4,4 +4,4 @@ use Rattle.ndarray.proofs.ops.shl.I64ShlRefArrayI64.shl.Goals as goal
 pub returns : goal.returns
 returns g c =
     let back : to_z w64 (of_z w64 c.args.self) ≡ c.args.self = search rules in
-    rw back at c.mapped_left.ensures
+    rw back at c.combine_left_scalar.ensures

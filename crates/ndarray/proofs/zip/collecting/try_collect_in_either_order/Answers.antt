@@ -4,7 +4,7 @@ use Rattle.ndarray.specs.Runs.{MayGather}
 use Rattle.ndarray.specs.Updates.{answers}
 use Rattle.ndarray.specs.declared.base.shape.Order.{Order}
 use Rattle.ndarray.specs.declared.base.shape.Order.TheVariants.{RowMajor, ColumnMajor}
-use Rattle.ndarray.proofs.ops.computing.collected.Goals as goal
+use Rattle.ndarray.proofs.zip.collecting.try_collect_in_either_order.Goals as goal
 
 in_either : (T : Order → Type 0) → T RowMajor → T ColumnMajor → (o : Order) → T o
 in_either T rows columns RowMajor = rows
@@ -12,7 +12,7 @@ in_either T rows columns ColumnMajor = columns
 
 pub try_collect_items-requires : goal.try_collect_items-requires
 try_collect_items-requires g c = record {
-  callable = in_either (λ o. MayGather (g.P.NdProducer.yields_at c.args.cells) (answers g.C.ItemCall.call_gives) g.C.ItemCall.can_call (box_in o (g.P.Shaped.lengths c.args.cells)) c.args.call)
+  callable = in_either (λ o. MayGather (g.P.NdProducer.yields_at c.args.p) (answers g.C.ItemCall.call_gives) g.C.ItemCall.can_call (box_in o (g.P.Shaped.lengths c.args.p)) c.args.f)
       c.requires.by_rows c.requires.by_columns c.preferred_order-order.result;
 }
 

@@ -5,12 +5,12 @@ use Rattle.ndarray.specs.Elementwise.{AreCellsAt}
 use Rattle.ndarray.specs.Grid.{IsGrid, cell}
 use Rattle.ndarray.specs.Index.{size}
 use Rattle.ndarray.specs.Views.{broadcast_to}
-use Rattle.ndarray.proofs.callers.Collecting.{may-gather}
+use Rattle.ndarray.proofs.callers.Collecting.{if_ok-both, may-gather}
 use Rattle.ndarray.proofs.cells.Elementwise.{combines-of}
-use Rattle.ndarray.proofs.cells.UpdatedCells.{updates-collect, updates-ok, updates-none}
+use Rattle.ndarray.proofs.cells.UpdatedCells.{stopped-never, stopped-none}
 use Rattle.ndarray.proofs.views.OwnLengths.{broadcast_to-own}
-use Rattle.ndarray.proofs.ops.computing.combined_into_left_at.Goals as goal
-use Rattle.ndarray.proofs.ops.computing.combined_into_left_at.Goals.{After-into_broadcast}
+use Rattle.ndarray.proofs.ops.computing.combine_into_left_at.Goals as goal
+use Rattle.ndarray.proofs.ops.computing.combine_into_left_at.Goals.{After-into_broadcast}
 
 -- the left array's cells and the right array, both as they are seen at the lengths of the result
 module _ (g : _) (c : After-into_broadcast g) where
@@ -29,29 +29,21 @@ module _ (g : _) (c : After-into_broadcast g) where
   cells-at : (i : List ℕ) (x : g.row.A.Denot) (y : g.row.B.Denot) → cell c.in-Ok.cells i ≡ Some x → cell c.into_broadcast.result i ≡ Some y → AreCellsAt c.args.left c.args.right i x y
   cells-at i x y p q = record { left = ap (λ v. cell v i) (sym left) ∙ p; right = ap (λ v. cell v i) (sym right) ∙ q }
 
-pub try_update-requires-clause-callable : goal.try_update-requires-clause-callable
-try_update-requires-clause-callable g c = λ o.
+pub update_cells-requires-clause-callable : goal.update_cells-requires-clause-callable
+update_cells-requires-clause-callable g c = λ o.
     may-gather _ _ _ _ (λ i x r k s h. refl) _ o
     (λ i x b s. (c.requires.can.defined i x.0 x.1.now (cells-at g c i x.0 x.1.now s.0 s.1), c.requires.left_clones, c.requires.right_clones))
 
-pub returns-in-Ok-try_update : goal.returns-in-Ok-try_update
-returns-in-Ok-try_update g c =
-    let here = (goal.at.returns-in-Ok-try_update g c).After-into_broadcast in
-    let (o, u) = c.in-Ok-try_update.ensures.ran in
-    let whole = c.in-Ok-try_update.ensures.whole in
+pub returns : goal.returns
+returns g c =
+    let here = (goal.at.returns g c).After-into_broadcast in
+    let e = c.update_cells.ensures in
     record {
-      made = combines-of _ _ (λ _. ⊤) (λ f x z h n k. tt) o _ tt _ whole c.args.left c.args.right (λ x. x.0) (λ x. x.1.now) _
-          (λ i x s. cells-at g here i x.0 x.1.now s.0 s.1) (λ f x z h n k. k.0) _ (ap (λ v. v.lengths) (left g here)) (updates-collect _ _ o _ _ _ whole u);
-      empty = λ none. refl;
-      in_place = λ lengths left_ok right_ok. refl;
-    }
-
-pub returns-in-Err : goal.returns-in-Err
-returns-in-Err g c =
-    let here = (goal.at.returns-in-Err g c).After-into_broadcast in
-    let (o, u) = c.in-Err.ensures.ran in
-    record {
-      made = tt;
-      empty = λ none. updates-none _ _ o _ _ _ _ (ap (λ v. size v.lengths) (left g here) ∙ none) u;
-      in_place = λ lengths left_ok right_ok. updates-ok _ _ o _ _ _ (λ _. ⊤) (λ f x a h n k. tt) tt (λ i f x e h n y k. let ok = k.1 (left_ok x.0) (right_ok x.1.now) in absurd (cc)) _ u;
+      made = if_ok-both c.update_cells.result _ _ _
+          (λ r ran whole. combines-of _ _ (λ _. ⊤) (λ f x z h n k. tt) ran.0 _ tt r whole c.args.left c.args.right (λ x. x.0) (λ x. x.1.now) _
+          (λ i x s. cells-at g here i x.0 x.1.now s.0 s.1) (λ f x z h n k. k.0) _ (ap (λ v. v.lengths) (left g here)) ran.1)
+          e.ran e.whole;
+      empty = λ none. stopped-none _ _ _ _ c.update_cells.result (ap (λ v. size v.lengths) (left g here) ∙ none) e.stopped;
+      in_place = λ lengths left_ok right_ok. stopped-never _ _ _ _ (λ _. ⊤) (λ f x a h n k. tt) tt
+          (λ i f x e h n y k. let ok = k.1 (left_ok x.0) (right_ok x.1.now) in absurd (cc)) c.update_cells.result e.stopped;
     }

@@ -2,7 +2,7 @@ use Rattle.std.proofs.Common.{rules, ◌≡◌, ◌∙◌, ◌/◌, Some, ap, re
 use Rattle.ndarray.specs.Grid.{arranged, cell}
 use Rattle.ndarray.proofs.callers.Collecting.{collected, if_ok-both}
 use Rattle.ndarray_bench.specs.Callers.{half_at}
-use Rattle.ndarray_bench.proofs.callers.halved.Goals as goal
+use Rattle.ndarray_bench.proofs.callers.halve.Goals as goal
 
 pub returns : goal.returns
 returns g c =

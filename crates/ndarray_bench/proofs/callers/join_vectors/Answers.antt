@@ -7,7 +7,7 @@ use Rattle.ndarray.specs.declared.stacking.error.StackError.TheVariants.{Shape}
 use Rattle.ndarray.specs.Errors.{refusal}
 use Rattle.ndarray.proofs.callers.Collecting.{if_ok-both}
 use Rattle.ndarray.proofs.callers.Joining.{concatenated-cells, if_ok-unless, one_axis-is}
-use Rattle.ndarray_bench.proofs.callers.appended.Goals as goal
+use Rattle.ndarray_bench.proofs.callers.join_vectors.Goals as goal
 
 pub returns : goal.returns
 returns g c =
