@@ -1,5 +1,6 @@
-use Rattle.std.proofs.Common.{◌≡◌, ◌∙◌, ◌+◌, ◌-◌, ◌*◌, ◌/◌, ◌<◌, ℕ, List, Option, arith, ap, sym, subst, refl, length, map, take, drop, sum, Some, Ok, Err}
+use Rattle.std.proofs.Common.{◌≡◌, ◌∙◌, ◌+◌, ◌-◌, ◌*◌, ◌/◌, ◌<◌, ◌≤◌, ℕ, List, Option, arith, ap, sym, subst, refl, length, map, take, drop, sum, Some, Ok, Err}
 use Rattle.std.specs.Prelude.{slice_index}
+use Rattle.std.proofs.lemmas.Nat.{mul-le}
 use borrow.Rule.Slice.PartMut.{put_mid}
 use Rattle.ndarray.specs.Orders.{box_in}
 use Rattle.ndarray.specs.Updates.{is_beside, OverwritesTo}
@@ -10,6 +11,10 @@ use Rattle.ndarray.proofs.runs.Parts.{first-sum, rest-sum, rest-len, rest-slowes
 use Rattle.ndarray.proofs.runs.Turns.{YieldsInTurn-less}
 use Rattle.ndarray.proofs.zip.updating.+update_parts.Goals as goal
 use Rattle.ndarray.proofs.zip.updating.+update_parts.Goals.{in-Ok-try_flat+in-Ok-update_run, in-Err-try_flat+in-Ok-update_parts+else-not-flat}
+
+-- where more than one index is left, the elements beside the next one are within the slice
+next-within : (from index each many : ℕ) → 1 < index → from + index * each ≡ many → from + each ≤ many
+next-within from index each many long all = let one : 1 * each ≤ index * each = mul-le 1 each index each (omega (arith, long)) (omega arith) in omega (arith, one, all)
 
 pub update_run-requires-in_default-clause-can : goal.update_run-requires-in_default-clause-can
 update_run-requires-in_default-clause-can g t c = let q = c.requires.can in (c.args.p, (c.args.order, (q.0, (YieldsInTurn-less c.args.order c.in-Err.ensures.back c.run.ensures.gives, q.1.0, q.1.1))))
@@ -40,6 +45,30 @@ loop-done-init g t c =
       omega (arith, ap (λ n. slice_index ks axis * (length xs / n)) whole ∙ each),
       λ at along. left-all o (g.P.Shaped.lengths c.args.p) (g.P.NdProducer.yields_at c.args.p) g.C.CellCall.call_gives g.C.CellCall.can_call c.args.f xs at less along,
     )
+
+pub overflow_add-end : goal.overflow_add-end
+overflow_add-end g t c =
+    let i = c.loop-done.invariant in
+    let within = next-within _ _ _ _ (omega (arith, i.1, c.loop-done.auto.done-end, c.loop-done-test.true)) i.4 in
+    omega (arith, within, i.3)
+
+pub slice_bounds-here-count : goal.slice_bounds-here-count
+slice_bounds-here-count g t c =
+    let i = c.loop-done.invariant in
+    let within = next-within _ _ _ _ (omega (arith, i.1, c.loop-done.auto.done-end, c.loop-done-test.true)) i.4 in
+    omega (arith, within, i.3)
+
+pub slice_bounds-here-start : goal.slice_bounds-here-start
+slice_bounds-here-start g t c =
+    let i = c.loop-done.invariant in
+    let within = next-within _ _ _ _ (omega (arith, i.1, c.loop-done.auto.done-end, c.loop-done-test.true)) i.4 in
+    omega (arith, within, i.3)
+
+pub slice_bounds-here-end : goal.slice_bounds-here-end
+slice_bounds-here-end g t c =
+    let i = c.loop-done.invariant in
+    let within = next-within _ _ _ _ (omega (arith, i.1, c.loop-done.auto.done-end, c.loop-done-test.true)) i.4 in
+    omega (arith, within, i.3)
 
 pub update_run-requires-in-Ok-try_flat-clause-can : goal.update_run-requires-in-Ok-try_flat-clause-can
 update_run-requires-in-Ok-try_flat-clause-can g t c =
@@ -115,6 +144,24 @@ returns-in-Err-update_parts-clause-ran g t c = λ at along.
     first-failed {ns = g.P.Shaped.lengths c.args.p} {yields_at = g.P.NdProducer.yields_at c.args.p} {axis = c.in-Some.cut.axis.0} left i.0 long low high _ i.4 part all-of c.in-Err-update_parts.refused c.update_parts.new.slice c.in-Err-update_parts.ensures.as_long
     (overwrote-less o back seen g.C.CellCall.call_gives c.loop-done.f (take part (drop c.loop-done.from c.loop-done.slice)) (Err c.in-Err-update_parts.refused) c.update_parts.new.slice
     (c.in-Err-update_parts.ensures.ran seen (subst (λ ns. map seen (box_in o ns) ≡ map Some (take part (drop c.loop-done.from c.loop-done.slice))) (sym back.lengths) here)))
+
+pub slice_bounds-update_run-count : goal.slice_bounds-update_run-count
+slice_bounds-update_run-count g t c =
+    let i = c.loop-done.invariant in
+    let within = next-within _ _ _ _ (omega (arith, i.1, c.loop-done.auto.done-end, c.loop-done-test.true)) i.4 in
+    omega (arith, within, i.3)
+
+pub slice_bounds-update_run-start : goal.slice_bounds-update_run-start
+slice_bounds-update_run-start g t c =
+    let i = c.loop-done.invariant in
+    let within = next-within _ _ _ _ (omega (arith, i.1, c.loop-done.auto.done-end, c.loop-done-test.true)) i.4 in
+    omega (arith, within, i.3)
+
+pub slice_bounds-update_run-end : goal.slice_bounds-update_run-end
+slice_bounds-update_run-end g t c =
+    let i = c.loop-done.invariant in
+    let within = next-within _ _ _ _ (omega (arith, i.1, c.loop-done.auto.done-end, c.loop-done-test.true)) i.4 in
+    omega (arith, within, i.3)
 
 pub update_run-requires-then-not-flat-clause-can : goal.update_run-requires-then-not-flat-clause-can
 update_run-requires-then-not-flat-clause-can g t c =
@@ -203,6 +250,15 @@ loop-done-preserved g t c =
                 c.match-try_flat.slice (c.loop-done.from + length c.args.slice.now / c.in-Some.cut.len) w.slice-is (omega arith))
           ],
     )
+
+pub slice_bounds-update_parts-count : goal.slice_bounds-update_parts-count
+slice_bounds-update_parts-count g t c = let i = c.loop-done.invariant in omega (arith, i.3, i.4)
+
+pub slice_bounds-update_parts-start : goal.slice_bounds-update_parts-start
+slice_bounds-update_parts-start g t c = let i = c.loop-done.invariant in omega (arith, i.3, i.4)
+
+pub slice_bounds-update_parts-end : goal.slice_bounds-update_parts-end
+slice_bounds-update_parts-end g t c = let i = c.loop-done.invariant in omega (arith, i.3, i.4)
 
 pub update_parts-requires-2 : goal.update_parts-requires-2
 update_parts-requires-2 g t c κs within =
