@@ -9,8 +9,6 @@ mod program;
 mod reducing;
 mod spelling;
 mod table;
-#[cfg(test)]
-mod tests;
 mod words;
 
 use crate::fault::Fault;
