@@ -23,6 +23,7 @@ pub struct Life<'a> {
 
 /// The right to read and write, for as long as `M` lives, the elements at some places of a slice.
 /// Places are indices of that slice, and stay so in each part.
+#[derive(Drop)]
 pub struct RegionRepr<M, A> {
     pub(super) ptr: *mut A,
     pub(super) marker: PhantomData<M>,
@@ -38,12 +39,6 @@ impl<M, A> Model for RegionRepr<M, A> {
     ghost also_owns = { λ r. region_owns M.row.lives A.row r.ptr r.name r.slots };
 
     ghost also_shares = { λ r _ κ. region_lent M.row.lives A.row r.ptr r.slots κ };
-}
-
-impl<M, A> Drop for RegionRepr<M, A> {
-    fn drop(self) {
-        let Self { ptr: _, marker: _ } = self;
-    }
 }
 
 impl<'a, A> RegionRepr<Life<'a>, A> {
