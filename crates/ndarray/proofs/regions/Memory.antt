@@ -1,6 +1,6 @@
 -- Regions in memory: what the walks share. Assumes `Logic`.
 use mathlib.Core.Path.{◌≡◌, refl, sym, ap, subst, ◌∙◌}
-use Prim.Native.Nat.{ℕ, zero, suc, ◌+◌, ◌*◌, ◌≤◌}
+use Prim.Native.Nat.{ℕ, zero, suc, ◌+◌, ◌*◌, ◌≤◌, ◌^◌}
 use native.Mathlib.Omega.{arith}
 use native.Mathlib.Nat.{zero-mul, suc-mul}
 use mathlib.Core.List.{List, [], ◌∷◌, ◌++◌, map}
@@ -13,13 +13,13 @@ use base.Logic.{SProp, ent, sep, emp, wand, all, all_e, apply∗, via, id⊢, mo
 use base.Fml.{Fml, Lft, ftrue, ffalse}
 use types.Logic.{Logic, sem}
 use types.SemTy.{cells, Arr}
-use types.Kit.{Item, Goal, Seq, Step, step, ‵, raw, ◌⊛◌, ◌$◌, ◌∵◌, !, qed, by, move, keep, drop, use1, use2, split, fsplit, fjoin, fpick, feq_i, feq_l, rewrite, each, assume, done}
+use types.Kit.{Item, Goal, Seq, Step, step, ‵, raw, ◌⊛◌, ◌$◌, ◌∵◌, !, qed, by, move, keep, drop, use1, use2, split, fsplit, fjoin, fpick, feq_i, feq_l, flt_i, rewrite, each, assume, done}
 use denote.RattleType.{RattleType, Valss}
 use denote.Memory.{mem}
 use denote.Shadow.{makes_shadow}
 use denote.Steps.{nothing}
 use denote.Struct.Struct.{Struct, within}
-use denote.RawPtr.{Ptr, ptr_val}
+use denote.RawPtr.{Ptr, block_ptr, ptr_val}
 use types.Kit.{fpack, frame, use0, prop}
 use contract.Monad.{fact, fact_i}
 use denote.Struct.Declared as Declared
@@ -29,8 +29,10 @@ use Rattle.std.specs.Prelude.{Option, Some, None}
 use Rattle.core.proofs.mem.Param.{El, R, el_x}
 use Rattle.ndarray.specs.base.Slots.{somes, put_in, slots_in, slots_outside, weave}
 use Rattle.ndarray.proofs.regions.Slots.{given_or, somes_all, somes-put_in}
-use Rattle.ndarray.specs.base.Scattered.{scattered}
+use Rattle.ndarray.specs.base.Scattered.{scattered, shared_region_owns}
+use Rattle.core.specs.contracts.marker.PhantomData as P-type
 use Rattle.ndarray.specs.contracts.base.region.RegionRepr as G-type
+use Rattle.ndarray.specs.contracts.base.region.SharedRegion as S-type
 
 -- the lifetime of a type that only names one
 pub lives_as : (l : Lft) → l ≡ (((l ++ []) ++ []) ++ []) ++ []
@@ -40,9 +42,23 @@ lives_as l = nil_right l ∙ nil_right (l ++ []) ∙ nil_right ((l ++ []) ++ [])
     nil_right [] = refl
     nil_right (x ∷ l) = ap (λ (m : Lft). x ∷ m) (nil_right l)
 
--- the machine value of a region that begins at p
+-- the machine value of a `SharedRegion` that begins at p, and that of a region
+abbrev pub shared_reg : Ptr → Val
+shared_reg p = vstruct (vcons (ptr_val p) (vcons (vstruct vnil) vnil))
+
 abbrev pub reg : Ptr → Val
-reg p = vstruct (vcons (ptr_val p) (vcons (vstruct vnil) vnil))
+reg p = vstruct (vcons (shared_reg p) (vcons (vstruct vnil) vnil))
+
+abbrev pub Sn : El → RattleType
+Sn E = S-type.the_row (R E)
+
+-- a `SharedRegion` as a region has it
+abbrev pub at_start : (E : El) → Ptr → (Sn E).Denot
+at_start E p = record { ptr = p; marker = record {}; slots = [] }
+
+-- what a region's own `SharedRegion` owns
+abbrev pub NoPlaces : (E : El) → (Sn E).Denot → Fml
+NoPlaces E s = shared_region_owns (R E) s.ptr s.slots
 
 module _ (a : RattleType) (E : El) where
   abbrev pub Rg : RattleType
@@ -52,13 +68,34 @@ module _ (a : RattleType) (E : El) where
   abbrev pub Words : RattleType
   Words = Struct (shape (G-type.the_type a (R E)))
 
-  pub words_made : {M : Type 1} {𝓤 : Ura M} (𝓛 : Logic 𝓤) (p : Ptr) → ent 𝓤 (emp 𝓤) (sem 𝓛 (Words.own_val (p, (tt, tt)) (reg p ∷ [])))
-  words_made 𝓛 p = makes_shadow 𝓛 (Words.own_val (p, (tt, tt)) (reg p ∷ [])) (λ vss. (tt, (tt, ((λ uss. (tt, tt)), tt)))) ((ptr_val p ∷ [], (vstruct vnil ∷ [], tt)), (refl, (refl, ((tt, (refl, tt)), tt))))
+  abbrev SharedWords : RattleType
+  SharedWords = Struct (shape (S-type.the_type (R E)))
+
+  shared_words_made : {M : Type 1} {𝓤 : Ura M} (𝓛 : Logic 𝓤) (p : Ptr) → ent 𝓤 (emp 𝓤) (sem 𝓛 (SharedWords.own_val (p, (tt, tt)) (shared_reg p ∷ [])))
+  shared_words_made 𝓛 p = makes_shadow 𝓛 (SharedWords.own_val (p, (tt, tt)) (shared_reg p ∷ [])) (λ vss. (tt, (tt, ((λ uss. (tt, tt)), tt)))) ((ptr_val p ∷ [], (vstruct vnil ∷ [], tt)), (refl, (refl, ((tt, (refl, tt)), tt))))
+
+  abbrev Mark : RattleType
+  Mark = (P-type.the_field a).row
+
+  mark_made : {M : Type 1} {𝓤 : Ura M} (𝓛 : Logic 𝓤) → ent 𝓤 (emp 𝓤) (sem 𝓛 (Mark.own_val tt (vstruct vnil ∷ [])))
+  mark_made 𝓛 = makes_shadow 𝓛 (Mark.own_val tt (vstruct vnil ∷ [])) (λ uss. (tt, tt)) (tt, (refl, tt))
+
+  pub words_made : {M : Type 1} {𝓤 : Ura M} (𝓛 : Logic 𝓤) (s : (Sn E).Denot) → ent 𝓤 (sem 𝓛 (NoPlaces E s)) (sem 𝓛 (Words.own_val (s, (tt, tt)) (reg s.ptr ∷ [])))
+  words_made 𝓛 s = qed 𝓛 (‵ (NoPlaces E s) ∷ []) ∵ use0 𝓛 (‵ (SharedWords.own_val (s.ptr, (tt, tt)) (shared_reg s.ptr ∷ []))) (shared_words_made 𝓛 s.ptr) $ fjoin ! $
+      nothing ! $ use0 𝓛 (‵ (Mark.own_val tt (vstruct vnil ∷ []))) (mark_made 𝓛) $ fjoin ! $ move ! (1 ∷ 0 ∷ []) $ fjoin ! $
+      feq_i ! (List Val) (reg s.ptr ∷ []) (reg s.ptr ∷ []) refl $ fjoin ! $
+      fpack ! (Valss (Sn E ∷ Mark ∷ [])) (within (shape (G-type.the_type a (R E))) (s, (tt, tt)) (reg s.ptr ∷ [])) (shared_reg s.ptr ∷ [], (vstruct vnil ∷ [], tt)) $ done !
+
+  -- those of a region that is made
+  pub words_new : {M : Type 1} {𝓤 : Ura M} (𝓛 : Logic 𝓤) (b o : ℕ) → ent 𝓤 (emp 𝓤) (sem 𝓛 (Words.own_val (at_start E (block_ptr b o), (tt, tt)) (reg (block_ptr b o) ∷ [])))
+  words_new 𝓛 b o = qed 𝓛 [] ∵ nothing ! $ flt_i ! (0 * (mem (R E)).size) (2 ^ 63) (omega (arith, zero-mul (mem (R E)).size)) $ fjoin ! $ by ! (words_made 𝓛 (at_start E (block_ptr b o)))
 
 module _ {M : Type 1} {𝓤 : Ura M} {𝓛 : Logic 𝓤} {K : Type 0} {Γ : List (Item 𝓤)} {G : Goal 𝓤 𝓛.H} where
-  pub words_had : K → (a : RattleType) (E : El) (p : Ptr) (vs : List Val) → (vs ≡ reg p ∷ [] → Seq K 𝓛 Γ G) → Seq K 𝓛 (‵ ((Words a E).own_val (p, (tt, tt)) vs) ∷ Γ) G
-  words_had t a E p vs k = fpick t (λ vss. fsplit t $ feq_l t (λ ev. fsplit t $ feq_l t (λ e0. fsplit t $ fpick t (λ uss. fsplit t $ feq_l t (λ e1. drop t $ drop t $
-      k (subst (λ (ws : List Val × List Val). vs ≡ vstruct (of_list (ws.0 ++ (ws.1 ++ []))) ∷ []) (λ j. (e0 j, e1 j)) ev))))))
+  pub words_had : K → (a : RattleType) (E : El) (s : (Sn E).Denot) (vs : List Val) → (vs ≡ reg s.ptr ∷ [] → Seq K 𝓛 (‵ (NoPlaces E s) ∷ Γ) G) → Seq K 𝓛 (‵ ((Words a E).own_val (s, (tt, tt)) vs) ∷ Γ) G
+  words_had t a E s vs k = fpick t (λ vss. fsplit t $ feq_l t (λ ev. fsplit t $ fsplit t $ fpick t (λ wss. fsplit t $ feq_l t (λ es. fsplit t $ feq_l t (λ e0. fsplit t $ fpick t (λ uss. fsplit t $ feq_l t (λ e1. drop t $ drop t $
+      move t (1 ∷ []) $ fsplit t $ fpick t (λ tss. fsplit t $ feq_l t (λ e2. drop t $ drop t $
+      let first : vss.0 ≡ shared_reg s.ptr ∷ [] = subst (λ (ws : List Val × List Val). vss.0 ≡ vstruct (of_list (ws.0 ++ (ws.1 ++ []))) ∷ []) (λ j. (e0 j, e1 j)) es in
+      k (subst (λ (ws : List Val × List Val). vs ≡ vstruct (of_list (ws.0 ++ (ws.1 ++ []))) ∷ []) (λ j. (first j, e2 j)) ev))))))))))
 
 abbrev pub pair_val : Val → Val → Val
 pair_val u v = vstruct (vcons u (vcons v vnil))

@@ -155,11 +155,11 @@ module _ (a : RattleType) (E : El) (P : Dm) {M : Type 1} {𝓤 : Ura M} (𝓛 : 
       feq_i ! (Grid (el_x E)) (values z ws) (same_lens (values z ws)) (ap (λ (g : Grid (el_x E)). grid g.lengths (values z ws).cells) seen) $ fjoin ! $
       fpack ! Ds (Whole (values z ws) rb (ro + 0)) (fill z.0 ws, still_reaches ⊤ z.0 ws _ _ _ z.1) $ done !
 
-  cut_pin : (z : Ds) (μ : GName) {b o : ℕ} (here : x.storage.ptr ≡ block_ptr b o) → ent 𝓤 (sem 𝓛 ((Pinned a E P (with_slots x.storage z.0)).own_at (somes z.0) rb (ro + 0))) (Has a E 𝓛 κ inc q rb (ro + 0) μ (with_slots x.storage z.0) b o here (somes z.0))
+  cut_pin : (z : Ds) (μ : GName) {b o : ℕ} (here : x.storage.shared.ptr ≡ block_ptr b o) → ent 𝓤 (sem 𝓛 ((Pinned a E P (with_slots x.storage z.0)).own_at (somes z.0) rb (ro + 0))) (Has a E 𝓛 κ inc q rb (ro + 0) μ (with_slots x.storage z.0) b o here (somes z.0))
   cut_pin z μ {b} {o} here = qed 𝓛 (‵ (part_at (Rg a E) full_share (with_slots x.storage (fill z.0 (somes z.0))) rb (ro + 0)) ∷ []) ∵
       rewrite ! 0 (λ (ds : List (Option (el_x E))). ‵ (part_at (Rg a E) full_share (with_slots x.storage ds) rb (ro + 0))) (fill_same z.0) refl $ by ! (cut a E 𝓛 κ inc q rb (ro + 0) μ (with_slots x.storage z.0) b o here)
 
-  module _ (γ : GName) (ok : good a E P x) (b o : ℕ) (here : x.storage.ptr ≡ block_ptr b o) where
+  module _ (γ : GName) (ok : good a E P x) (b o : ℕ) (here : x.storage.shared.ptr ≡ block_ptr b o) where
     abbrev pub Got : Type 0
     Got = (ν : GName) × ((ν' : GName) × ((z : Ds) × ((view a E P (at z.0) ≡ d) × (length z.0 * (mem (R E)).size < 2 ^ 63))))
 
@@ -179,7 +179,7 @@ module _ (a : RattleType) (E : El) (P : Dm) {M : Type 1} {𝓤 : Ura M} (𝓛 : 
         -- [the layout; nothing; the token; what follows; obs; the loan]
         move ! (4 ∷ 5 ∷ 2 ∷ []) $ open_ref ! tt Pin {x = d} {b = rb} {o = ro + 0} $ fpick ! (λ z. fsplit ! $ feq_l ! (λ e.
         let rd : (Rg a E).Denot = with_slots x.storage z.0 in
-        use1 𝓛 (‵ (part_at (Words a E) full_share (rd.ptr, (tt, tt)) rb (ro + 0)) ⊛ ‵ (region_owns a.lives (R E) rd.ptr rd.name z.0)) (part_out 𝓛 (G-type.the_type a (R E)) full_share rd rb (ro + 0)) $ split ! $ move ! (1 ∷ []) $
+        use1 𝓛 (‵ (part_at (Words a E) full_share (rd.shared, (tt, tt)) rb (ro + 0)) ⊛ ‵ (region_owns a.lives (R E) rd.shared.ptr rd.name z.0)) (part_out 𝓛 (G-type.the_type a (R E)) full_share rd rb (ro + 0)) $ split ! $ move ! (1 ∷ []) $
         rewrite ! 0 (λ (p : Ptr). ‵ (region_owns a.lives (R E) p rd.name z.0)) here refl $ fsplit ! $ flt_l ! (λ small. flt_i ! (length z.0 * (mem (R E)).size) (2 ^ 63) small $ fjoin ! $
         rewrite ! 0 (λ (p : Ptr). ‵ (region_owns a.lives (R E) p rd.name z.0)) (sym here) refl $ move ! (1 ∷ 0 ∷ []) $
         use2 𝓛 (‵ (part_at (Rg a E) full_share rd rb (ro + 0))) (part_in 𝓛 (G-type.the_type a (R E)) full_share rd rb (ro + 0)) $

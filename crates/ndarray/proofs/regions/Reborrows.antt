@@ -46,7 +46,7 @@ module _ (E : El) {M : Type 1} {𝓤 : Ura M} (𝓛 : Logic 𝓤) where
   as_many b (Some c ∷ cs) (w ∷ ws) o = qed 𝓛 (‵ (scattered (R E) b o (Some c ∷ cs) (w ∷ ws)) ∷ []) ∵ fsplit ! $ move ! (1 ∷ []) $
       use1 𝓛 (given (length ws ≡ length (somes cs)) (‵ (scattered (R E) b (o + (mem (R E)).size) cs ws))) (as_many b cs ws (o + (mem (R E)).size)) $ learn ! (λ e. move ! (1 ∷ 0 ∷ []) $ fjoin ! $ check ! (ap suc e) $ done !)
 
-module _ (a : RattleType) (E : El) {M : Type 1} {𝓤 : Ura M} (𝓛 : Logic 𝓤) (κ : Lft) (inc : Incl κ a.lives) (q : Share) (rb ro : ℕ) (γ : GName) (d : (Rg a E).Denot) (b o : ℕ) (here : d.ptr ≡ block_ptr b o) where
+module _ (a : RattleType) (E : El) {M : Type 1} {𝓤 : Ura M} (𝓛 : Logic 𝓤) (κ : Lft) (inc : Incl κ a.lives) (q : Share) (rb ro : ℕ) (γ : GName) (d : (Rg a E).Denot) (b o : ℕ) (here : d.shared.ptr ≡ block_ptr b o) where
   open 𝓛 use {H, A}
 
   abbrev cs : List (Option (el_x E))
@@ -59,14 +59,14 @@ module _ (a : RattleType) (E : El) {M : Type 1} {𝓤 : Ura M} (𝓛 : Logic �
   F ws = with_slots d (fill cs ws)
 
   abbrev pub Rest : Fml
-  Rest = fsep (flt (length cs * (mem (R E)).size) (2 ^ 63)) (part_at (Words a E) full_share (d.ptr, (tt, tt)) rb ro)
+  Rest = fsep (flt (length cs * (mem (R E)).size) (2 ^ 63)) (part_at (Words a E) full_share (d.shared, (tt, tt)) rb ro)
 
   abbrev pub Has : List (el_x E) → SProp 𝓤
   Has ws = sep 𝓤 (A.obs d.name (S.coded.code ws)) (sep 𝓤 (A.bor a.lives (Borrowed S b o d.name)) (sem 𝓛 Rest))
 
   pub cut : ent 𝓤 (sem 𝓛 (part_at (Rg a E) full_share d rb ro)) (Has (somes cs))
   cut = qed 𝓛 (‵ (part_at (Rg a E) full_share d rb ro) ∷ []) ∵
-      use1 𝓛 (‵ (part_at (Words a E) full_share (d.ptr, (tt, tt)) rb ro) ⊛ ‵ (region_owns a.lives (R E) d.ptr d.name cs)) (part_out 𝓛 (G-type.the_type a (R E)) full_share d rb ro) $ split ! $ move ! (1 ∷ []) $
+      use1 𝓛 (‵ (part_at (Words a E) full_share (d.shared, (tt, tt)) rb ro) ⊛ ‵ (region_owns a.lives (R E) d.shared.ptr d.name cs)) (part_out 𝓛 (G-type.the_type a (R E)) full_share d rb ro) $ split ! $ move ! (1 ∷ []) $
       rewrite ! 0 (λ (p : Ptr). ‵ (region_owns a.lives (R E) p d.name cs)) here refl $ fsplit ! $ move ! (0 ∷ 2 ∷ []) $ fjoin ! $ move ! (1 ∷ []) $ fsplit ! $ done !
 
   pub back : (ws : List (el_x E)) → length ws ≡ length (somes cs) → ent 𝓤 (Has ws) (sem 𝓛 (part_at (Rg a E) full_share (F ws) rb ro))

@@ -22,7 +22,7 @@ use Rattle.core.specs.contracts.marker.PhantomData as marker
 use Rattle.core.proofs.mem.Param.{El, R, el_x}
 use Rattle.ndarray.specs.base.Scattered.{fit, scattered_lent, region_lent, shared_region_lent}
 use Rattle.ndarray.proofs.regions.Sharing.{strewn_lent_laws}
-use Rattle.ndarray.proofs.regions.Memory.{reg}
+use Rattle.ndarray.proofs.regions.Memory.{shared_reg}
 use Rattle.ndarray.specs.contracts.base.region.SharedRegion as S-type
 use Prim.Native.Nat.{ℕ, zero, suc, ◌+◌, ◌*◌, ◌≤◌}
 use native.Mathlib.Omega.{arith}
@@ -32,15 +32,12 @@ use types.Kit.{‵, ◌$◌, ◌∵◌, !, qed, by, keep, use1, rewrite, done}
 use denote.Memory.{mem, shared_of}
 use denote.Slice.{elements_shared}
 
-abbrev pub Sn : El → RattleType
-Sn E = S-type.the_row (R E)
-
 -- the data fields of a `SharedRegion`
 abbrev pub Words : El → RattleType
 Words E = Struct (shape (S-type.the_type (R E)))
 
 module _ (E : El) where
-  pub told : (p : Ptr) (vs : List Val) → Is (Words E) (p, (tt, tt)) vs → vs ≡ reg p ∷ []
+  pub told : (p : Ptr) (vs : List Val) → Is (Words E) (p, (tt, tt)) vs → vs ≡ shared_reg p ∷ []
   told p vs is = is.1.0 ∙ ap (λ (ws : List Val). vstruct (of_list (ws ++ (is.0.1.0 ++ []))) ∷ []) is.1.1.0 ∙ ap (λ (ws : List Val). vstruct (of_list (ptr_val p ∷ (ws ++ []))) ∷ []) is.1.1.1.0.1.0
 
   pub words_open : {M : Type 1} {𝓤 : Ura M} (𝓛 : Logic 𝓤) → Opens 𝓛 (Words E)

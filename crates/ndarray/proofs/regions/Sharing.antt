@@ -13,12 +13,12 @@ use denote.RattleType.{RattleType, RowLaws}
 use denote.Memory.{mem, shared_of}
 use denote.Param.Laws.{Laws}
 use denote.RawPtr.{Ptr, block_ptr, null_ptr}
-use denote.Sharing.{ShrLaws, said, within}
+use denote.Sharing.{ShrLaws, nothing, said, within}
 use denote.SharingLaws.{beside_shr_laws, nothing_shr_laws, said_shr_laws, within_shr_laws}
 use denote.Shares.{Shares-less, peels}
 use denote.Struct.Lending.{Lends, Lends-both, Lends-nothing, Lends-said, Lends-false}
 use Rattle.ndarray.specs.base.Slots.{somes}
-use Rattle.ndarray.specs.base.Scattered.{scattered, ScatteredElements, fit, lent_at, scattered_lent, region_owns, region_lent, shared_region_lent}
+use Rattle.ndarray.specs.base.Scattered.{scattered, ScatteredElements, fit, lent_at, scattered_lent, region_owns, region_lent, shared_region_owns, shared_region_lent}
 
 module _ (R : RattleType) (L : RowLaws R) where
   pub strewn_lent_laws : (b o : ℕ) (cs : List (Option R.Denot)) → ShrLaws (scattered_lent R b o cs)
@@ -55,3 +55,9 @@ module _ {M : Type 1} {𝓤 : Ura M} (𝓛 : Logic 𝓤) (κ' l : Lft) (R : Ratt
   pub Lends-region : (p : Ptr) (γ : GName) (cs : List (Option R.Denot)) → Lends 𝓛 (region_owns κ' R p γ cs) (region_lent κ' R p cs) l
   Lends-region (block_ptr b o) γ cs = Lends-both 𝓛 (fit R cs) (lent_at R κ' b o γ cs) (said (fit R cs)) (within κ' (scattered_lent R b o cs)) l (Lends-said 𝓛 (fit R cs) tt l) (Lends-loan b o γ cs)
   Lends-region null_ptr γ cs = Lends-false 𝓛 (said ffalse) l
+
+module _ {M : Type 1} {𝓤 : Ura M} (𝓛 : Logic 𝓤) (l : Lft) (R : RattleType) where
+  pub Lends-shared_region : (p : Ptr) (cs : List (Option R.Denot)) → Lends 𝓛 (shared_region_owns R p cs) (shared_region_lent R p cs) l
+  Lends-shared_region (block_ptr b o) [] = Lends-both 𝓛 (fit R []) ftrue (said (fit R [])) nothing l (Lends-said 𝓛 (fit R []) tt l) (Lends-nothing 𝓛 ftrue l)
+  Lends-shared_region (block_ptr b o) (c ∷ cs) = Lends-false 𝓛 (shared_region_lent R (block_ptr b o) (c ∷ cs)) l
+  Lends-shared_region null_ptr cs = Lends-false 𝓛 (said ffalse) l

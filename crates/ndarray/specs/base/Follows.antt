@@ -9,7 +9,7 @@ use Rattle.ndarray.specs.contracts.base.region.RegionRepr.{the_row}
 
 -- a region with other values at its places
 abbrev pub with_slots : {M X : Type 0} → RegionRepr M X → List (Option X) → RegionRepr M X
-with_slots r cs = record { ptr = r.ptr; marker = r.marker; name = r.name; reborrow_name = r.reborrow_name; slots = cs }
+with_slots r cs = record { shared = r.shared; marker = r.marker; name = r.name; reborrow_name = r.reborrow_name; slots = cs }
 
 module _ (V : RattleType) where
   -- the slice has the values that the loan ends at

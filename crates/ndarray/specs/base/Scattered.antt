@@ -47,6 +47,12 @@ abbrev pub region_lent : Lft → (V : RattleType) → Ptr → List (Option V.Den
 region_lent κ V (block_ptr b o) cs = beside (said (fit V cs)) (within κ (scattered_lent V b o cs))
 region_lent κ V null_ptr cs = said ffalse
 
+-- what a `SharedRegion` owns beside its fields: it has no places, and is no null pointer
+abbrev pub shared_region_owns : (V : RattleType) → Ptr → List (Option V.Denot) → Fml
+shared_region_owns V (block_ptr b o) [] = fsep (fit V []) ftrue
+shared_region_owns V (block_ptr b o) (c ∷ cs) = ffalse
+shared_region_owns V null_ptr cs = ffalse
+
 -- what a `&` to a `SharedRegion` holds beside its fields
 abbrev pub shared_region_lent : (V : RattleType) → Ptr → List (Option V.Denot) → Lft → Fml
 shared_region_lent V (block_ptr b o) cs = beside (said (fit V cs)) (scattered_lent V b o cs)

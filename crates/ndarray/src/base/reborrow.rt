@@ -9,7 +9,7 @@ ghost use Rattle.ndarray.specs.base.Slots.{held_at};
 use crate::base::array::ArrayBase;
 use crate::base::dimension::Lengths;
 use crate::base::layout::Layout;
-use crate::base::region::{Life, RegionRepr};
+use crate::base::region::{Life, RegionRepr, SharedRegion};
 use std::marker::PhantomData;
 
 impl<A, D: Lengths, M> ArrayBase<RegionRepr<M, A>, D> {
@@ -25,7 +25,10 @@ impl<A, D: Lengths, M> ArrayBase<RegionRepr<M, A>, D> {
         (
             unsafe { &*layout },
             RegionRepr {
-                ptr: self.storage.ptr,
+                shared: SharedRegion {
+                    ptr: self.storage.shared.ptr,
+                    marker: PhantomData,
+                },
                 marker: PhantomData,
             },
         )

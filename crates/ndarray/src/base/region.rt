@@ -1,13 +1,13 @@
 //! Elements at some of the places of a slice, behind one lifetime: what writing views keep theirs in.
 //!
 //! A region is split by places, and its parts live side by side. Raw pointers stay inside `of`,
-//! `into_slice`, `get_mut`, `shared` and `SharedRegion::slice`.
+//! `into_slice`, `split`, `get_mut` and `SharedRegion::slice`, and `ArrayBase::reborrow` beside them.
 
 ghost use Rattle.std.specs.Prelude.{◌≡◌, ◌≢◌, ℕ, Bool, List, Option, Some, None, map, take, drop};
 ghost use Rattle.std.specs.Borrow.{sem};
-ghost use base.Fml.{GName, ffalse};
+ghost use base.Fml.{GName};
 ghost use Rattle.ndarray.specs.base.Slots.{held_at, slots_in, slots_outside, IsFilled, IsRun};
-ghost use Rattle.ndarray.specs.base.Scattered.{region_owns, region_lent, shared_region_lent};
+ghost use Rattle.ndarray.specs.base.Scattered.{region_owns, region_lent, shared_region_owns, shared_region_lent};
 
 use crate::base::array::{ArrayBase, ArrayViewMut};
 use crate::base::dimension::Lengths;
@@ -23,8 +23,10 @@ pub struct Life<'a> {
 
 /// The right to read and write, for as long as `M` lives, the elements at some places of a slice.
 /// Places are indices of that slice, and stay so in each part.
+#[derive(Drop)]
 pub struct RegionRepr<M, A> {
-    pub(super) ptr: *mut A,
+    // Where the slice begins. It has no places here; behind the `&` of `shared` it has the region's.
+    pub(super) shared: SharedRegion<A>,
     pub(super) marker: PhantomData<M>,
     // The borrow of the elements.
     ghost name: { GName },
@@ -35,15 +37,9 @@ pub struct RegionRepr<M, A> {
 }
 
 impl<M, A> Model for RegionRepr<M, A> {
-    ghost also_owns = { λ r. region_owns M.row.lives A.row r.ptr r.name r.slots };
+    ghost also_owns = { λ r. region_owns M.row.lives A.row r.shared.ptr r.name r.slots };
 
-    ghost also_shares = { λ r _ κ. region_lent M.row.lives A.row r.ptr r.slots κ };
-}
-
-impl<M, A> Drop for RegionRepr<M, A> {
-    fn drop(self) {
-        let Self { ptr: _, marker: _ } = self;
-    }
+    ghost also_shares = { λ r _ κ. region_lent M.row.lives A.row r.shared.ptr r.slots κ };
 }
 
 impl<'a, A> RegionRepr<Life<'a>, A> {
@@ -55,7 +51,10 @@ impl<'a, A> RegionRepr<Life<'a>, A> {
         ensures value { result.slots ≡ map Some s.old }
     {
         RegionRepr {
-            ptr: s.as_mut_ptr(),
+            shared: SharedRegion {
+                ptr: s.as_mut_ptr(),
+                marker: PhantomData,
+            },
             marker: PhantomData,
         }
     }
@@ -66,7 +65,10 @@ impl<'a, A> RegionRepr<Life<'a>, A> {
         ensures* writes_back { sem 𝓛 (follows_run A.row self.entry.slots self.entry.name from result.ghost_name) }
         ensures value { take len (drop from self.entry.slots) ≡ map Some result.now }
     {
-        let RegionRepr { ptr, marker: _ } = self;
+        let RegionRepr {
+            shared: SharedRegion { ptr, marker: _ },
+            marker: _,
+        } = self;
         unsafe { slice::from_raw_parts_mut(ptr.add(from), len) }
     }
 
@@ -104,14 +106,23 @@ impl<A, M> RegionRepr<M, A> {
         ensures first { result.0.slots ≡ slots_in mask self.slots }
         ensures second { result.1.slots ≡ slots_outside mask self.slots }
     {
-        let Self { ptr, marker: _ } = self;
+        let Self {
+            shared: SharedRegion { ptr, marker: _ },
+            marker: _,
+        } = self;
         (
             RegionRepr {
-                ptr,
+                shared: SharedRegion {
+                    ptr,
+                    marker: PhantomData,
+                },
                 marker: PhantomData,
             },
             RegionRepr {
-                ptr,
+                shared: SharedRegion {
+                    ptr,
+                    marker: PhantomData,
+                },
                 marker: PhantomData,
             },
         )
@@ -123,7 +134,7 @@ impl<A, M> RegionRepr<M, A> {
         ensures* writes_back { sem 𝓛 (lends_place M.row A.row self.entry place result) }
         ensures value { held_at self.old.slots place ≡ Some result.now }
     {
-        unsafe { &mut *self.ptr.add(place) }
+        unsafe { &mut *self.shared.ptr.add(place) }
     }
 
     /// The element at one place, to read.
@@ -138,7 +149,7 @@ impl<A, M> RegionRepr<M, A> {
     pub(crate) fn shared(&self) -> &SharedRegion<A>
         ensures { result.now.slots ≡ self.now.slots }
     {
-        unsafe { &*(self as *const RegionRepr<M, A> as *const SharedRegion<A>) }
+        &self.shared
     }
 }
 
@@ -198,16 +209,18 @@ impl<M, A> DataMut for RegionRepr<M, A> {
     ghost is_apart = { λ _. tt };
 }
 
-/// What a `&` to a region's places reaches. No value of it is ever owned.
+/// What a `&` to a region's places reaches. Each region has one as a part, and there it has no
+/// places.
+#[derive(Drop)]
 pub struct SharedRegion<A> {
-    ptr: *mut A,
-    marker: PhantomData<A>,
+    pub(super) ptr: *mut A,
+    pub(super) marker: PhantomData<A>,
     // The element at each place; `None` at one that is not held.
     ghost slots: { List (Option A) },
 }
 
 impl<A> Model for SharedRegion<A> {
-    ghost also_owns = { λ _. ffalse };
+    ghost also_owns = { λ r. shared_region_owns A.row r.ptr r.slots };
 
     ghost also_shares = { λ r _ κ. shared_region_lent A.row r.ptr r.slots κ };
 }

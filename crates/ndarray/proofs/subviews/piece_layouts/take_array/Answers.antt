@@ -6,7 +6,7 @@ use Rattle.ndarray.specs.base.Slots.{held_at}
 use Rattle.ndarray.proofs.regions.Masks.{SharesBoth, SharesBoth-one, Shares-none, Shares-slots_outside, one-reaches, one-seen, grids-slots_outside}
 use Rattle.ndarray.proofs.subviews.piece_layouts.take_array.Goals as goal
 
-module _ (g : _) (c : goal.After-drop-region g) where
+module _ (g : _) (c : goal.After-split-storage g) where
   -- where the array lies
   abbrev here : CellLayout
   here = cell_layout (g.D.Lengths.numbers c.args.layout.dim) c.args.layout.start (g.D.Lengths.numbers c.args.layout.strides)

@@ -49,7 +49,7 @@ use Rattle.core.proofs.mem.Param.{El, R, el_x}
 use Rattle.ndarray.specs.Grid.{Grid}
 use Rattle.ndarray.specs.base.Slots.{somes}
 use Rattle.ndarray.specs.base.Scattered.{ScatteredElements, region_owns}
-use Rattle.ndarray.proofs.regions.Memory.{lives_as, reg, pair_val, two_of, says_both, Rg, Words, words_had, words_made}
+use Rattle.ndarray.proofs.regions.Memory.{lives_as, reg, pair_val, two_of, says_both, Rg, Words, at_start, words_had, words_made, words_new}
 use denote.Param.{param}
 use denote.Signature.{mut_ref_to}
 use Rattle.ndarray.specs.contracts.base.region.Life as Life-type
@@ -140,19 +140,20 @@ module _ (E : El) (P : Dm) (W : El) {M : Type 1} {𝓤 : Ura M} (𝓛 : Logic �
       (plain_out (Ar a E P) In (view_owns In (Grid (el_x E)) (Ar a E P).coded (view a E P) (good a E P)) 𝓛 full_share d rb ro) $ pick ! (λ x.
       let v : In.Denot = x.0 in let rd : (Rg a E).Denot = v.storage in let cs = rd.slots in let ko : ℕ = ro + 0 in
       use1 𝓛 (‵ (part_at (Rg a E) full_share rd rb ko) ⊛ ‵ (LayAt a E P 𝓛 v rb ro) ⊛ raw (Back a E P 𝓛 v rb ro)) (fields_of a E P 𝓛 v rb ro (param_laws 2 W.row W.laws)) $ split3 ! $
-      use1 𝓛 (‵ (part_at (Words a E) full_share (rd.ptr, (tt, tt)) rb ko) ⊛ ‵ (region_owns a.lives (R E) rd.ptr rd.name cs)) (part_out 𝓛 (G-type.the_type a (R E)) full_share rd rb ko) $ cut_item ! $ move ! (1 ∷ []) $
-      in_a_block ! rd.ptr (λ p. region_owns a.lives (R E) p rd.name cs) (id⊢ 𝓤 (never 𝓤)) (λ b o e. fsplit ! $ flt_l ! (λ small.
-      let me : Val = reg (block_ptr b o) in let is : reg rd.ptr ∷ [] ≡ me ∷ [] = ap (λ (p : Ptr). reg p ∷ []) e in
-      move ! (1 ∷ []) $ fpick ! (λ vs. fsplit ! $ move ! (1 ∷ []) $ words_had ! a E rd.ptr vs (λ ev.
+      use1 𝓛 (‵ (part_at (Words a E) full_share (rd.shared, (tt, tt)) rb ko) ⊛ ‵ (region_owns a.lives (R E) rd.shared.ptr rd.name cs)) (part_out 𝓛 (G-type.the_type a (R E)) full_share rd rb ko) $ cut_item ! $ move ! (1 ∷ []) $
+      in_a_block ! rd.shared.ptr (λ p. region_owns a.lives (R E) p rd.name cs) (id⊢ 𝓤 (never 𝓤)) (λ b o e. fsplit ! $ flt_l ! (λ small.
+      let me : Val = reg (block_ptr b o) in let is : reg rd.shared.ptr ∷ [] ≡ me ∷ [] = ap (λ (p : Ptr). reg p ∷ []) e in
+      move ! (1 ∷ []) $ fpick ! (λ vs. fsplit ! $ move ! (1 ∷ []) $ words_had ! a E rd.shared vs (λ ev. move ! (1 ∷ 0 ∷ []) $
       rewrite ! 0 (λ (us : List Val). ‵ (cell_at full_share (Words a E).mir us rb ko)) (ev ∙ is) refl $
       sets ! (addr ! (through ! refl (fld ! refl (stop !)))) refl (tt, tt) $ first ! $ blocks ! $ sets_last ! (addr ! (through ! refl (stop !))) refl (tt, tt) $
       exec ! C Λ En (rest_after 2 (function E P W).body) (at_ret En (Post (vptr rb ro ∷ []))) $ sets ! (of_opd ! (get ! refl)) refl (tt, tt) $
-      sets ! (of_opd ! (load ! (through ! refl (fld ! refl (fld ! refl (stop !)))) (look_in ! 0 (sub ! 0 refl (whole !))))) refl (tt, tt) $
+      sets ! (of_opd ! (load ! (through ! refl (fld ! refl (fld ! refl (fld ! refl (stop !))))) (look_in ! 0 (sub ! 0 refl (sub ! 0 refl (whole !)))))) refl (tt, tt) $
       sets ! (agg ! (no_more !)) refl (tt, tt) $ sets ! (agg ! (and_then ! (get ! refl) (and_then ! (get ! refl) (no_more !)))) refl (tt, (tt, (tt, tt))) $
-      sets ! (agg ! (and_then ! (get ! refl) (and_then ! (get ! refl) (no_more !)))) refl (tt, (tt, ((tt, (tt, tt)), tt))) $
+      sets ! (agg ! (no_more !)) refl (tt, tt) $ sets ! (agg ! (and_then ! (get ! refl) (and_then ! (get ! refl) (no_more !)))) refl (tt, ((tt, (tt, tt)), (tt, tt))) $
+      sets ! (agg ! (and_then ! (get ! refl) (and_then ! (get ! refl) (no_more !)))) refl (tt, (tt, (((tt, (tt, tt)), (tt, tt)), tt))) $
       rewrite ! 0 (λ (us : List Val). ‵ (cell_at full_share (Words a E).mir us rb ko)) (sym is) refl $
-      use0 𝓛 (‵ ((Words a E).own_val (rd.ptr, (tt, tt)) (reg rd.ptr ∷ []))) (words_made a E 𝓛 rd.ptr) $ move ! (1 ∷ 0 ∷ []) $ fjoin ! $
-      fpack ! (List Val) (λ us. fsep (cell_at full_share (Words a E).mir us rb ko) ((Words a E).own_val (rd.ptr, (tt, tt)) us)) (reg rd.ptr ∷ []) $ move ! (1 ∷ []) $
+      move ! (1 ∷ []) $ use1 𝓛 (‵ ((Words a E).own_val (rd.shared, (tt, tt)) (reg rd.shared.ptr ∷ []))) (words_made a E 𝓛 rd.shared) $ move ! (1 ∷ 0 ∷ []) $ fjoin ! $
+      fpack ! (List Val) (λ us. fsep (cell_at full_share (Words a E).mir us rb ko) ((Words a E).own_val (rd.shared, (tt, tt)) us)) (reg rd.shared.ptr ∷ []) $ move ! (1 ∷ []) $
       flt_i ! (length cs * (mem (R E)).size) (2 ^ 63) small $ fjoin ! $ rewrite ! 0 (λ (p : Ptr). ‵ (region_owns a.lives (R E) p rd.name cs)) (sym e) refl $ move ! (1 ∷ 0 ∷ []) $
       use2 𝓛 (‵ (part_at (Rg a E) full_share rd rb ko)) (part_in 𝓛 (G-type.the_type a (R E)) full_share rd rb ko) $
       -- [the region; the layout; the way back; the open loan; obs; auth; the other tokens]
@@ -160,8 +161,8 @@ module _ (E : El) (P : Dm) (W : El) {M : Type 1} {𝓤 : Ura M} (𝓛 : Logic �
       use1 𝓛 (later (some (λ (g : Got a E P 𝓛 κ inm q rb ro v d x.1.0 γ x.1.1 b o e). ‵ (fobs g.1.0 ((ScatteredElements (R E) g.1.1.0.0).coded.code (somes g.1.1.0.0))) ⊛ ‵ (fbor κ (Borrowed (ScatteredElements (R E) g.1.1.0.0) b o g.1.0)) ⊛ ‵ (flft κ q) ⊛ ‵ (follows (Ar a E P) (Ar a E P) γ g.0 (same_lens a E P 𝓛 κ inm q rb ro v d x.1.0)) ⊛ ‵ (fbor κ (LayAt a E P 𝓛 v rb ro)))))
       (opens a E P 𝓛 κ inm q rb ro v d x.1.0 γ x.1.1 b o e) $ await ! tt $ pick ! (λ g. let ν = g.1.0 in let cs' = g.1.1.0.0 in split3 ! $ fjoin ! $
       flt_i ! (length cs' * (mem (R E)).size) (2 ^ 63) g.1.1.1.1 $ fjoin ! $ rewrite ! 0 (λ (p : Ptr). ‵ (region_owns κ (R E) p ν cs')) (sym e) refl $
-      rewrite ! 0 (λ (k : Lft). ‵ (region_owns k (R E) rd.ptr ν cs')) life refl $
-      use0 𝓛 (‵ ((Words a' E).own_val (rd.ptr, (tt, tt)) (reg rd.ptr ∷ []))) (words_made a' E 𝓛 rd.ptr) $ rewrite ! 0 (λ (us : List Val). ‵ ((Words a' E).own_val (rd.ptr, (tt, tt)) us)) is refl $ fjoin ! $
+      rewrite ! 0 (λ (k : Lft). ‵ (region_owns k (R E) rd.shared.ptr ν cs')) life refl $
+      use0 𝓛 (‵ ((Words a' E).own_val (at_start E (block_ptr b o), (tt, tt)) (me ∷ []))) (words_new a' E 𝓛 b o) $ rewrite ! 0 (λ (p : Ptr). ‵ ((Words a' E).own_val (at_start E p, (tt, tt)) (me ∷ []))) (sym e) refl $ fjoin ! $
       -- [the new region; the token, what follows, the layout's loan; the other tokens]
       move ! (1 ∷ []) $ split3 ! $ move ! (2 ∷ 0 ∷ []) $
       use2 𝓛 (later (‵ (shared_of Lr v.layout rb (ro + lo a E P) κ) ⊛ ‵ (flft κ q)))
@@ -169,7 +170,7 @@ module _ (E : El) (P : Dm) (W : El) {M : Type 1} {𝓤 : Ura M} (𝓛 : Logic �
       -- [the layout, shared; the token; what follows; the new region; the other tokens]
       let top : Bor Lr.Denot = record { ref_ptr = (rb, ro + lo a E P); now = v.layout } in
       let put : Val = vptr rb (ro + lo a E P) in
-      let lent : (Rg a' E).Denot = record { ptr = rd.ptr; marker = record {}; name = ν; reborrow_name = g.0; slots = cs' } in
+      let lent : (Rg a' E).Denot = record { shared = at_start E rd.shared.ptr; marker = record {}; name = ν; reborrow_name = g.0; slots = cs' } in
       hide ! $ feq_i ! (List Val) (put ∷ []) (put ∷ []) refl $ fjoin ! $ move ! (0 ∷ 3 ∷ []) $
       use2 𝓛 (‵ ((Tuple (ShrRef (named 0) κ Lr ∷ Rg a' E ∷ [])).own_val (top, lent) (pair_val put me ∷ []))) (two_of 𝓛 (ShrRef (named 0) κ Lr) (Rg a' E) top lent put me) $
       -- [the pair; the token; what follows; the other tokens]

@@ -17,7 +17,7 @@ use types.Logic.{Logic, sem}
 use contract.Monad.{fact, Fun}
 use contract.Running.{tables, tables_of}
 use sound.WpLaws.{WpFn-mono}
-use types.Kit.{Item, ⋆, ‵, raw, ◌⊛◌, some, later, await, pick, at_ret, ◌$◌, ◌∵◌, !, qed, by, move, keep, use1, use2, split, split3, join, group, rewrite, fsplit, fjoin, feq_l, flt_l, suffices, frame, done}
+use types.Kit.{Item, ⋆, ‵, raw, ◌⊛◌, some, later, await, pick, at_ret, ◌$◌, ◌∵◌, !, qed, by, move, keep, drop, use1, use2, split, split3, join, group, rewrite, fsplit, fjoin, feq_l, flt_l, suffices, frame, done}
 use types.Part.{whole, sub, agg}
 use types.Run.{stop, fld, of_opd, bin, size_word, and_then, no_more, first, blocks, exec, returns, enter}
 use types.ByLocal.{alloc_all, pass_all, free_all, look_at, get, get_in, sets, sets_last, is, env}
@@ -103,7 +103,7 @@ module _ (E : El) {M : Type 1} {𝓤 : Ura M} (𝓛 : Logic 𝓤) (at_mem : Memo
       → ent 𝓤 (sep 𝓤 (sem 𝓛 ((MutSlice (named 0) κ (R E)).own_val r (v ∷ []))) (sep 𝓤 (A.lft κ q) (sep 𝓤 (sem 𝓛 (follows (Array (R E) 0) (Array (R E) 0) γ r.ghost_name new)) (sep 𝓤 (A.lft κ₁ q₁) (sem 𝓛 ftrue))))) (Post us v)
   exits us v r e =
       qed 𝓛 (‵ ((MutSlice (named 0) κ (R E)).own_val r (v ∷ [])) ∷ ‵ (flft κ q) ∷ ‵ (follows (Array (R E) 0) (Array (R E) 0) γ r.ghost_name new) ∷ other ∷ []) ∵
-      suffices ! _ (ends_at 𝓛 (F.ended E.row) (stayed E) spec (At us) v r (tt, (tt, (tt, tt))) (tt, (tt, (tt, tt)))) $
+      suffices ! _ (ends_at 𝓛 (F.ended E.row) (stayed E) spec (At us) v r ((tt, tt), (tt, (tt, tt))) (tt, (tt, (tt, tt)))) $
       nothing ! $ nothing ! $ fjoin ! $ nothing ! $ fjoin ! $ nothing ! $ fjoin ! $ join ! $ move ! (1 ∷ 3 ∷ []) $ join ! $ join ! $ frame ! $ says ! e $ done !
 
   module _ (b o : ℕ) where
@@ -120,12 +120,12 @@ module _ (E : El) {M : Type 1} {𝓤 : Ura M} (𝓛 : Logic 𝓤) (at_mem : Memo
     walk asked fits fits_len =
         let xs = asked.1.0 in let filled = asked.1.1 in let inside = asked.0 in
         let long : length xs ≡ n = omega (arith, ap length filled, length-map xs Some, length-take n (drop_l i cs), length-drop i cs) in
-        qed 𝓛 Had ∵ enter ! C Λ (function E) (me ∷ vint w64 i ∷ vint w64 n ∷ []) _ $ alloc_all ! (λ l. pass_all ! refl ((tt, (tt, (tt, tt))), ((tt, record { fits = fits }), ((tt, record { fits = fits_len }), tt))) $
+        qed 𝓛 Had ∵ enter ! C Λ (function E) (me ∷ vint w64 i ∷ vint w64 n ∷ []) _ $ alloc_all ! (λ l. pass_all ! refl ((tt, ((tt, (tt, tt)), (tt, tt))), ((tt, record { fits = fits }), ((tt, record { fits = fits_len }), tt))) $
         let En : Env 𝓤 H = env (function E).locals l in
         fsplit ! $ flt_l ! (λ small.
         let s = (mem (R E)).size in
         let far : i * s < 2 ^ 64 = omega (arith, times_below i (length cs) s (2 ^ 63) (omega arith) small) in
-        sets ! (of_opd ! (get_in ! (fld ! refl (stop !)) (sub ! 0 refl (whole !)))) refl (tt, tt) $ first ! $ blocks ! $
+        sets ! (of_opd ! (get_in ! (fld ! refl (fld ! refl (stop !))) (sub ! 0 refl (sub ! 0 refl (whole !))))) refl (tt, tt) $ first ! $ blocks ! $
         sets ! (is ! (bin ! (get ! refl) (size_word !) (record { fits = subst (λ (k : ℕ). k < 2 ^ 64) (sym (uncapped i s far)) far })) (ap (vint w64) (uncapped i s far))) refl (tt, record { fits = far }) $
         sets ! (bin ! (get ! refl) (get ! refl) tt) refl (tt, tt) $
         sets_last ! (agg ! (and_then ! (get ! refl) (and_then ! (get ! refl) (no_more !)))) refl (tt, (tt, (record { fits = fits_len }, tt))) $
@@ -147,8 +147,8 @@ module _ (E : El) {M : Type 1} {𝓤 : Ura M} (𝓛 : Logic 𝓤) (at_mem : Memo
   entry : (us : List Val × List Val × List Val) → IsRun cs i n → ent 𝓤 (on_entry 𝓛 (F.ended E.row).signature (κ, (κ₁, tt)) (q, (q₁, tt)) (d, (i, (n, tt))) (us.0, (us.1, (us.2, tt)))) (WpFn 𝓤 H C Λ (function E) (us.0 ++ (us.1 ++ (us.2 ++ []))) (Post us))
   entry us asked =
       qed 𝓛 ((‵ (flft κ q) ⊛ other) ∷ ‵ (owns (Rg a E ∷ usize ∷ usize ∷ []) (d, (i, (n, tt))) (us.0, (us.1, (us.2, tt)))) ∷ []) ∵
-      split ! $ move ! (2 ∷ []) $ fsplit ! $ fsplit ! $ words_had ! a E d.ptr us.0 (λ e0.
-      rewrite ! 0 (λ (k : Lft). ‵ (region_owns k (R E) d.ptr γ cs)) (sym life) refl $ in_a_block ! d.ptr (λ p. region_owns κ (R E) p γ cs) (id⊢ 𝓤 (never 𝓤)) (λ b o e. move ! (1 ∷ []) $
+      split ! $ move ! (2 ∷ []) $ fsplit ! $ fsplit ! $ words_had ! a E d.shared us.0 (λ e0. drop ! $
+      rewrite ! 0 (λ (k : Lft). ‵ (region_owns k (R E) d.shared.ptr γ cs)) (sym life) refl $ in_a_block ! d.shared.ptr (λ p. region_owns κ (R E) p γ cs) (id⊢ 𝓤 (never 𝓤)) (λ b o e. move ! (1 ∷ []) $
       fsplit ! $ fsplit ! $ feq_l ! (λ e1. flt_l ! (λ fits. fsplit ! $ fsplit ! $ feq_l ! (λ e2. flt_l ! (λ fits_len.
       keep ! (1 ∷ 2 ∷ 3 ∷ []) $
       by ! (subst (λ (ws : List Val × List Val × List Val). ent 𝓤 (⋆ 𝓛 (Had b o)) (WpFn 𝓤 H C Λ (function E) (ws.0 ++ (ws.1 ++ (ws.2 ++ []))) (Post ws))) (λ j. (sym (e0 ∙ ap (λ (p : Ptr). reg p ∷ []) e) j, sym e1 j, sym e2 j)) (walk b o asked fits fits_len))))))))

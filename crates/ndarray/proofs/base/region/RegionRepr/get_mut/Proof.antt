@@ -36,7 +36,7 @@ use types.Logic.{Logic, sem}
 use contract.Monad.{fact, Fun}
 use contract.Running.{tables, tables_of}
 use sound.WpLaws.{WpFn-mono}
-use types.Kit.{Item, ⋆, ‵, raw, ◌⊛◌, some, later, await, pick, ◌$◌, ◌∵◌, !, qed, by, move, keep, drop, use0, use1, use2, use3, split as cut_item, split3, join, group, rewrite, fsplit, fsplit3, fjoin, flt_l, flt_i, feq_l, suffices, frame, done}
+use types.Kit.{Item, ⋆, ‵, raw, ◌⊛◌, some, later, await, pick, ◌$◌, ◌∵◌, !, qed, by, move, keep, drop, use1, use2, use3, split as cut_item, split3, join, group, rewrite, fsplit, fsplit3, fjoin, flt_l, flt_i, feq_l, suffices, frame, done}
 use types.Run.{returns, enter, load}
 use types.Kit.{fpick, fpack}
 use denote.Memory.{cell_at}
@@ -162,20 +162,20 @@ module _ (E W : El) {M : Type 1} {𝓤 : Ura M} (𝓛 : Logic 𝓤) (at_mem : Me
       qed 𝓛 Had ∵ enter ! C Λ (function E W) (vptr rb ro ∷ vint w64 i ∷ []) _ $ alloc_all ! (λ l. pass_all ! refl ((tt, tt), ((tt, record { fits = fits }), tt)) $
       let En : Env 𝓤 H = env (function E W).locals l in
       open_ref ! tt (mem (Rg a E)) {x = d} {b = rb} {o = ro} $
-      use1 𝓛 (‵ (part_at (Words a E) full_share (d.ptr, (tt, tt)) rb ro) ⊛ ‵ (region_owns a.lives (R E) d.ptr d.name cs)) (part_out 𝓛 (G-type.the_type a (R E)) full_share d rb ro) $ cut_item ! $ move ! (1 ∷ []) $
-      in_a_block ! d.ptr (λ p. region_owns a.lives (R E) p d.name cs) (id⊢ 𝓤 (never 𝓤)) (λ b o e. fsplit ! $ flt_l ! (λ small.
-      let is : reg d.ptr ∷ [] ≡ reg (block_ptr b o) ∷ [] = ap (λ (p : Ptr). reg p ∷ []) e in
+      use1 𝓛 (‵ (part_at (Words a E) full_share (d.shared, (tt, tt)) rb ro) ⊛ ‵ (region_owns a.lives (R E) d.shared.ptr d.name cs)) (part_out 𝓛 (G-type.the_type a (R E)) full_share d rb ro) $ cut_item ! $ move ! (1 ∷ []) $
+      in_a_block ! d.shared.ptr (λ p. region_owns a.lives (R E) p d.name cs) (id⊢ 𝓤 (never 𝓤)) (λ b o e. fsplit ! $ flt_l ! (λ small.
+      let is : reg d.shared.ptr ∷ [] ≡ reg (block_ptr b o) ∷ [] = ap (λ (p : Ptr). reg p ∷ []) e in
       let s = (mem (R E)).size in let tiny : s < 2 ^ 64 = omega (arith, one_below (length cs) s (2 ^ 63) (omega arith) small) in
       let far : i * s < 2 ^ 64 = omega (arith, times_below i (length cs) s (2 ^ 63) (omega arith) small) in
-      move ! (1 ∷ []) $ fpick ! (λ vs. fsplit ! $ move ! (1 ∷ []) $ words_had ! a E d.ptr vs (λ ev.
+      move ! (1 ∷ []) $ fpick ! (λ vs. fsplit ! $ move ! (1 ∷ []) $ words_had ! a E d.shared vs (λ ev. move ! (1 ∷ 0 ∷ []) $
       rewrite ! 0 (λ (us : List Val). ‵ (cell_at full_share (Words a E).mir us rb ro)) (ev ∙ is) refl $ first ! $ blocks ! $
-      sets ! (of_opd ! (load ! (through ! refl (fld ! refl (stop !))) (look_in ! 0 (sub ! 0 refl (whole !))))) refl (tt, tt) $
+      sets ! (of_opd ! (load ! (through ! refl (fld ! refl (fld ! refl (stop !)))) (look_in ! 0 (sub ! 0 refl (sub ! 0 refl (whole !)))))) refl (tt, tt) $
       sets ! (bin ! (get ! refl) (size_lit ! (record { fits = tiny })) (record { fits = far })) refl (tt, record { fits = far }) $
       sets ! (bin ! (get ! refl) (get ! refl) tt) refl (tt, tt) $
       sets_last ! (addr ! (through ! refl (stop !))) refl (tt, tt) $ exec ! C Λ En (rest_after 1 (function E W).body) (at_ret En (Post vals)) $ sets ! (of_opd ! (get ! refl)) refl (tt, tt) $
       rewrite ! 0 (λ (us : List Val). ‵ (cell_at full_share (Words a E).mir us rb ro)) (sym is) refl $
-      use0 𝓛 (‵ ((Words a E).own_val (d.ptr, (tt, tt)) (reg d.ptr ∷ []))) (words_made a E 𝓛 d.ptr) $ move ! (1 ∷ 0 ∷ []) $ fjoin ! $
-      fpack ! (List Val) (λ us. fsep (cell_at full_share (Words a E).mir us rb ro) ((Words a E).own_val (d.ptr, (tt, tt)) us)) (reg d.ptr ∷ []) $ move ! (1 ∷ []) $
+      move ! (1 ∷ []) $ use1 𝓛 (‵ ((Words a E).own_val (d.shared, (tt, tt)) (reg d.shared.ptr ∷ []))) (words_made a E 𝓛 d.shared) $ move ! (1 ∷ 0 ∷ []) $ fjoin ! $
+      fpack ! (List Val) (λ us. fsep (cell_at full_share (Words a E).mir us rb ro) ((Words a E).own_val (d.shared, (tt, tt)) us)) (reg d.shared.ptr ∷ []) $ move ! (1 ∷ []) $
       flt_i ! (length cs * (mem (R E)).size) (2 ^ 63) small $ fjoin ! $ rewrite ! 0 (λ (p : Ptr). ‵ (region_owns a.lives (R E) p d.name cs)) (sym e) refl $ move ! (1 ∷ 0 ∷ []) $
       use2 𝓛 (‵ (part_at (Rg a E) full_share d rb ro)) (part_in 𝓛 (G-type.the_type a (R E)) full_share d rb ro) $ close_ref ! tt (mem (Rg a E)) d $
       use3 𝓛 (later (some (λ (ν : GName). ‵ (fobs ν ((ScatteredElements (R E) cs).coded.code (somes cs))) ⊛ ‵ (fbor κ (Borrowed (ScatteredElements (R E) cs) b o ν)) ⊛ ‵ (flft κ q) ⊛ ‵ (after (mem (Rg a E)) (ScatteredElements (R E) cs) γ ν F'))))

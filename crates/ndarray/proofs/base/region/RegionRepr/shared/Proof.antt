@@ -1,32 +1,30 @@
 -- `shared` hands out what a `&` to the region holds of its places. Assumes `Logic`.
 use mathlib.Core.Path.{◌≡◌, refl, sym, subst}
-use Prim.Native.Nat.{ℕ}
+use Prim.Native.Nat.{ℕ, ◌+◌}
 use mathlib.Core.List.{List, [], ◌∷◌, ◌++◌}
 use seplogic.Ra.Ura.{Ura}
 use mir.Syntax.{Fn, Args, named, a_type}
 use mir.MapTy.{inst_fn}
 use mir.Val.{Val, vptr}
-use base.Logic.{mono_r}
-use types.Kit.{at_ret, feq_i}
-use types.Run.{stop, of_opd, addr, first, blocks, exec}
-use types.ByLocal.{through, sets_last, env}
+use types.Kit.{feq_i}
+use types.Run.{stop, fld, addr}
+use types.ByLocal.{through}
 use denote.Exit.{yes}
 use denote.Triple.Walked.{Goes-dropped}
-use Rattle.std_alloc.proofs.VecSteps.Shapes.{after as rest_after}
-use base.Logic.{SProp, ent}
+use base.Logic.{SProp, ent, id⊢}
 use base.Fml.{Lft, Share, ftrue, flft}
 use prog.Memory.{Memory}
 use prog.Routine.{Routine}
-use prog.Wp.{Env, Calls, Loops, WpFn, Tables}
+use prog.Wp.{Calls, Loops, WpFn, Tables}
 use types.Logic.{Logic, sem}
 use contract.Monad.{fact, Fun}
 use contract.Running.{tables, tables_of}
 use sound.WpLaws.{WpFn-mono}
 use types.Kit.{Item, ⋆, ‵, ◌⊛◌, ◌$◌, ◌∵◌, !, raw, qed, by, move, keep, drop, use1, split as cut_item, split3, join, fsplit, fjoin, feq_l, suffices, frame, done}
 use types.Run.{returns, enter}
-use denote.Memory.{hidden_shr}
+use denote.Memory.{hidden_shr, shared_of}
 use denote.Triple.Walked.{Goes-dropped}
-use types.ByLocal.{alloc_all, pass_all, free_all, look_at, get, sets}
+use types.ByLocal.{alloc_all, pass_all, free_all, look_at, sets}
 use denote.RattleType.{RattleType, owns}
 use denote.Ref.{Bor, ShrRef}
 use denote.Builtin.{RefOf}
@@ -40,13 +38,14 @@ use denote.Triple.Spec.{Meets, triple_of}
 use denote.Triple.Table.{entered}
 use denote.Triple.Walked.{says, Stays, stay_dropped, walk_of, ends_at, walk_Meets}
 use Rattle.std.specs.Prelude.{Option}
-use Rattle.core.proofs.mem.Param.{El, el_x}
-use Rattle.ndarray.proofs.regions.Memory.{Rg, Words}
+use Rattle.core.proofs.mem.Param.{El, R, el_x}
+use Rattle.ndarray.specs.base.Scattered.{region_lent, shared_region_lent}
+use Rattle.ndarray.proofs.regions.Memory.{Sn, Rg, Words}
 use Rattle.ndarray.specs.contracts.base.region.RegionRepr.shared as C-fn
 use Rattle.ndarray.specs.contracts.base.region.RegionRepr.shared.Key.{name as #self}
 use Rattle.ndarray.proofs.base.region.RegionRepr.shared.Statement as stated
 use Rattle.ndarray.proofs.base.region.RegionRepr.shared.Code as code
-use Rattle.ndarray.proofs.regions.SharedRegions.{Sn, lent_read}
+use Rattle.ndarray.proofs.regions.SharedRegions.{lent_read}
 
 module _ (E W : El) where
   abbrev args : Args
@@ -74,7 +73,7 @@ module _ (E W : El) {M : Type 1} {𝓤 : Ura M} (𝓛 : Logic 𝓤) (at_mem : Me
   a = param 1 W.row
 
   abbrev d' : (Sn E).Denot
-  d' = record { ptr = z.0.3.0.now.ptr; marker = record {}; slots = z.0.3.0.now.slots }
+  d' = record { ptr = z.0.3.0.now.shared.ptr; marker = record {}; slots = z.0.3.0.now.slots }
 
   abbrev rb : ℕ
   rb = z.0.3.0.ref_ptr.0
@@ -113,19 +112,20 @@ module _ (E W : El) {M : Type 1} {𝓤 : Ura M} (𝓛 : Logic 𝓤) (at_mem : Me
   abbrev Had : List (Item 𝓤)
   Had = ‵ (hidden_shr (Rg a E) κ d rb ro) ∷ ‵ (flft κ q) ∷ other ∷ []
 
-  turns : ent 𝓤 (sem 𝓛 (hidden_shr (Rg a E) κ d rb ro)) (sem 𝓛 (hidden_shr (Sn E) κ d' rb ro))
-  turns = mono_r 𝓤 (sem 𝓛 (hidden_shr (Words a E) κ (d.ptr, (tt, tt)) rb ro)) (lent_read E 𝓛 a.lives κ inm d.ptr cs)
+  turns : ent 𝓤 (sem 𝓛 (hidden_shr (Rg a E) κ d rb ro)) (sem 𝓛 (hidden_shr (Sn E) κ d' rb (ro + 0)))
+  turns = qed 𝓛 (‵ (hidden_shr (Rg a E) κ d rb ro) ∷ []) ∵
+      use1 𝓛 (‵ (shared_of (Words a E) (d.shared, (tt, tt)) rb ro κ) ⊛ ‵ (region_lent a.lives (R E) d.shared.ptr cs κ)) (id⊢ 𝓤 _) $ cut_item ! $ fsplit ! $ fsplit ! $ fsplit ! $
+      -- [the pointer; no places; the mark; what is left of the place; the places]
+      keep ! (0 ∷ 4 ∷ []) $ move ! (1 ∷ []) $ use1 𝓛 (‵ (shared_region_lent (R E) d.shared.ptr cs κ)) (lent_read E 𝓛 a.lives κ inm d.shared.ptr cs) $ move ! (1 ∷ 0 ∷ []) $ fjoin ! $
+      by ! (id⊢ 𝓤 _)
 
   walk : ent 𝓤 (⋆ 𝓛 Had) (WpFn 𝓤 H C Λ (function E W) (vptr rb ro ∷ []) (Post vals))
   walk =
       qed 𝓛 Had ∵ enter ! C Λ (function E W) (vptr rb ro ∷ []) _ $ alloc_all ! (λ l. pass_all ! refl ((tt, tt), tt) $
-      let En : Env 𝓤 H = env (function E W).locals l in
-      use1 𝓛 (‵ (hidden_shr (Sn E) κ d' rb ro)) turns $ first ! $ blocks ! $
-      sets ! (addr ! (through ! refl (stop !))) refl (tt, tt) $
-      sets ! (of_opd ! (get ! refl)) refl (tt, tt) $
-      sets_last ! (addr ! (through ! refl (stop !))) refl (tt, tt) $ exec ! C Λ En (rest_after 1 (function E W).body) (at_ret En (Post vals)) $ sets ! (of_opd ! (get ! refl)) refl (tt, tt) $
-      returns ! (look_at ! 0 refl) $ free_all ! refl $ keep ! (0 ∷ 1 ∷ 2 ∷ []) $ feq_i ! (List Val) (vptr rb ro ∷ []) (vptr rb ro ∷ []) refl $ fjoin ! $ move ! (1 ∷ 0 ∷ []) $
-      by ! (exits (vptr rb ro) (record { ref_ptr = (rb, ro); now = d' }) refl))
+      use1 𝓛 (‵ (hidden_shr (Sn E) κ d' rb (ro + 0))) turns $
+      sets ! (addr ! (through ! refl (fld ! refl (stop !)))) refl (tt, tt) $
+      returns ! (look_at ! 0 refl) $ free_all ! refl $ keep ! (0 ∷ 1 ∷ 2 ∷ []) $ feq_i ! (List Val) (vptr rb (ro + 0) ∷ []) (vptr rb (ro + 0) ∷ []) refl $ fjoin ! $ move ! (1 ∷ 0 ∷ []) $
+      by ! (exits (vptr rb (ro + 0)) (record { ref_ptr = (rb, ro + 0); now = d' }) refl))
 
   entry : (us : List Val) → ent 𝓤 (on_entry 𝓛 (end E W).signature z.0.0 z.0.1 z.0.3 (us, tt)) (WpFn 𝓤 H C Λ (function E W) (us ++ []) (Post us))
   entry us =

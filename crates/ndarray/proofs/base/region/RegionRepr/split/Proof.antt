@@ -54,7 +54,7 @@ use types.Kit.{feq_l}
 use Rattle.ndarray.specs.base.Slots.{somes, slots_in, slots_outside, weave}
 use Rattle.ndarray.specs.base.Scattered.{ScatteredElements, scattered, region_owns}
 use Rattle.ndarray.proofs.regions.Slots.{length-slots_in, length-slots_outside}
-use Rattle.ndarray.proofs.regions.Memory.{Rg, Words, reg, words_had, words_made, pair_val, two_of, says_both, cut, mend}
+use Rattle.ndarray.proofs.regions.Memory.{Rg, Words, reg, at_start, words_had, words_new, pair_val, two_of, says_both, cut, mend}
 use Rattle.ndarray.specs.contracts.base.region.RegionRepr.split as F
 use Rattle.ndarray.specs.contracts.base.region.RegionRepr.split.Key.{name as #self}
 use Rattle.ndarray.proofs.base.region.RegionRepr.split.Statement as stated
@@ -132,9 +132,9 @@ module _ (E W N : El) {M : Type 1} {𝓤 : Ura M} (𝓛 : Logic 𝓤) (at_mem : 
   Two = Tuple (Rg a E ∷ Rg a E ∷ [])
 
   abbrev part : List (Option (el_x E)) → GName → (Rg a E).Denot
-  part ds δ = record { ptr = d.ptr; marker = record {}; name = δ; reborrow_name = d.reborrow_name; slots = ds }
+  part ds δ = record { shared = at_start E d.shared.ptr; marker = record {}; name = δ; reborrow_name = d.reborrow_name; slots = ds }
 
-  module _ (b o : ℕ) (e : d.ptr ≡ block_ptr b o) where
+  module _ (b o : ℕ) (e : d.shared.ptr ≡ block_ptr b o) where
     abbrev me : Val
     me = reg (block_ptr b o)
 
@@ -149,7 +149,7 @@ module _ (E W N : El) {M : Type 1} {𝓤 : Ura M} (𝓛 : Logic 𝓤) (at_mem : 
     exits γs =
         let both : Two.Denot = (part (slots_in m cs) γs.0, part (slots_outside m cs) γs.1) in
         qed 𝓛 (‵ (Two.own_val both (pair ∷ [])) ∷ ‵ (follows_both (Array (R E) 0) (Array (R E) 0) (Array (R E) 0) γ γs.0 γs.1 (weave m cs)) ∷ tokens ∷ []) ∵
-        suffices ! _ (ends_at 𝓛 (end E W N) (stayed E W N) spec (At vals) pair both (tt, (tt, tt)) (tt, (tt, tt))) $
+        suffices ! _ (ends_at 𝓛 (end E W N) (stayed E W N) spec (At vals) pair both ((tt, tt), (tt, tt)) (tt, (tt, tt))) $
         nothing ! $ nothing ! $ fjoin ! $ nothing ! $ fjoin ! $ join ! $ move ! (2 ∷ []) $ join ! $ frame ! $ says_both ! refl refl $ done !
 
     -- one part, from its loan
@@ -157,7 +157,7 @@ module _ (E W N : El) {M : Type 1} {𝓤 : Ura M} (𝓛 : Logic 𝓤) (at_mem : 
         → ent 𝓤 (sep 𝓤 (A.obs δ ((ScatteredElements (R E) ds).coded.code (somes ds))) (A.bor κ (Borrowed (ScatteredElements (R E) ds) b o δ))) (sem 𝓛 ((Rg a E).own_val (part ds δ) (me ∷ [])))
     made ds δ small = qed 𝓛 (‵ (fobs δ ((ScatteredElements (R E) ds).coded.code (somes ds))) ∷ ‵ (fbor κ (Borrowed (ScatteredElements (R E) ds) b o δ)) ∷ []) ∵ fjoin ! $
         flt_i ! (length ds * (mem (R E)).size) (2 ^ 63) small $ fjoin ! $ rewrite ! 0 (λ (p : Ptr). ‵ (region_owns κ (R E) p δ ds)) (sym e) refl $
-        use0 𝓛 (‵ ((Words a E).own_val (d.ptr, (tt, tt)) (reg d.ptr ∷ []))) (words_made a E 𝓛 d.ptr) $ rewrite ! 0 (λ (p : Ptr). ‵ ((Words a E).own_val (d.ptr, (tt, tt)) (reg p ∷ []))) e refl $ fjoin ! $ done !
+        use0 𝓛 (‵ ((Words a E).own_val (at_start E (block_ptr b o), (tt, tt)) (me ∷ []))) (words_new a E 𝓛 b o) $ rewrite ! 0 (λ (p : Ptr). ‵ ((Words a E).own_val (at_start E p, (tt, tt)) (me ∷ []))) (sym e) refl $ fjoin ! $ done !
 
     abbrev Had : List (Item 𝓤)
     Had = ‵ (region_owns κ (R E) (block_ptr b o) γ cs) ∷ tokens ∷ []
@@ -166,7 +166,7 @@ module _ (E W N : El) {M : Type 1} {𝓤 : Ura M} (𝓛 : Logic 𝓤) (at_mem : 
     unfolding both_by
     walk =
         let left = slots_in m cs in let right = slots_outside m cs in
-        qed 𝓛 Had ∵ enter ! C Λ (function E W N) (me ∷ vptr rb ro ∷ []) _ $ alloc_all ! (λ l. pass_all ! refl ((tt, (tt, (tt, tt))), ((tt, tt), tt)) $
+        qed 𝓛 Had ∵ enter ! C Λ (function E W N) (me ∷ vptr rb ro ∷ []) _ $ alloc_all ! (λ l. pass_all ! refl ((tt, ((tt, (tt, tt)), (tt, tt))), ((tt, tt), tt)) $
         fsplit ! $ flt_l ! (λ small. fsplit ! $ move ! (2 ∷ []) $ use1 𝓛 (‵ (flft κ q) ⊛ raw (wand 𝓤 (A.lft κ q) Tokens)) token $ cut_item ! $ move ! (2 ∷ 3 ∷ 0 ∷ []) $
         let s = (mem (R E)).size in let code = (ScatteredElements (R E) cs).coded.code (somes cs) in
         open_ref ! tt (ScatteredElements (R E) cs) {x = somes cs} {b = b} {o = o} $
@@ -178,10 +178,12 @@ module _ (E W N : El) {M : Type 1} {𝓤 : Ura M} (𝓛 : Logic 𝓤) (at_mem : 
         use1 𝓛 (‵ ((Rg a E).own_val (part left γs.0) (me ∷ []))) (made left γs.0 (subst (λ k. k * s < 2 ^ 63) (sym (length-slots_in m cs)) small)) $ move ! (1 ∷ []) $
         use1 𝓛 (‵ ((Rg a E).own_val (part right γs.1) (me ∷ []))) (made right γs.1 (subst (λ k. k * s < 2 ^ 63) (sym (length-slots_outside m cs)) small)) $ move ! (1 ∷ 0 ∷ []) $
         use2 𝓛 (‵ (Two.own_val (part left γs.0, part right γs.1) (pair ∷ []))) (two_of 𝓛 (Rg a E) (Rg a E) (part left γs.0) (part right γs.1) me me) $ move ! (1 ∷ []) $ cut_item ! $ move ! (0 ∷ 3 ∷ []) $ use2 𝓛 tokens (apply∗ 𝓤 (A.lft κ q) Tokens) $
-        sets ! (of_opd ! (get_in ! (fld ! refl (stop !)) (sub ! 0 refl (whole !)))) refl (tt, tt) $
+        sets ! (of_opd ! (get_in ! (fld ! refl (fld ! refl (stop !))) (sub ! 0 refl (sub ! 0 refl (whole !))))) refl (tt, tt) $
         sets ! (agg ! (no_more !)) refl (tt, tt) $ sets ! (agg ! (and_then ! (get ! refl) (and_then ! (get ! refl) (no_more !)))) refl (tt, (tt, (tt, tt))) $
+        sets ! (agg ! (no_more !)) refl (tt, tt) $ sets ! (agg ! (and_then ! (get ! refl) (and_then ! (get ! refl) (no_more !)))) refl (tt, ((tt, (tt, tt)), (tt, tt))) $
         sets ! (agg ! (no_more !)) refl (tt, tt) $ sets ! (agg ! (and_then ! (get ! refl) (and_then ! (get ! refl) (no_more !)))) refl (tt, (tt, (tt, tt))) $
-        sets ! (agg ! (and_then ! (get ! refl) (and_then ! (get ! refl) (no_more !)))) refl (tt, ((tt, (tt, tt)), ((tt, (tt, tt)), tt))) $
+        sets ! (agg ! (no_more !)) refl (tt, tt) $ sets ! (agg ! (and_then ! (get ! refl) (and_then ! (get ! refl) (no_more !)))) refl (tt, ((tt, (tt, tt)), (tt, tt))) $
+        sets ! (agg ! (and_then ! (get ! refl) (and_then ! (get ! refl) (no_more !)))) refl (tt, (((tt, (tt, tt)), (tt, tt)), (((tt, (tt, tt)), (tt, tt)), tt))) $
         returns ! (look_at ! 0 refl) $ free_all ! refl $ keep ! (2 ∷ 1 ∷ 0 ∷ []) $ by ! (exits γs))))
       where
         back : (xs ys : List (el_x E)) → ent 𝓤 (sep 𝓤 (sem 𝓛 (scattered (R E) b o (slots_in m cs) xs)) (sep 𝓤 (sem 𝓛 (scattered (R E) b o (slots_outside m cs) ys)) (emp 𝓤))) (sem 𝓛 (scattered (R E) b o cs (weave m cs xs ys)))
@@ -191,7 +193,7 @@ module _ (E W N : El) {M : Type 1} {𝓤 : Ura M} (𝓛 : Logic 𝓤) (at_mem : 
   entry : (us : List Val × List Val) → ent 𝓤 (on_entry 𝓛 (end E W N).signature z.0.0 z.0.1 z.0.3 (us.0, (us.1, tt))) (WpFn 𝓤 H C Λ (function E W N) (us.0 ++ (us.1 ++ [])) (Post us))
   entry us =
       qed 𝓛 (tokens ∷ ‵ (owns (Rg a E ∷ ShrRef (named 0) z.0.0.0 (Q E W N) ∷ []) z.0.3 (us.0, (us.1, tt))) ∷ []) ∵
-      move ! (1 ∷ []) $ fsplit ! $ fsplit ! $ words_had ! a E d.ptr us.0 (λ e0. in_a_block ! d.ptr (λ p. region_owns κ (R E) p γ cs) (id⊢ 𝓤 (never 𝓤)) (λ b o e.
+      move ! (1 ∷ []) $ fsplit ! $ fsplit ! $ words_had ! a E d.shared us.0 (λ e0. drop ! $ in_a_block ! d.shared.ptr (λ p. region_owns κ (R E) p γ cs) (id⊢ 𝓤 (never 𝓤)) (λ b o e.
       move ! (1 ∷ []) $ fsplit ! $ fsplit ! $ feq_l ! (λ e1. keep ! (2 ∷ 3 ∷ []) $
       by ! (subst (λ (ws : List Val × List Val). ent 𝓤 (⋆ 𝓛 (Had b o e)) (WpFn 𝓤 H C Λ (function E W N) (ws.0 ++ (ws.1 ++ [])) (Post ws))) (λ j. (sym (e0 ∙ ap (λ (p : Ptr). reg p ∷ []) e) j, sym e1 j)) (walk b o e)))))
 

@@ -50,7 +50,7 @@ use denote.Triple.Walked.{Goes-dropped}
 use base.Fml.{fhide}
 use Rattle.core.specs.contracts.marker.PhantomData as marker
 use Rattle.ndarray.specs.base.Scattered.{shared_region_lent}
-use Rattle.ndarray.proofs.regions.SharedRegions.{Sn, Words, told, words_open, run_seen}
+use Rattle.ndarray.proofs.regions.SharedRegions.{Words, told, words_open, run_seen}
 use denote.Memory.{cell_at}
 use types.Part.{look_in}
 use types.ByLocal.{alloc_all, pass_all, free_all, look_at, get, sets}
@@ -70,7 +70,7 @@ use lib.ListN.{length}
 use Rattle.std.specs.Prelude.{Option}
 use Rattle.core.proofs.mem.Param.{El, R, args, el_x}
 use contract.BorrowLft.{◌⊑◌}
-use Rattle.ndarray.proofs.regions.Memory.{reg}
+use Rattle.ndarray.proofs.regions.Memory.{Sn, shared_reg}
 use Rattle.ndarray.specs.contracts.base.region.SharedRegion as G-type
 use Rattle.ndarray.specs.contracts.base.region.SharedRegion.slice as C-fn
 use Rattle.ndarray.specs.contracts.base.region.SharedRegion.slice.Key.{name as #self}
@@ -145,12 +145,12 @@ module _ (E : El) {M : Type 1} {𝓤 : Ura M} (𝓛 : Logic 𝓤) (at_mem : Memo
       use1 𝓛 (‵ (hidden_shr (Words E) κ (d.ptr, (tt, tt)) rb ro) ⊛ ‵ (fhide (shared_region_lent (R E) d.ptr cs κ)))
       (lent_out 𝓛 (G-type.struct (R E)) (G-type.the_codes (R E).Denot (R E).coded (marker.the_row (R E)).coded) (G-type.the_heap (R E)) (G-type.the_lent (R E)) κ d rb ro) $ cut_item ! $ move ! (1 ∷ []) $ unhide ! $
       in_a_block ! d.ptr (λ p. shared_region_lent (R E) p cs κ) (id⊢ 𝓤 (never 𝓤)) (λ b o e. fsplit ! $ flt_l ! (λ small.
-      let is_ptr : reg d.ptr ∷ [] ≡ reg (block_ptr b o) ∷ [] = ap (λ (p : Ptr). reg p ∷ []) e in
+      let is_ptr : shared_reg d.ptr ∷ [] ≡ shared_reg (block_ptr b o) ∷ [] = ap (λ (p : Ptr). shared_reg p ∷ []) e in
       let s = (mem (R E)).size in
       let far : i * s < 2 ^ 64 = omega (arith, times_below i (length cs) s (2 ^ 63) (omega arith) small) in let at : ℕ × ℕ = (b, i * s + o) in
       use1 𝓛 (‵ (elements_shared (R E) xs b (i * s + o) κ)) (run_seen E 𝓛 b κ o cs i n xs (omega arith) filled) $ hide ! $ move ! (1 ∷ 2 ∷ []) $
       looks ! tt (Words E) (words_open E 𝓛) (d.ptr, (tt, tt)) rb ro (λ q' vs. move ! (1 ∷ []) $ peeks ! (Words E) (Is (Words E)) (shows 𝓛 (Words E)) (d.ptr, (tt, tt)) vs (λ p.
-      let ev : vs ≡ reg (block_ptr b o) ∷ [] = told E d.ptr vs p ∙ is_ptr in
+      let ev : vs ≡ shared_reg (block_ptr b o) ∷ [] = told E d.ptr vs p ∙ is_ptr in
       rewrite ! 1 (λ (us : List Val). ‵ (cell_at q' (Words E).mir us rb ro)) ev refl $ first ! $ blocks ! $
       sets ! (of_opd ! (load ! (through ! refl (fld ! refl (stop !))) (look_in ! 1 (sub ! 0 refl (whole !))))) refl (tt, tt) $
       sets ! (is ! (bin ! (get ! refl) (size_word !) (record { fits = subst (λ (k : ℕ). k < 2 ^ 64) (sym (uncapped i s far)) far })) (ap (vint w64) (uncapped i s far))) refl (tt, record { fits = far }) $
