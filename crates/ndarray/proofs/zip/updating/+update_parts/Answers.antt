@@ -101,8 +101,7 @@ update_run-requires-in-Ok-try_flat-clause-can g t c =
     let each = length c.args.slice.now / c.in-Some.cut.len in
     let wide : c.loop-done.from + slice_index ns axis * each ≡ length c.loop-done.slice = i.4 in
     let q = c.requires.can in
-    let left : Left o (g.P.Shaped.lengths c.args.p) (g.P.NdProducer.yields_at c.args.p) g.C.CellCall.call_gives g.C.CellCall.can_call c.args.f c.args.slice.now q.0 ns shown c.loop-done.f c.loop-done.slice c.loop-done.from = i.5 q.0 q.1.0 in
- (
+    let left : Left o (g.P.Shaped.lengths c.args.p) (g.P.NdProducer.yields_at c.args.p) g.C.CellCall.call_gives g.C.CellCall.can_call c.args.f c.args.slice.now q.0 ns shown c.loop-done.f c.loop-done.slice c.loop-done.from = i.5 q.0 q.1.0 in (
       first,
       (
         o,
