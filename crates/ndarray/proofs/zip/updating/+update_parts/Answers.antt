@@ -1,7 +1,8 @@
 use Rattle.std.proofs.Common.{◌≡◌, ◌∙◌, ◌+◌, ◌-◌, ◌*◌, ◌/◌, ◌<◌, ◌≤◌, ℕ, List, Option, arith, ap, sym, subst, refl, length, map, take, drop, sum, Some, Ok, Err}
 use Rattle.std.specs.Prelude.{slice_index}
+use Rattle.std.proofs.Math.Nat.{le_of_lt}
 use Rattle.std.proofs.lemmas.Nat.{mul-le}
-use borrow.Rule.Slice.PartMut.{put_mid}
+use borrow.Rule.Slice.PartMut.{put_mid, same_len_mid}
 use Rattle.ndarray.specs.Orders.{box_in}
 use Rattle.ndarray.specs.Updates.{is_beside, OverwritesTo}
 use Rattle.ndarray.specs.Producers.{IsPart, IsRefinedBy}
@@ -60,6 +61,14 @@ loop-done-init g t c =
       omega (arith, ap (λ n. slice_index ks axis * (length xs / n)) whole ∙ each),
       λ at along. left-all o (g.P.Shaped.lengths c.args.p) (g.P.NdProducer.yields_at c.args.p) g.C.CellCall.call_gives g.C.CellCall.can_call c.args.f xs at less along,
     )
+
+pub split_at-first-requires : goal.split_at-first-requires
+split_at-first-requires g t c =
+    let i = c.loop-done.invariant in
+    record {
+      axis_below = slowest-below c.args.order (g.P.Shaped.lengths c.loop-done.p) c.in-Some.cut.axis.0 i.0;
+      index_at_most = le_of_lt (long-left {index = slice_index (g.P.Shaped.lengths c.loop-done.p) c.in-Some.cut.axis.0} {done = c.loop-done.done} {len = c.in-Some.cut.len} i.1 c.loop-done-test.true);
+    }
 
 pub overflow_add-end : goal.overflow_add-end
 overflow_add-end g t c =
@@ -350,3 +359,23 @@ returns-clause-ran g t c = λ at along.
     (λ r. OverwritesTo (is_beside left.seen (g.P.NdProducer.yields_at p)) g.C.CellCall.call_gives (box_in o (g.P.Shaped.lengths p)) c.loop-done.f (take (length now - from) (drop from now)) r zs)
     (λ r. OverwritesTo (is_beside at (g.P.NdProducer.yields_at c.args.p)) g.C.CellCall.call_gives (box_in o (g.P.Shaped.lengths c.args.p)) c.args.f c.args.slice.now r (put_mid from (length now - from) now zs))
     (λ r w. left-ran left r zs w) (c.update_parts-2.ensures.ran left.seen (left-along left))
+
+-- a part that is put back leaves the slice as long
+pub returns-in-Err-update_run-clause-as_long : goal.returns-in-Err-update_run-clause-as_long
+returns-in-Err-update_run-clause-as_long g t c =
+    same_len_mid c.loop-done.from (c.loop-done.from + length c.args.slice.now / c.in-Some.cut.len - c.loop-done.from) c.loop-done.slice c.update_run-in-Ok-try_flat.new.slice c.in-Err-update_run.ensures.as_long ∙ c.loop-done.invariant.3
+
+pub returns-in-Err-update_parts-clause-as_long : goal.returns-in-Err-update_parts-clause-as_long
+returns-in-Err-update_parts-clause-as_long g t c =
+    same_len_mid c.loop-done.from (c.loop-done.from + length c.args.slice.now / c.in-Some.cut.len - c.loop-done.from) c.loop-done.slice c.update_parts.new.slice c.in-Err-update_parts.ensures.as_long ∙ c.loop-done.invariant.3
+
+pub returns-then-not-flat-clause-as_long : goal.returns-then-not-flat-clause-as_long
+returns-then-not-flat-clause-as_long g t c =
+    let end : ℕ = c.loop-done.from + length c.args.slice.now / c.in-Some.cut.len in
+    let after : List g.row.A.Denot = put_mid c.loop-done.from (c.loop-done.from + length c.args.slice.now / c.in-Some.cut.len - c.loop-done.from) c.loop-done.slice c.update_parts.new.slice in
+    same_len_mid end (length after - end) after c.update_run-then-not-flat.new.slice c.update_run-then-not-flat.ensures.as_long
+    ∙ (same_len_mid c.loop-done.from (c.loop-done.from + length c.args.slice.now / c.in-Some.cut.len - c.loop-done.from) c.loop-done.slice c.update_parts.new.slice c.in-Ok-update_parts.ensures.as_long ∙ c.loop-done.invariant.3)
+
+pub returns-clause-as_long : goal.returns-clause-as_long
+returns-clause-as_long g t c =
+    same_len_mid c.loop-done.from (length c.loop-done.slice - c.loop-done.from) c.loop-done.slice c.update_parts-2.new.slice c.update_parts-2.ensures.as_long ∙ c.loop-done.invariant.3
