@@ -1,4 +1,4 @@
-use Rattle.std.proofs.Common.{◌+◌, ◌<◌, arith, subst, sym, ap, Ok, Err, sum}
+use Rattle.std.proofs.Common.{◌+◌, ◌<◌, subst, sym, ap, Ok, Err, sum}
 use Rattle.std.proofs.Math.Nat.{le_of_lt}
 use Rattle.std.specs.Prelude.{slice_index}
 use Rattle.ndarray.specs.Orders.{box_in}

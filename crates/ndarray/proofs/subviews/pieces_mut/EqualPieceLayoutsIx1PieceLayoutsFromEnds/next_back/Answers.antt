@@ -1,8 +1,7 @@
 -- The last position is that of a piece, and so are those before it.
-use Rattle.std.proofs.Common.{Some, ◌∙◌, sym}
+use Rattle.std.proofs.Common.{Some}
 use Rattle.std.proofs.lemmas.List.Elements.{All-pop}
 use Rattle.ndarray.specs.Index.{InBox}
-use Rattle.ndarray.proofs.boxes.Boxes.{InBox-length}
 use Rattle.ndarray.proofs.subviews.pieces_mut.EqualPieceLayoutsIx1PieceLayoutsFromEnds.next_back.Goals as goal
 
 pub invariant_of-self-2 : goal.invariant_of-self-2
