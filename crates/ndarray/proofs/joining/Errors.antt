@@ -158,6 +158,30 @@ module _ {A : Type 0} where
   -- ---- the same of a list of arrays, by its first one
 
   module _ (a : ℕ) (gs : List (Grid A)) (g : Grid A) (rest : List (Grid A)) (all : gs ≡ g ∷ rest) where
+    pub concatenate-outside : length g.lengths ≤ a → concatenate_error a (shapes_of gs) ≡ Some OutOfBounds
+    concatenate-outside out = ap (λ hs. concatenate_error a (shapes_of hs)) all ∙ if-true _ _ _ (not_from_false (nat_lt a (length g.lengths)) (le-ltb a (length g.lengths) out))
+
+    pub concatenate-differs : a < length g.lengths → list_all (is_same_but_along a g.lengths) (shapes_of rest) ≡ false → concatenate_error a (shapes_of gs) ≡ Some IncompatibleShape
+    concatenate-differs below differ =
+        ap (λ hs. concatenate_error a (shapes_of hs)) all
+        ∙ (if-false _ _ _ (not_from_true (nat_lt a (length g.lengths)) (lt-ltb a (length g.lengths) below))
+        ∙ if-true _ _ _ (not_from_false (list_all (is_same_but_along a g.lengths) (shapes_of rest)) differ))
+
+    pub stack-outside : length g.lengths < a → stack_error a (shapes_of gs) ≡ Some OutOfBounds
+    stack-outside out = ap (λ hs. stack_error a (shapes_of hs)) all ∙ if-true _ _ _ (lt-ltb (length g.lengths) a out)
+
+    module _ (most : a ≤ length g.lengths) where
+      pub stack-differs : list_all (same_index g.lengths) (shapes_of rest) ≡ false → stack_error a (shapes_of gs) ≡ Some IncompatibleShape
+      stack-differs differ =
+          ap (λ hs. stack_error a (shapes_of hs)) all
+          ∙ (if-false _ _ _ (le-ltb (length g.lengths) a most) ∙ if-true _ _ _ (not_from_false (list_all (same_index g.lengths) (shapes_of rest)) differ))
+
+      pub stack-many : list_all (same_index g.lengths) (shapes_of rest) ≡ true → 32 ≤ length g.lengths → stack_error a (shapes_of gs) ≡ Some RangeLimited
+      stack-many same many =
+          ap (λ hs. stack_error a (shapes_of hs)) all
+          ∙ (if-false _ _ _ (le-ltb (length g.lengths) a most)
+          ∙ (if-false _ _ _ (not_from_true (list_all (same_index g.lengths) (shapes_of rest)) same) ∙ if-true _ _ _ (lt-ltb 32 (length g.lengths + 1) (omega (arith, many)))))
+
     module _ (below : a < length g.lengths) (same : list_all (is_same_but_along a g.lengths) (shapes_of rest) ≡ true) where
       pub axes-below : All (λ h. a < length h.lengths) gs
       axes-below =

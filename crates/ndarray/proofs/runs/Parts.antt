@@ -1,5 +1,5 @@
 -- Turns over one part of some places, seen as turns over all of them.
-use Rattle.std.proofs.Common.{◌≡◌, ℕ, ◌+◌, ◌-◌, ◌<◌, List, [], ◌∷◌, ◌++◌, map, get_or, set, sum, Result, Ok, Err, MatchResult, refl, sym, subst, ◌∙◌, ap, arith, inl, inr}
+use Rattle.std.proofs.Common.{◌≡◌, ℕ, ◌+◌, ◌-◌, ◌<◌, ◌≤◌, List, [], ◌∷◌, ◌++◌, map, get_or, set, sum, Result, Ok, Err, MatchResult, refl, sym, subst, ◌∙◌, ap, arith, inl, inr}
 use Rattle.std.specs.List.{FoldsTo, AllByRecursion}
 use Rattle.std.proofs.lemmas.Grind.{get_or-set_at}
 use Rattle.std.proofs.lemmas.List.{append_assoc, append-nil, map-append}
@@ -210,3 +210,18 @@ module _ {T N E : Type 0} (turn : N → T) where
   pub follows-noted : (n : Result N E) (Q R : Result T E → Type 0) → ((r : Result T E) → Q r → R r) → MatchResult n (λ t. Q (Ok (turn t))) (λ e. Q (Err e)) → MatchResult n (λ t. R (Ok (turn t))) (λ e. R (Err e))
   follows-noted (Ok t) Q R f q = f (Ok (turn t)) q
   follows-noted (Err s) Q R f q = f (Err s) q
+
+-- of an axis of `len` indices `index` are left, and `done` counts the others from 1
+pub long-left : {index done len : ℕ} → index + done ≡ len + 1 → done < len → 1 < index
+long-left all more = omega arith
+
+pub next-left : (index done len rest : ℕ) → index + done ≡ len + 1 → rest + 1 ≡ index → rest + (done + 1) ≡ len + 1
+next-left index done len rest all one = omega arith
+
+-- where the first index is cut off, its part has fewer indices in all than the whole
+pub first-fewer : (first part index done len rest all : ℕ) → part ≡ first → first + index ≡ rest + 1 → index + done ≡ len + 1 → rest + done ≡ all + 1 → 1 < len → part < all
+first-fewer first part index done len rest all same cut left walked long = omega arith
+
+-- and so has what is left in the end
+pub last-fewer : (done len rest all : ℕ) → rest + done ≡ all + 1 → 1 < len → len ≤ done → rest < all
+last-fewer done len rest all walked long ended = omega arith

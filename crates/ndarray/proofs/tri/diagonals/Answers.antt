@@ -1,8 +1,10 @@
-use Rattle.std.proofs.Common.{◌≡◌, ◌∙◌, ◌∷◌, [], ◌+◌, ◌++◌, ◌≤◌, All, ap, sym, subst, arith, length, refl, append-nil, inl, inr, w64, ℕ, ℤ, Bool, List, Option, Some}
+use Rattle.std.proofs.Common.{◌≡◌, ◌∙◌, ◌∷◌, [], ◌+◌, ◌++◌, ◌<◌, ◌≤◌, All, ap, sym, subst, arith, length, refl, append-nil, inl, inr, w64, ℕ, ℤ, Bool, List, Option, Some}
 use Rattle.std.specs.Prelude.{filter_map, int_le, ◌&&◌, if◌then◌else◌}
 use Rattle.std.specs.Int.{cast_signed, cast_unsigned}
 use Rattle.std.proofs.lemmas.Int.{to_z-of_z}
+use Rattle.std.proofs.lemmas.Bool.{lt-ltb}
 use Rattle.std.proofs.lemmas.List.Elements.{All-tail}
+use Rattle.std.proofs.lemmas.Result.{IfOk-weaker}
 use Rattle.ndarray.specs.Grid.{cell}
 use Rattle.ndarray.specs.Index.{InBox, row_order, size}
 use Rattle.ndarray.specs.Orders.{cells_in}
@@ -14,6 +16,7 @@ use Rattle.ndarray.proofs.boxes.Orders.{row_order-is}
 use Rattle.ndarray.proofs.cells.Cells.{along-row_order}
 use Rattle.ndarray.proofs.cells.Diagonals.{diagonals-of, indices-fit, kept-one, kept_at, length-all_kept, next-cell, next-kept, none-kept}
 use Rattle.ndarray.proofs.joining.Blocks.{pushed-length, pushed-one}
+use Rattle.ndarray.proofs.joining.Errors.{if-true}
 use Rattle.ndarray.proofs.tri.diagonals.Goals as goal
 use Rattle.ndarray.proofs.tri.diagonals.Goals.{After-into_iter-index-iterator, After-index-in-loop-index-1, After-drop-index-iterator-7}
 
@@ -156,3 +159,9 @@ returns-in_err-cell_or_zero-clause-empty g c none =
     let item = (goal.at.returns-in_err-cell_or_zero-clause-empty g c).After-index-in-loop-index-1 in
     let some = InBox-some c.args.array.now.lengths (index g item) (taken g item).0 in
     absurd (omega (arith, none, some))
+
+-- with fewer than two axes the array itself is the answer
+pub returns-then-ndim-lt2-clause-cells : goal.returns-then-ndim-lt2-clause-cells
+returns-then-ndim-lt2-clause-cells g c =
+    let few = subst (λ n. n < 2) (c.ndim.ensures.value ∙ ap length c.raw_dim-dim.ensures.lengths) c.if-ndim-lt2.true in
+    IfOk-weaker c.to_owned.result _ _ (λ r copy. copy c.requires.clones ∙ sym (if-true _ _ _ (lt-ltb (length c.args.array.now.lengths) 2 few))) c.to_owned.ensures.same

@@ -1,10 +1,16 @@
-use Rattle.std.proofs.Common.{◌∙◌, ◌∷◌, [], None, Some, ap, arith, inl, inr, sym}
+use Rattle.std.proofs.Common.{◌∙◌, ◌∷◌, [], None, Some, ap, arith, get_or, inl, inr, sym}
 use Rattle.ndarray.specs.Integers.{int_products}
 use Rattle.ndarray.specs.Products.{products_of}
 use Rattle.ndarray.proofs.lists.Decisions.{says_no, says_yes}
 use Rattle.ndarray.proofs.sums.InnerSums.{products-ended, products-next}
 use Rattle.ndarray.proofs.sums.MagnitudeSums.{added-end, added-excess, added-next, added-start, magnitudes-summable, negative-of_fits, size-excess}
 use Rattle.ndarray.proofs.reduce.range_tests.dot_stays_in_range.Goals as goal
+
+pub returns-then-n-m-clause-magnitudes : goal.returns-then-n-m-clause-magnitudes
+returns-then-n-m-clause-magnitudes g c =
+    says_no _ (λ h.
+    let same = c.into_pattern-n.ensures ∙ (c.raw_dim.ensures.lengths ∙ (h.0 ∙ sym (c.into_pattern-m.ensures ∙ c.raw_dim-2.ensures.lengths))) in
+    c.if-n-m.true (ap (λ l. get_or l 0 0) same))
 
 pub loop-a-init : goal.loop-a-init
 loop-a-init g c =

@@ -1,11 +1,39 @@
-use Rattle.std.proofs.Common.{◌≡◌, ◌∙◌, ◌+◌, ap, sym, arith, length, drop}
+use Rattle.std.proofs.Common.{◌≡◌, ◌∙◌, ◌+◌, ◌<◌, ◌≤◌, ap, sym, subst, arith, length, drop}
 use Rattle.std.proofs.lemmas.Bool.{false≢true}
 use Rattle.std.proofs.lemmas.List.{length-append}
-use Rattle.ndarray.specs.Index.{size}
+use Rattle.std.proofs.lemmas.List.Elements.{All-get_or}
+use Rattle.ndarray.specs.Index.{InBox, size}
 use Rattle.ndarray.specs.base.Builder.{pushed_all}
-use Rattle.ndarray.specs.stacking.Blocks.{blocks_at}
+use Rattle.ndarray.specs.order.Ranks.{rank}
+use Rattle.ndarray.specs.stacking.Blocks.{HasBlockAt, blocks_at}
 use Rattle.ndarray.proofs.joining.Blocks.{block-is, pushed-length, pushed-more, to-come}
 use Rattle.ndarray.proofs.stacking.blocks.push_blocks.Goals as goal
+use Rattle.ndarray.proofs.stacking.blocks.push_blocks.Goals.{After-copied}
+
+-- where the next array is known
+module _ (g : _) (c : After-copied g) where
+  -- it has its block
+  has : HasBlockAt c.args.axis (g.D.Lengths.numbers c.args.index.now) c.array-item.result
+  has =
+      let P = HasBlockAt {A = g.row.A.Denot} c.args.axis (g.D.Lengths.numbers c.args.index.now) in
+      subst P (sym c.array-item.is) (All-get_or P c.args.arrays.now c.loop-array.array-index c.array-item.result c.loop-array-test.true c.requires.blocks)
+
+  -- and the block is as long as was counted
+  counted : c.block_len-count.result ≡ size (drop c.args.axis c.array-item.result.lengths)
+  counted = c.block_len-count.ensures ∙ ap (λ ns. size (drop c.args.axis ns)) c.raw_dim.ensures.lengths
+
+pub starting_at-cells-requires-clause-within : goal.starting_at-cells-requires-clause-within
+starting_at-cells-requires-clause-within g c = λ some.
+    subst (λ v. InBox v.lengths (g.D.Lengths.numbers c.copied.result)) (sym c.again.ensures.same)
+    (subst (InBox c.array-item.result.lengths) (sym c.copied.ensures.value) ((has g c).within (subst (λ n. 0 < n) (counted g c) some)))
+
+pub starting_at-cells-requires-clause-fits : goal.starting_at-cells-requires-clause-fits
+starting_at-cells-requires-clause-fits g c = λ some.
+    let is = g.D.Lengths.numbers c.args.index.now in
+    let ns = c.array-item.result.lengths in
+    subst (λ v. rank v.lengths (g.D.Lengths.numbers c.copied.result) + c.block_len-count.result ≤ size v.lengths) (sym c.again.ensures.same)
+    (subst (λ js. rank ns js + c.block_len-count.result ≤ size ns) (sym c.copied.ensures.value)
+    (subst (λ n. rank ns is + n ≤ size ns) (sym (counted g c)) ((has g c).fits (subst (λ n. 0 < n) (counted g c) some))))
 
 pub push_clones-requires-clause-room : goal.push_clones-requires-clause-room
 push_clones-requires-clause-room g c =

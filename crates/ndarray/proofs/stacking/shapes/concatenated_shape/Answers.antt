@@ -1,10 +1,30 @@
-use Rattle.std.proofs.Common.{◌≡◌, ◌<◌, ◌∙◌, Some, ap, sym, arith, length, set, true, refl}
+use Rattle.std.proofs.Common.{◌≡◌, ◌<◌, ◌≤◌, ◌∙◌, Some, ap, sym, subst, inl, inr, arith, length, set, true, false, refl}
 use Rattle.std.specs.Prelude.{slice_index, sum_by}
 use Rattle.std.specs.List.{list_all}
+use Rattle.std.proofs.Math.Nat.{le_of_lt}
+use Rattle.std.proofs.lemmas.Bool.{cases_lt, false≢true}
 use Rattle.ndarray.specs.Joining.{is_same_but_along, shapes_of}
+use Rattle.ndarray.specs.Limits.{IsWithinLimit}
 use Rattle.ndarray.specs.stacking.Blocks.{outer_lengths}
-use Rattle.ndarray.proofs.joining.Errors.{axes-below, concatenate-joins, concatenate-overflow, too-long}
+use Rattle.ndarray.proofs.joining.Errors.{axes-below, concatenate-differs, concatenate-joins, concatenate-outside, concatenate-overflow, too-long}
 use Rattle.ndarray.proofs.stacking.shapes.concatenated_shape.Goals as goal
+
+pub returns-then-not-axis_ok : goal.returns-then-not-axis_ok
+returns-then-not-axis_ok g c =
+    let out : length c.in-Some.first.now.lengths ≤ c.args.axis.0 = elim (cases_lt c.args.axis.0 (length c.in-Some.first.now.lengths)) [ inl lt ↦ absurd (false≢true (c.if-not-axis_ok.ensures.1 lt)) | inr ge ↦ ge ] in
+    concatenate-outside c.args.axis.0 c.args.arrays.now c.in-Some.first.now c.in-Some.others.now c.in-Some.ensures.cases.0 out ∙ ap (λ e. Some e.kind) (sym c.from_kind-then-not-axis_ok.ensures)
+
+pub are_same_but_along-requires : goal.are_same_but_along-requires
+are_same_but_along-requires g c = subst (λ ns. c.args.axis.0 < length ns) (sym c.raw_dim-first.ensures.lengths) (c.if-not-axis_ok.ensures.0 refl)
+
+pub returns-then-not-are_same_but_along : goal.returns-then-not-are_same_but_along
+returns-then-not-are_same_but_along g c =
+    let ns = c.in-Some.first.now.lengths in
+    let own = c.raw_dim-first.ensures.lengths in
+    let below : c.args.axis.0 < length ns = c.if-not-axis_ok.ensures.0 refl in
+    let differ : list_all (is_same_but_along c.args.axis.0 ns) (shapes_of c.in-Some.others.now) ≡ false =
+    ap (λ ms. list_all (is_same_but_along c.args.axis.0 ms) (shapes_of c.in-Some.others.now)) (sym own) ∙ sym c.if-not-are_same_but_along.ensures.value in
+    concatenate-differs c.args.axis.0 c.args.arrays.now c.in-Some.first.now c.in-Some.others.now c.in-Some.ensures.cases.0 below differ ∙ ap (λ e. Some e.kind) (sym c.from_kind-then-not-are_same_but_along.ensures)
 
 pub total_len-requires : goal.total_len-requires
 total_len-requires g c =
@@ -26,6 +46,26 @@ returns-in_default-total_len g c =
     concatenate-overflow c.args.axis.0 c.args.arrays.now c.in-Some.first.now c.in-Some.others.now c.in-Some.ensures.cases.0 below same
     (too-long ns c.args.axis.0 _ below (omega (arith, much)))
     ∙ ap (λ e. Some e.kind) (sym c.from_kind-in_default-total_len.ensures)
+
+pub set_axis-requires : goal.set_axis-requires
+set_axis-requires g c = subst (λ ns. c.args.axis.0 < length ns) (sym (c.copied-dim.ensures.value ∙ c.raw_dim-first.ensures.lengths)) (c.if-not-axis_ok.ensures.0 refl)
+
+pub returns-then-not-size_ok : goal.returns-then-not-size_ok
+returns-then-not-size_ok g c =
+    let ns = c.in-Some.first.now.lengths in
+    let own = c.raw_dim-first.ensures.lengths in
+    let below : c.args.axis.0 < length ns = c.if-not-axis_ok.ensures.0 refl in
+    let same : list_all (is_same_but_along c.args.axis.0 ns) (shapes_of c.in-Some.others.now) ≡ true =
+    ap (λ ms. list_all (is_same_but_along c.args.axis.0 ms) (shapes_of c.in-Some.others.now)) (sym own) ∙ sym c.if-not-are_same_but_along.ensures.value in
+    let total = sum_by (λ ms. slice_index ms c.args.axis.0) (shapes_of c.args.arrays.now) in
+    let lengths : g.D.Lengths.numbers c.set_axis.new.self ≡ set ns c.args.axis.0 total =
+    c.set_axis.ensures ∙ (ap (λ l. set l c.args.axis.0 c.in-Some-total_len.len) (c.copied-dim.ensures.value ∙ own) ∙ ap (set ns c.args.axis.0) c.in-Some-total_len.ensures) in
+    concatenate-overflow c.args.axis.0 c.args.arrays.now c.in-Some.first.now c.in-Some.others.now c.in-Some.ensures.cases.0 below same
+    (λ limit. false≢true (c.if-not-size_ok.ensures.1 (subst IsWithinLimit (sym lengths) limit)))
+    ∙ ap (λ e. Some e.kind) (sym c.from_kind-then-not-size_ok.ensures)
+
+pub outer_dim-outer-requires : goal.outer_dim-outer-requires
+outer_dim-outer-requires g c = le_of_lt (subst (λ ns. c.args.axis.0 < length ns) (sym c.raw_dim-first.ensures.lengths) (c.if-not-axis_ok.ensures.0 refl))
 
 pub returns : goal.returns
 returns g c =

@@ -1,12 +1,47 @@
-use Rattle.std.proofs.Common.{◌≡◌, ◌<◌, ◌≤◌, ◌∙◌, Some, ap, sym, subst, arith, length, insert, set, true, refl}
+use Rattle.std.proofs.Common.{◌≡◌, ◌<◌, ◌≤◌, ◌∙◌, Some, ap, sym, subst, arith, length, insert, set, true, false, refl}
 use Rattle.std.specs.List.{list_all}
 use Rattle.std.proofs.lemmas.Bool.{false≢true}
 use Rattle.ndarray.specs.Grid.{same_index}
 use Rattle.ndarray.specs.Joining.{shapes_of}
 use Rattle.ndarray.specs.Limits.{IsWithinLimit}
 use Rattle.ndarray.specs.stacking.Blocks.{outer_lengths}
-use Rattle.ndarray.proofs.joining.Errors.{set-inserted, stack-joins, stack-overflow}
+use Rattle.ndarray.proofs.joining.Errors.{set-inserted, stack-differs, stack-joins, stack-many, stack-outside, stack-overflow}
 use Rattle.ndarray.proofs.stacking.shapes.stacked_shape.Goals as goal
+
+pub returns-then-axis-ndim : goal.returns-then-axis-ndim
+returns-then-axis-ndim g c =
+    let ns = c.in-Some.first.now.lengths in
+    let own = c.raw_dim-first.ensures.lengths in
+    let e = ap length own in
+    let axis = c.if-axis-ndim.true in
+    let axes = c.ndim.ensures.value in
+    let out : length ns < c.args.axis.0 = omega (arith, axis, axes, e) in
+    stack-outside c.args.axis.0 c.args.arrays.now c.in-Some.first.now c.in-Some.others.now c.in-Some.ensures.cases.0 out ∙ ap (λ e. Some e.kind) (sym c.from_kind-then-axis-ndim.ensures)
+
+pub returns-then-not-are_same : goal.returns-then-not-are_same
+returns-then-not-are_same g c =
+    let ns = c.in-Some.first.now.lengths in
+    let own = c.raw_dim-first.ensures.lengths in
+    let e = ap length own in
+    let axis = c.if-axis-ndim.false in
+    let axes = c.ndim.ensures.value in
+    let most : c.args.axis.0 ≤ length ns = omega (arith, axis, axes, e) in
+    let differ : list_all (same_index ns) (shapes_of c.in-Some.others.now) ≡ false = ap (λ ms. list_all (same_index ms) (shapes_of c.in-Some.others.now)) (sym own) ∙ sym c.if-not-are_same.ensures.value in
+    stack-differs c.args.axis.0 c.args.arrays.now c.in-Some.first.now c.in-Some.others.now c.in-Some.ensures.cases.0 most differ ∙ ap (λ e. Some e.kind) (sym c.from_kind-then-not-are_same.ensures)
+
+pub returns-then-ndim-ge32 : goal.returns-then-ndim-ge32
+returns-then-ndim-ge32 g c =
+    let ns = c.in-Some.first.now.lengths in
+    let own = c.raw_dim-first.ensures.lengths in
+    let e = ap length own in
+    let axis = c.if-axis-ndim.false in
+    let axes = c.ndim.ensures.value in
+    let most : c.args.axis.0 ≤ length ns = omega (arith, axis, axes, e) in
+    let same : list_all (same_index ns) (shapes_of c.in-Some.others.now) ≡ true = ap (λ ms. list_all (same_index ms) (shapes_of c.in-Some.others.now)) (sym own) ∙ sym c.if-not-are_same.ensures.value in
+    let above = c.if-ndim-ge32.true in
+    let axes_again = c.ndim-2.ensures.value in
+    let many : 32 ≤ length ns = omega (arith, above, axes_again, e) in
+    stack-many c.args.axis.0 c.args.arrays.now c.in-Some.first.now c.in-Some.others.now c.in-Some.ensures.cases.0 most same many ∙ ap (λ e. Some e.kind) (sym c.from_kind-then-ndim-ge32.ensures)
 
 pub returns-then-not-size_ok : goal.returns-then-not-size_ok
 returns-then-not-size_ok g c =
@@ -16,10 +51,10 @@ returns-then-not-size_ok g c =
     let e = ap length own in
     let axis = c.if-axis-ndim.false in
     let axes = c.ndim.ensures.value in
-    let most : c.args.axis.0 ≤ length ns = omega arith in
+    let most : c.args.axis.0 ≤ length ns = omega (arith, axis, axes, e) in
     let below = c.if-ndim-ge32.false in
     let axes_again = c.ndim-2.ensures.value in
-    let few : length ns < 32 = omega arith in
+    let few : length ns < 32 = omega (arith, below, axes_again, e) in
     let same : list_all (same_index ns) (shapes_of c.in-Some.others.now) ≡ true = ap (λ ms. list_all (same_index ms) (shapes_of c.in-Some.others.now)) (sym own) ∙ sym c.if-not-are_same.ensures.value in
     let lengths : g.D.Larger.Lengths.numbers c.set_axis.new.self ≡ insert ns c.args.axis.0 n =
     c.set_axis.ensures
@@ -37,10 +72,10 @@ returns g c =
     let e = ap length own in
     let axis = c.if-axis-ndim.false in
     let axes = c.ndim.ensures.value in
-    let most : c.args.axis.0 ≤ length ns = omega arith in
+    let most : c.args.axis.0 ≤ length ns = omega (arith, axis, axes, e) in
     let below = c.if-ndim-ge32.false in
     let axes_again = c.ndim-2.ensures.value in
-    let few : length ns < 32 = omega arith in
+    let few : length ns < 32 = omega (arith, below, axes_again, e) in
     let same : list_all (same_index ns) (shapes_of c.in-Some.others.now) ≡ true = ap (λ ms. list_all (same_index ms) (shapes_of c.in-Some.others.now)) (sym own) ∙ sym c.if-not-are_same.ensures.value in
     let lengths : g.D.Larger.Lengths.numbers c.set_axis.new.self ≡ insert ns c.args.axis.0 n =
     c.set_axis.ensures

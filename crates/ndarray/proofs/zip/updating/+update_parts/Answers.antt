@@ -1,34 +1,50 @@
 use Rattle.std.proofs.Common.{◌≡◌, ◌∙◌, ◌+◌, ◌-◌, ◌*◌, ◌/◌, ◌<◌, ◌≤◌, ℕ, List, Option, arith, ap, sym, subst, refl, length, map, take, drop, sum, Some, Ok, Err}
 use Rattle.std.specs.Prelude.{slice_index}
+use Rattle.std.proofs.Math.Nat.{le_of_lt}
 use Rattle.std.proofs.lemmas.Nat.{mul-le}
-use borrow.Rule.Slice.PartMut.{put_mid}
+use borrow.Rule.Slice.PartMut.{put_mid, same_len_mid}
 use Rattle.ndarray.specs.Orders.{box_in}
 use Rattle.ndarray.specs.Updates.{is_beside, OverwritesTo}
-use Rattle.ndarray.specs.order.Cuts.{IsCut, counted_from}
+use Rattle.ndarray.specs.Producers.{IsPart, IsRefinedBy}
+use Rattle.ndarray.specs.order.Cuts.{IsCut, IsSlowest, counted_from}
 use Rattle.ndarray.proofs.boxes.Cuts.{slowest-below}
 use Rattle.ndarray.proofs.runs.OverwrittenParts.{Left, left-all, elements-each, first-along, first-may, first-failed, left-rest, left-along, left-ran, may-overwrite-less, overwrote-less}
-use Rattle.ndarray.proofs.runs.Parts.{first-sum, rest-sum, rest-len, rest-slowest, noted, follows-noted}
+use Rattle.ndarray.proofs.runs.Parts.{first-sum, rest-sum, rest-len, rest-slowest, noted, follows-noted, long-left, next-left, first-fewer, last-fewer}
 use Rattle.ndarray.proofs.runs.Turns.{YieldsInTurn-less}
 use Rattle.ndarray.proofs.zip.updating.+update_parts.Goals as goal
 use Rattle.ndarray.proofs.zip.updating.+update_parts.Goals.{in-Ok-try_flat+in-Ok-update_run, in-Err-try_flat+in-Ok-update_parts+else-not-flat}
 
+-- a part from a place on is as long as its end says
+cut-back : (from each : ℕ) → from + each - from ≡ each
+cut-back from each = omega arith
+
+-- where `index` parts of `each` elements are left from a place on
+from-within : (from index each many : ℕ) → from + index * each ≡ many → from ≤ many
+from-within from index each many all = omega arith
+
+next-place : (from index each many rest now : ℕ) → from + index * each ≡ many → rest + 1 ≡ index → now ≡ many → from + each + rest * each ≡ now
+next-place from index each many rest now all one same = let wide = ap (λ n. n * each) one in omega arith
+
 -- where more than one index is left, the elements beside the next one are within the slice
-next-within : (from index each many : ℕ) → 1 < index → from + index * each ≡ many → from + each ≤ many
-next-within from index each many long all = let one : 1 * each ≤ index * each = mul-le 1 each index each (omega (arith, long)) (omega arith) in omega (arith, one, all)
+next-within : (from index each many done len : ℕ) → index + done ≡ len + 1 → done < len → from + index * each ≡ many → from + each ≤ many
+next-within from index each many done len left more all =
+    let long = long-left {index = index} {done = done} {len = len} left more in
+    let one : 1 * each ≤ index * each = mul-le 1 each index each (omega (arith, long)) (omega arith) in
+    omega (arith, one, all)
 
 pub update_run-requires-in_default-clause-can : goal.update_run-requires-in_default-clause-can
-update_run-requires-in_default-clause-can g t c = let q = c.requires.can in (c.args.p, (c.args.order, (q.0, (YieldsInTurn-less c.args.order c.in-Err.ensures.back c.run.ensures.gives, q.1.0, q.1.1))))
+update_run-requires-in_default-clause-can g t c = let q = c.requires.can in (c.args.p, (c.args.order, (q.0, (YieldsInTurn-less {ns = g.P.Shaped.lengths c.args.p} {yields_at = g.P.NdProducer.yields_at c.args.p} c.args.order c.in-Err.ensures.back c.run.ensures.gives, q.1.0, q.1.1))))
 
 pub returns-in_default-clause-ran : goal.returns-in_default-clause-ran
 returns-in_default-clause-ran g t c = λ at along.
     noted (λ n. n.turn) c.update_run-in_default.result c.note_flat-in_default.result c.note_flat-in_default.ensures
     (λ r. OverwritesTo (is_beside at (g.P.NdProducer.yields_at c.args.p)) g.C.CellCall.call_gives (box_in c.args.order (g.P.Shaped.lengths c.args.p)) c.args.f c.args.slice.now r c.update_run-in_default.new.slice)
-    (c.update_run-in_default.ensures.ran c.args.p c.args.order at (YieldsInTurn-less c.args.order c.in-Err.ensures.back c.run.ensures.gives) along)
+    (c.update_run-in_default.ensures.ran c.args.p c.args.order at (YieldsInTurn-less {ns = g.P.Shaped.lengths c.args.p} {yields_at = g.P.NdProducer.yields_at c.args.p} c.args.order c.in-Err.ensures.back c.run.ensures.gives) along)
 
 pub loop-done-init : goal.loop-done-init
 loop-done-init g t c =
     let o = c.args.order in
-    let less = c.in-Err.ensures.back in
+    let less : IsRefinedBy (g.P.Shaped.lengths c.args.p) (g.P.NdProducer.yields_at c.args.p) (g.P.Shaped.lengths c.in-Err.p) (g.P.NdProducer.yields_at c.in-Err.p) = c.in-Err.ensures.back in
     let axis = c.in-Some.cut.axis.0 in
     let cut = subst (λ ns. IsCut o ns axis c.in-Some.cut.len) c.raw_dim.ensures.lengths c.in-Some.ensures in
     let whole = cut.whole in
@@ -39,56 +55,71 @@ loop-done-init g t c =
     let along : map q.0 (box_in o ks) ≡ map Some xs = subst (λ l. map q.0 (box_in o l) ≡ map Some xs) (sym less.lengths) q.1.0 in
     let each = elements-each o ks q.0 xs axis along (slowest-below o ks axis cut.slowest) (omega (arith, whole, cut.long)) in (
       cut.slowest,
-      omega (arith, whole),
-      omega (arith, many),
+      ap (λ n. n + 1) (sym whole),
+      ap (λ n. n + 1) many,
       refl,
       omega (arith, ap (λ n. slice_index ks axis * (length xs / n)) whole ∙ each),
       λ at along. left-all o (g.P.Shaped.lengths c.args.p) (g.P.NdProducer.yields_at c.args.p) g.C.CellCall.call_gives g.C.CellCall.can_call c.args.f xs at less along,
     )
 
+pub split_at-first-requires : goal.split_at-first-requires
+split_at-first-requires g t c =
+    let i = c.loop-done.invariant in
+    record {
+      axis_below = slowest-below c.args.order (g.P.Shaped.lengths c.loop-done.p) c.in-Some.cut.axis.0 i.0;
+      index_at_most = le_of_lt (long-left {index = slice_index (g.P.Shaped.lengths c.loop-done.p) c.in-Some.cut.axis.0} {done = c.loop-done.done} {len = c.in-Some.cut.len} i.1 c.loop-done-test.true);
+    }
+
 pub overflow_add-end : goal.overflow_add-end
 overflow_add-end g t c =
     let i = c.loop-done.invariant in
-    let within = next-within _ _ _ _ (omega (arith, i.1, c.loop-done.auto.done-end, c.loop-done-test.true)) i.4 in
+    let within = next-within c.loop-done.from (slice_index (g.P.Shaped.lengths c.loop-done.p) c.in-Some.cut.axis.0) (length c.args.slice.now / c.in-Some.cut.len) (length c.loop-done.slice) c.loop-done.done c.in-Some.cut.len i.1 c.loop-done-test.true i.4 in
     omega (arith, within, i.3)
 
 pub slice_bounds-here-count : goal.slice_bounds-here-count
 slice_bounds-here-count g t c =
     let i = c.loop-done.invariant in
-    let within = next-within _ _ _ _ (omega (arith, i.1, c.loop-done.auto.done-end, c.loop-done-test.true)) i.4 in
+    let within = next-within c.loop-done.from (slice_index (g.P.Shaped.lengths c.loop-done.p) c.in-Some.cut.axis.0) (length c.args.slice.now / c.in-Some.cut.len) (length c.loop-done.slice) c.loop-done.done c.in-Some.cut.len i.1 c.loop-done-test.true i.4 in
     omega (arith, within, i.3)
 
 pub slice_bounds-here-start : goal.slice_bounds-here-start
 slice_bounds-here-start g t c =
     let i = c.loop-done.invariant in
-    let within = next-within _ _ _ _ (omega (arith, i.1, c.loop-done.auto.done-end, c.loop-done-test.true)) i.4 in
+    let within = next-within c.loop-done.from (slice_index (g.P.Shaped.lengths c.loop-done.p) c.in-Some.cut.axis.0) (length c.args.slice.now / c.in-Some.cut.len) (length c.loop-done.slice) c.loop-done.done c.in-Some.cut.len i.1 c.loop-done-test.true i.4 in
     omega (arith, within, i.3)
 
 pub slice_bounds-here-end : goal.slice_bounds-here-end
 slice_bounds-here-end g t c =
     let i = c.loop-done.invariant in
-    let within = next-within _ _ _ _ (omega (arith, i.1, c.loop-done.auto.done-end, c.loop-done-test.true)) i.4 in
+    let within = next-within c.loop-done.from (slice_index (g.P.Shaped.lengths c.loop-done.p) c.in-Some.cut.axis.0) (length c.args.slice.now / c.in-Some.cut.len) (length c.loop-done.slice) c.loop-done.done c.in-Some.cut.len i.1 c.loop-done-test.true i.4 in
     omega (arith, within, i.3)
 
 pub update_run-requires-in-Ok-try_flat-clause-can : goal.update_run-requires-in-Ok-try_flat-clause-can
 update_run-requires-in-Ok-try_flat-clause-can g t c =
     let o = c.args.order in
     let i = c.loop-done.invariant in
+    let first = c.split_at-first.result.0 in
+    let ns = g.P.Shaped.lengths c.loop-done.p in
+    let shown = g.P.NdProducer.yields_at c.loop-done.p in
+    let axis = c.in-Some.cut.axis.0 in
+    let rest = c.split_at-first.result.1 in
+    let low : IsPart axis 0 1 ns shown (g.P.Shaped.lengths first) (g.P.NdProducer.yields_at first) = c.split_at-first.ensures.first in
+    let high : IsPart axis 1 (slice_index ns axis) ns shown (g.P.Shaped.lengths rest) (g.P.NdProducer.yields_at rest) = c.split_at-first.ensures.second in
+    let slowest : IsSlowest o ns axis = i.0 in
+    let long = long-left {index = slice_index ns axis} {done = c.loop-done.done} {len = c.in-Some.cut.len} i.1 c.loop-done-test.true in
+    let each = length c.args.slice.now / c.in-Some.cut.len in
+    let wide : c.loop-done.from + slice_index ns axis * each ≡ length c.loop-done.slice = i.4 in
     let q = c.requires.can in
-    let left = i.5 q.0 q.1.0 in
-    let low = c.split_at-first.ensures.first in
-    let high = c.split_at-first.ensures.second in
-    let long : 1 < slice_index (g.P.Shaped.lengths c.loop-done.p) c.in-Some.cut.axis.0 = omega (arith, i.1, c.loop-done.auto.done-end, c.loop-done-test.true) in
-    let first = c.split_at-first.result.0 in (
+    let left : Left o (g.P.Shaped.lengths c.args.p) (g.P.NdProducer.yields_at c.args.p) g.C.CellCall.call_gives g.C.CellCall.can_call c.args.f c.args.slice.now q.0 ns shown c.loop-done.f c.loop-done.slice c.loop-done.from = i.5 q.0 q.1.0 in (
       first,
       (
         o,
         (
-          (λ is. left.seen (counted_from c.in-Some.cut.axis.0 0 is)),
+          (λ is. left.seen (counted_from axis 0 is)),
           (
             c.run_flat-in-Ok-try_flat.ensures.gives first o c.in-Ok-try_flat.ensures.flat,
-            first-along {ns = g.P.Shaped.lengths c.args.p} {yields_at = g.P.NdProducer.yields_at c.args.p} {axis = c.in-Some.cut.axis.0} left i.0 long low high _ i.4 _ (omega arith),
-            first-may {ns = g.P.Shaped.lengths c.args.p} {yields_at = g.P.NdProducer.yields_at c.args.p} {axis = c.in-Some.cut.axis.0} left i.0 long low high q.1.1,
+            first-along left slowest long low high each wide _ (cut-back c.loop-done.from (length c.args.slice.now / c.in-Some.cut.len)),
+            first-may left slowest long low high q.1.1,
           ),
         ),
       ),
@@ -98,156 +129,200 @@ pub returns-in-Err-update_run-clause-ran : goal.returns-in-Err-update_run-clause
 returns-in-Err-update_run-clause-ran g t c = λ at along.
     let o = c.args.order in
     let i = c.loop-done.invariant in
-    let low = c.split_at-first.ensures.first in
-    let high = c.split_at-first.ensures.second in
-    let long : 1 < slice_index (g.P.Shaped.lengths c.loop-done.p) c.in-Some.cut.axis.0 = omega (arith, i.1, c.loop-done.auto.done-end, c.loop-done-test.true) in
     let first = c.split_at-first.result.0 in
-    let part : ℕ = c.loop-done.from + length c.args.slice.now / c.in-Some.cut.len - c.loop-done.from in
-    let all-of : part ≡ length c.args.slice.now / c.in-Some.cut.len = omega arith in
-    let left = i.5 at along in
-    first-failed {ns = g.P.Shaped.lengths c.args.p} {yields_at = g.P.NdProducer.yields_at c.args.p} {axis = c.in-Some.cut.axis.0} left i.0 long low high _ i.4 part all-of c.in-Err-update_run.refused c.update_run-in-Ok-try_flat.new.slice c.in-Err-update_run.ensures.as_long
-    (c.in-Err-update_run.ensures.ran first o (λ is. left.seen (counted_from c.in-Some.cut.axis.0 0 is)) (c.run_flat-in-Ok-try_flat.ensures.gives first o c.in-Ok-try_flat.ensures.flat) (first-along {ns = g.P.Shaped.lengths c.args.p} {yields_at = g.P.NdProducer.yields_at c.args.p} {axis = c.in-Some.cut.axis.0} left i.0 long low high _ i.4 part all-of))
+    let ns = g.P.Shaped.lengths c.loop-done.p in
+    let shown = g.P.NdProducer.yields_at c.loop-done.p in
+    let axis = c.in-Some.cut.axis.0 in
+    let rest = c.split_at-first.result.1 in
+    let low : IsPart axis 0 1 ns shown (g.P.Shaped.lengths first) (g.P.NdProducer.yields_at first) = c.split_at-first.ensures.first in
+    let high : IsPart axis 1 (slice_index ns axis) ns shown (g.P.Shaped.lengths rest) (g.P.NdProducer.yields_at rest) = c.split_at-first.ensures.second in
+    let slowest : IsSlowest o ns axis = i.0 in
+    let long = long-left {index = slice_index ns axis} {done = c.loop-done.done} {len = c.in-Some.cut.len} i.1 c.loop-done-test.true in
+    let each = length c.args.slice.now / c.in-Some.cut.len in
+    let wide : c.loop-done.from + slice_index ns axis * each ≡ length c.loop-done.slice = i.4 in
+    let part : ℕ = c.loop-done.from + each - c.loop-done.from in
+    let all-of : part ≡ each = cut-back c.loop-done.from each in
+    let left : Left o (g.P.Shaped.lengths c.args.p) (g.P.NdProducer.yields_at c.args.p) g.C.CellCall.call_gives g.C.CellCall.can_call c.args.f c.args.slice.now at ns shown c.loop-done.f c.loop-done.slice c.loop-done.from = i.5 at along in
+    first-failed left slowest long low high each wide part all-of c.in-Err-update_run.refused c.update_run-in-Ok-try_flat.new.slice c.in-Err-update_run.ensures.as_long
+    (c.in-Err-update_run.ensures.ran first o (λ is. left.seen (counted_from axis 0 is)) (c.run_flat-in-Ok-try_flat.ensures.gives first o c.in-Ok-try_flat.ensures.flat) (first-along left slowest long low high each wide part all-of))
 
 pub update_parts-requires : goal.update_parts-requires
 update_parts-requires g t c κs within =
     let o = c.args.order in
     let i = c.loop-done.invariant in
-    let low = c.split_at-first.ensures.first in
-    let high = c.split_at-first.ensures.second in
-    let long : 1 < slice_index (g.P.Shaped.lengths c.loop-done.p) c.in-Some.cut.axis.0 = omega (arith, i.1, c.loop-done.auto.done-end, c.loop-done-test.true) in
     let first = c.split_at-first.result.0 in
-    let part : ℕ = c.loop-done.from + length c.args.slice.now / c.in-Some.cut.len - c.loop-done.from in
-    let all-of : part ≡ length c.args.slice.now / c.in-Some.cut.len = omega arith in
+    let ns = g.P.Shaped.lengths c.loop-done.p in
+    let shown = g.P.NdProducer.yields_at c.loop-done.p in
+    let axis = c.in-Some.cut.axis.0 in
+    let rest = c.split_at-first.result.1 in
+    let low : IsPart axis 0 1 ns shown (g.P.Shaped.lengths first) (g.P.NdProducer.yields_at first) = c.split_at-first.ensures.first in
+    let high : IsPart axis 1 (slice_index ns axis) ns shown (g.P.Shaped.lengths rest) (g.P.NdProducer.yields_at rest) = c.split_at-first.ensures.second in
+    let slowest : IsSlowest o ns axis = i.0 in
+    let long = long-left {index = slice_index ns axis} {done = c.loop-done.done} {len = c.in-Some.cut.len} i.1 c.loop-done-test.true in
+    let each = length c.args.slice.now / c.in-Some.cut.len in
+    let wide : c.loop-done.from + slice_index ns axis * each ≡ length c.loop-done.slice = i.4 in
+    let part : ℕ = c.loop-done.from + each - c.loop-done.from in
+    let all-of : part ≡ each = cut-back c.loop-done.from each in
     let q = c.requires.can in
-    let left = i.5 q.0 q.1.0 in
-    let back = c.in-Err-try_flat.ensures.back in
+    let left : Left o (g.P.Shaped.lengths c.args.p) (g.P.NdProducer.yields_at c.args.p) g.C.CellCall.call_gives g.C.CellCall.can_call c.args.f c.args.slice.now q.0 ns shown c.loop-done.f c.loop-done.slice c.loop-done.from = i.5 q.0 q.1.0 in
+    let cut-off = c.in-Err-try_flat.first in
+    let back : IsRefinedBy (g.P.Shaped.lengths first) (g.P.NdProducer.yields_at first) (g.P.Shaped.lengths cut-off) (g.P.NdProducer.yields_at cut-off) = c.in-Err-try_flat.ensures.back in
     let many = ap sum back.lengths in
-    let less = first-sum o i.0 long low high in
-    let seen : List ℕ → Option g.row.A.Denot = λ is. left.seen (counted_from c.in-Some.cut.axis.0 0 is) in
-    let along = subst (λ ns. map seen (box_in o ns) ≡ map Some (take part (drop c.loop-done.from c.loop-done.slice))) (sym back.lengths) (first-along {ns = g.P.Shaped.lengths c.args.p} {yields_at = g.P.NdProducer.yields_at c.args.p} {axis = c.in-Some.cut.axis.0} left i.0 long low high _ i.4 part all-of) in
-    (omega (arith, many, less, i.1, i.2, c.loop-done.auto.done-end, c.loop-done-test.true, c.in-Some.ensures.long, c.decreases), (within.0, (within.1.0, (within.1.1.0, (within.1.1.1.0, (within.1.1.1.1.0, (within.1.1.1.1.1.0, (within.1.1.1.1.1.1.0, (within.1.1.1.1.1.1.1, (seen, (along, may-overwrite-less o back seen g.C.CellCall.call_gives c.loop-done.f g.C.CellCall.can_call (first-may {ns = g.P.Shaped.lengths c.args.p} {yields_at = g.P.NdProducer.yields_at c.args.p} {axis = c.in-Some.cut.axis.0} left i.0 long low high q.1.1))))))))))))
+    let less = first-sum o slowest long low high in
+    let seen : List ℕ → Option g.row.A.Denot = λ is. left.seen (counted_from axis 0 is) in
+    let along = subst (λ ns. map seen (box_in o ns) ≡ map Some (take part (drop c.loop-done.from c.loop-done.slice))) (sym back.lengths) (first-along left slowest long low high each wide part all-of) in
+    (subst (λ n. sum (g.P.Shaped.lengths cut-off) < n) c.decreases (first-fewer (sum (g.P.Shaped.lengths first)) (sum (g.P.Shaped.lengths cut-off)) (slice_index ns axis) c.loop-done.done c.in-Some.cut.len (sum ns) (sum (g.P.Shaped.lengths c.args.p)) many less i.1 i.2 c.in-Some.ensures.long), (within.0, (within.1.0, (within.1.1.0, (within.1.1.1.0, (within.1.1.1.1.0, (within.1.1.1.1.1.0, (within.1.1.1.1.1.1.0, (within.1.1.1.1.1.1.1, (seen, (along, may-overwrite-less o back seen g.C.CellCall.call_gives c.loop-done.f g.C.CellCall.can_call (first-may left slowest long low high q.1.1))))))))))))
 
 pub returns-in-Err-update_parts-clause-ran : goal.returns-in-Err-update_parts-clause-ran
 returns-in-Err-update_parts-clause-ran g t c = λ at along.
     let o = c.args.order in
     let i = c.loop-done.invariant in
-    let low = c.split_at-first.ensures.first in
-    let high = c.split_at-first.ensures.second in
-    let long : 1 < slice_index (g.P.Shaped.lengths c.loop-done.p) c.in-Some.cut.axis.0 = omega (arith, i.1, c.loop-done.auto.done-end, c.loop-done-test.true) in
     let first = c.split_at-first.result.0 in
-    let part : ℕ = c.loop-done.from + length c.args.slice.now / c.in-Some.cut.len - c.loop-done.from in
-    let all-of : part ≡ length c.args.slice.now / c.in-Some.cut.len = omega arith in
-    let left = i.5 at along in
-    let back = c.in-Err-try_flat.ensures.back in
-    let seen : List ℕ → Option g.row.A.Denot = λ is. left.seen (counted_from c.in-Some.cut.axis.0 0 is) in
-    let here = first-along {ns = g.P.Shaped.lengths c.args.p} {yields_at = g.P.NdProducer.yields_at c.args.p} {axis = c.in-Some.cut.axis.0} left i.0 long low high _ i.4 part all-of in
-    first-failed {ns = g.P.Shaped.lengths c.args.p} {yields_at = g.P.NdProducer.yields_at c.args.p} {axis = c.in-Some.cut.axis.0} left i.0 long low high _ i.4 part all-of c.in-Err-update_parts.refused c.update_parts.new.slice c.in-Err-update_parts.ensures.as_long
+    let ns = g.P.Shaped.lengths c.loop-done.p in
+    let shown = g.P.NdProducer.yields_at c.loop-done.p in
+    let axis = c.in-Some.cut.axis.0 in
+    let rest = c.split_at-first.result.1 in
+    let low : IsPart axis 0 1 ns shown (g.P.Shaped.lengths first) (g.P.NdProducer.yields_at first) = c.split_at-first.ensures.first in
+    let high : IsPart axis 1 (slice_index ns axis) ns shown (g.P.Shaped.lengths rest) (g.P.NdProducer.yields_at rest) = c.split_at-first.ensures.second in
+    let slowest : IsSlowest o ns axis = i.0 in
+    let long = long-left {index = slice_index ns axis} {done = c.loop-done.done} {len = c.in-Some.cut.len} i.1 c.loop-done-test.true in
+    let each = length c.args.slice.now / c.in-Some.cut.len in
+    let wide : c.loop-done.from + slice_index ns axis * each ≡ length c.loop-done.slice = i.4 in
+    let part : ℕ = c.loop-done.from + each - c.loop-done.from in
+    let all-of : part ≡ each = cut-back c.loop-done.from each in
+    let left : Left o (g.P.Shaped.lengths c.args.p) (g.P.NdProducer.yields_at c.args.p) g.C.CellCall.call_gives g.C.CellCall.can_call c.args.f c.args.slice.now at ns shown c.loop-done.f c.loop-done.slice c.loop-done.from = i.5 at along in
+    let cut-off = c.in-Err-try_flat.first in
+    let back : IsRefinedBy (g.P.Shaped.lengths first) (g.P.NdProducer.yields_at first) (g.P.Shaped.lengths cut-off) (g.P.NdProducer.yields_at cut-off) = c.in-Err-try_flat.ensures.back in
+    let seen : List ℕ → Option g.row.A.Denot = λ is. left.seen (counted_from axis 0 is) in
+    let here = first-along left slowest long low high each wide part all-of in
+    first-failed left slowest long low high each wide part all-of c.in-Err-update_parts.refused c.update_parts.new.slice c.in-Err-update_parts.ensures.as_long
     (overwrote-less o back seen g.C.CellCall.call_gives c.loop-done.f (take part (drop c.loop-done.from c.loop-done.slice)) (Err c.in-Err-update_parts.refused) c.update_parts.new.slice
     (c.in-Err-update_parts.ensures.ran seen (subst (λ ns. map seen (box_in o ns) ≡ map Some (take part (drop c.loop-done.from c.loop-done.slice))) (sym back.lengths) here)))
 
 pub slice_bounds-update_run-count : goal.slice_bounds-update_run-count
 slice_bounds-update_run-count g t c =
     let i = c.loop-done.invariant in
-    let within = next-within _ _ _ _ (omega (arith, i.1, c.loop-done.auto.done-end, c.loop-done-test.true)) i.4 in
+    let within = next-within c.loop-done.from (slice_index (g.P.Shaped.lengths c.loop-done.p) c.in-Some.cut.axis.0) (length c.args.slice.now / c.in-Some.cut.len) (length c.loop-done.slice) c.loop-done.done c.in-Some.cut.len i.1 c.loop-done-test.true i.4 in
     omega (arith, within, i.3)
 
 pub slice_bounds-update_run-start : goal.slice_bounds-update_run-start
 slice_bounds-update_run-start g t c =
     let i = c.loop-done.invariant in
-    let within = next-within _ _ _ _ (omega (arith, i.1, c.loop-done.auto.done-end, c.loop-done-test.true)) i.4 in
+    let within = next-within c.loop-done.from (slice_index (g.P.Shaped.lengths c.loop-done.p) c.in-Some.cut.axis.0) (length c.args.slice.now / c.in-Some.cut.len) (length c.loop-done.slice) c.loop-done.done c.in-Some.cut.len i.1 c.loop-done-test.true i.4 in
     omega (arith, within, i.3)
 
 pub slice_bounds-update_run-end : goal.slice_bounds-update_run-end
 slice_bounds-update_run-end g t c =
     let i = c.loop-done.invariant in
-    let within = next-within _ _ _ _ (omega (arith, i.1, c.loop-done.auto.done-end, c.loop-done-test.true)) i.4 in
+    let within = next-within c.loop-done.from (slice_index (g.P.Shaped.lengths c.loop-done.p) c.in-Some.cut.axis.0) (length c.args.slice.now / c.in-Some.cut.len) (length c.loop-done.slice) c.loop-done.done c.in-Some.cut.len i.1 c.loop-done-test.true i.4 in
     omega (arith, within, i.3)
 
 pub update_run-requires-then-not-flat-clause-can : goal.update_run-requires-then-not-flat-clause-can
 update_run-requires-then-not-flat-clause-can g t c =
     let o = c.args.order in
     let i = c.loop-done.invariant in
-    let low = c.split_at-first.ensures.first in
-    let high = c.split_at-first.ensures.second in
-    let long : 1 < slice_index (g.P.Shaped.lengths c.loop-done.p) c.in-Some.cut.axis.0 = omega (arith, i.1, c.loop-done.auto.done-end, c.loop-done-test.true) in
     let first = c.split_at-first.result.0 in
-    let part : ℕ = c.loop-done.from + length c.args.slice.now / c.in-Some.cut.len - c.loop-done.from in
-    let all-of : part ≡ length c.args.slice.now / c.in-Some.cut.len = omega arith in
+    let ns = g.P.Shaped.lengths c.loop-done.p in
+    let shown = g.P.NdProducer.yields_at c.loop-done.p in
+    let axis = c.in-Some.cut.axis.0 in
+    let rest = c.split_at-first.result.1 in
+    let low : IsPart axis 0 1 ns shown (g.P.Shaped.lengths first) (g.P.NdProducer.yields_at first) = c.split_at-first.ensures.first in
+    let high : IsPart axis 1 (slice_index ns axis) ns shown (g.P.Shaped.lengths rest) (g.P.NdProducer.yields_at rest) = c.split_at-first.ensures.second in
+    let slowest : IsSlowest o ns axis = i.0 in
+    let long = long-left {index = slice_index ns axis} {done = c.loop-done.done} {len = c.in-Some.cut.len} i.1 c.loop-done-test.true in
+    let each = length c.args.slice.now / c.in-Some.cut.len in
+    let wide : c.loop-done.from + slice_index ns axis * each ≡ length c.loop-done.slice = i.4 in
+    let part : ℕ = c.loop-done.from + each - c.loop-done.from in
+    let all-of : part ≡ each = cut-back c.loop-done.from each in
     let q = c.requires.can in
-    let left = i.5 q.0 q.1.0 in
-    let back = c.in-Err-try_flat.ensures.back in
-    let seen : List ℕ → Option g.row.A.Denot = λ is. left.seen (counted_from c.in-Some.cut.axis.0 0 is) in
-    let here = first-along {ns = g.P.Shaped.lengths c.args.p} {yields_at = g.P.NdProducer.yields_at c.args.p} {axis = c.in-Some.cut.axis.0} left i.0 long low high _ i.4 part all-of in
+    let left : Left o (g.P.Shaped.lengths c.args.p) (g.P.NdProducer.yields_at c.args.p) g.C.CellCall.call_gives g.C.CellCall.can_call c.args.f c.args.slice.now q.0 ns shown c.loop-done.f c.loop-done.slice c.loop-done.from = i.5 q.0 q.1.0 in
+    let cut-off = c.in-Err-try_flat.first in
+    let back : IsRefinedBy (g.P.Shaped.lengths first) (g.P.NdProducer.yields_at first) (g.P.Shaped.lengths cut-off) (g.P.NdProducer.yields_at cut-off) = c.in-Err-try_flat.ensures.back in
+    let seen : List ℕ → Option g.row.A.Denot = λ is. left.seen (counted_from axis 0 is) in
+    let here = first-along left slowest long low high each wide part all-of in
     let k = c.in-Ok-update_parts.field-0.turn in
     let ys = c.update_parts.new.slice in
     let ran =
     overwrote-less o back seen g.C.CellCall.call_gives c.loop-done.f (take part (drop c.loop-done.from c.loop-done.slice)) (Ok k) ys
     (c.in-Ok-update_parts.ensures.ran seen (subst (λ ns. map seen (box_in o ns) ≡ map Some (take part (drop c.loop-done.from c.loop-done.slice))) (sym back.lengths) here)) in
-    let rest = left-rest {ns = g.P.Shaped.lengths c.args.p} {yields_at = g.P.NdProducer.yields_at c.args.p} {axis = c.in-Some.cut.axis.0} left i.0 long low high _ i.4 part all-of k ys c.in-Ok-update_parts.ensures.as_long (omega (arith, i.4)) ran (put_mid c.loop-done.from part c.loop-done.slice ys) (c.loop-done.from + length c.args.slice.now / c.in-Some.cut.len) refl (omega arith) in
-    (c.split_at-first.result.1, (o, (rest.seen, (c.run-then-not-flat.ensures.gives, left-along rest, rest.may q.1.1))))
+    let behind = left-rest left slowest long low high each wide part all-of k ys c.in-Ok-update_parts.ensures.as_long (from-within c.loop-done.from (slice_index ns axis) each (length c.loop-done.slice) wide) ran (put_mid c.loop-done.from part c.loop-done.slice ys) (c.loop-done.from + length c.args.slice.now / c.in-Some.cut.len) refl (ap (λ n. c.loop-done.from + n) (sym all-of)) in
+    (rest, (o, (behind.seen, (c.run-then-not-flat.ensures.gives, left-along behind, behind.may q.1.1))))
 
 pub returns-then-not-flat-clause-ran : goal.returns-then-not-flat-clause-ran
 returns-then-not-flat-clause-ran g t c = λ at along.
     let o = c.args.order in
     let i = c.loop-done.invariant in
-    let low = c.split_at-first.ensures.first in
-    let high = c.split_at-first.ensures.second in
-    let long : 1 < slice_index (g.P.Shaped.lengths c.loop-done.p) c.in-Some.cut.axis.0 = omega (arith, i.1, c.loop-done.auto.done-end, c.loop-done-test.true) in
     let first = c.split_at-first.result.0 in
-    let part : ℕ = c.loop-done.from + length c.args.slice.now / c.in-Some.cut.len - c.loop-done.from in
-    let all-of : part ≡ length c.args.slice.now / c.in-Some.cut.len = omega arith in
-    let left = i.5 at along in
-    let back = c.in-Err-try_flat.ensures.back in
-    let seen : List ℕ → Option g.row.A.Denot = λ is. left.seen (counted_from c.in-Some.cut.axis.0 0 is) in
-    let here = first-along {ns = g.P.Shaped.lengths c.args.p} {yields_at = g.P.NdProducer.yields_at c.args.p} {axis = c.in-Some.cut.axis.0} left i.0 long low high _ i.4 part all-of in
+    let ns = g.P.Shaped.lengths c.loop-done.p in
+    let shown = g.P.NdProducer.yields_at c.loop-done.p in
+    let axis = c.in-Some.cut.axis.0 in
+    let rest = c.split_at-first.result.1 in
+    let low : IsPart axis 0 1 ns shown (g.P.Shaped.lengths first) (g.P.NdProducer.yields_at first) = c.split_at-first.ensures.first in
+    let high : IsPart axis 1 (slice_index ns axis) ns shown (g.P.Shaped.lengths rest) (g.P.NdProducer.yields_at rest) = c.split_at-first.ensures.second in
+    let slowest : IsSlowest o ns axis = i.0 in
+    let long = long-left {index = slice_index ns axis} {done = c.loop-done.done} {len = c.in-Some.cut.len} i.1 c.loop-done-test.true in
+    let each = length c.args.slice.now / c.in-Some.cut.len in
+    let wide : c.loop-done.from + slice_index ns axis * each ≡ length c.loop-done.slice = i.4 in
+    let part : ℕ = c.loop-done.from + each - c.loop-done.from in
+    let all-of : part ≡ each = cut-back c.loop-done.from each in
+    let left : Left o (g.P.Shaped.lengths c.args.p) (g.P.NdProducer.yields_at c.args.p) g.C.CellCall.call_gives g.C.CellCall.can_call c.args.f c.args.slice.now at ns shown c.loop-done.f c.loop-done.slice c.loop-done.from = i.5 at along in
+    let cut-off = c.in-Err-try_flat.first in
+    let back : IsRefinedBy (g.P.Shaped.lengths first) (g.P.NdProducer.yields_at first) (g.P.Shaped.lengths cut-off) (g.P.NdProducer.yields_at cut-off) = c.in-Err-try_flat.ensures.back in
+    let seen : List ℕ → Option g.row.A.Denot = λ is. left.seen (counted_from axis 0 is) in
+    let here = first-along left slowest long low high each wide part all-of in
     let k = c.in-Ok-update_parts.field-0.turn in
     let ys = c.update_parts.new.slice in
     let ran =
     overwrote-less o back seen g.C.CellCall.call_gives c.loop-done.f (take part (drop c.loop-done.from c.loop-done.slice)) (Ok k) ys
     (c.in-Ok-update_parts.ensures.ran seen (subst (λ ns. map seen (box_in o ns) ≡ map Some (take part (drop c.loop-done.from c.loop-done.slice))) (sym back.lengths) here)) in
-    let rest = left-rest {ns = g.P.Shaped.lengths c.args.p} {yields_at = g.P.NdProducer.yields_at c.args.p} {axis = c.in-Some.cut.axis.0} left i.0 long low high _ i.4 part all-of k ys c.in-Ok-update_parts.ensures.as_long (omega (arith, i.4)) ran (put_mid c.loop-done.from part c.loop-done.slice ys) (c.loop-done.from + length c.args.slice.now / c.in-Some.cut.len) refl (omega arith) in
+    let behind = left-rest left slowest long low high each wide part all-of k ys c.in-Ok-update_parts.ensures.as_long (from-within c.loop-done.from (slice_index ns axis) each (length c.loop-done.slice) wide) ran (put_mid c.loop-done.from part c.loop-done.slice ys) (c.loop-done.from + length c.args.slice.now / c.in-Some.cut.len) refl (ap (λ n. c.loop-done.from + n) (sym all-of)) in
     let end : ℕ = c.loop-done.from + length c.args.slice.now / c.in-Some.cut.len in
     let after : List g.row.A.Denot = put_mid c.loop-done.from part c.loop-done.slice ys in
     let zs = c.update_run-then-not-flat.new.slice in
     noted (λ n. n.turn) c.update_run-then-not-flat.result c.note_flat-then-not-flat.result c.note_flat-then-not-flat.ensures
     (λ r. OverwritesTo (is_beside at (g.P.NdProducer.yields_at c.args.p)) g.C.CellCall.call_gives (box_in o (g.P.Shaped.lengths c.args.p)) c.args.f c.args.slice.now r (put_mid end (length after - end) after zs))
-    (left-ran rest c.update_run-then-not-flat.result zs (c.update_run-then-not-flat.ensures.ran c.split_at-first.result.1 o rest.seen c.run-then-not-flat.ensures.gives (left-along rest)))
+    (left-ran behind c.update_run-then-not-flat.result zs (c.update_run-then-not-flat.ensures.ran rest o behind.seen c.run-then-not-flat.ensures.gives (left-along behind)))
 
 pub loop-done-preserved : goal.loop-done-preserved
 loop-done-preserved g t c =
     let o = c.args.order in
     let i = c.loop-done.invariant in
-    let low = c.split_at-first.ensures.first in
-    let high = c.split_at-first.ensures.second in
-    let long : 1 < slice_index (g.P.Shaped.lengths c.loop-done.p) c.in-Some.cut.axis.0 = omega (arith, i.1, c.loop-done.auto.done-end, c.loop-done-test.true) in
     let first = c.split_at-first.result.0 in
-    let part : ℕ = c.loop-done.from + length c.args.slice.now / c.in-Some.cut.len - c.loop-done.from in
-    let all-of : part ≡ length c.args.slice.now / c.in-Some.cut.len = omega arith in
+    let ns = g.P.Shaped.lengths c.loop-done.p in
+    let shown = g.P.NdProducer.yields_at c.loop-done.p in
     let axis = c.in-Some.cut.axis.0 in
-    let shorter = rest-len o i.0 long low high in
-    let less = rest-sum o i.0 long low high in
-    let wide = ap (λ n. n * (length c.args.slice.now / c.in-Some.cut.len)) shorter in
+    let rest = c.split_at-first.result.1 in
+    let low : IsPart axis 0 1 ns shown (g.P.Shaped.lengths first) (g.P.NdProducer.yields_at first) = c.split_at-first.ensures.first in
+    let high : IsPart axis 1 (slice_index ns axis) ns shown (g.P.Shaped.lengths rest) (g.P.NdProducer.yields_at rest) = c.split_at-first.ensures.second in
+    let slowest : IsSlowest o ns axis = i.0 in
+    let long = long-left {index = slice_index ns axis} {done = c.loop-done.done} {len = c.in-Some.cut.len} i.1 c.loop-done-test.true in
+    let each = length c.args.slice.now / c.in-Some.cut.len in
+    let wide : c.loop-done.from + slice_index ns axis * each ≡ length c.loop-done.slice = i.4 in
+    let part : ℕ = c.loop-done.from + each - c.loop-done.from in
+    let all-of : part ≡ each = cut-back c.loop-done.from each in
+    let shorter = rest-len o slowest long low high in
+    let less = rest-sum o slowest long low high in
     let many : length c.match-try_flat.slice ≡ length c.loop-done.slice = omega (arith, c.match-try_flat.auto.slice, c.loop-done.auto.slice) in (
-      rest-slowest o i.0 long low high,
-      omega (arith, shorter, i.1),
-      omega (arith, less, i.2),
+      rest-slowest o slowest long low high,
+      next-left (slice_index ns axis) c.loop-done.done c.in-Some.cut.len (slice_index (g.P.Shaped.lengths rest) axis) i.1 shorter,
+      next-left (sum ns) c.loop-done.done (sum (g.P.Shaped.lengths c.args.p)) (sum (g.P.Shaped.lengths rest)) i.2 less,
       omega (arith, many, i.3),
-      omega (arith, many, wide, i.4),
+      next-place c.loop-done.from (slice_index ns axis) each (length c.loop-done.slice) (slice_index (g.P.Shaped.lengths rest) axis) (length c.match-try_flat.slice) wide shorter many,
       λ at along.
-          let left = i.5 at along in
+          let left : Left o (g.P.Shaped.lengths c.args.p) (g.P.NdProducer.yields_at c.args.p) g.C.CellCall.call_gives g.C.CellCall.can_call c.args.f c.args.slice.now at ns shown c.loop-done.f c.loop-done.slice c.loop-done.from = i.5 at along in
           let seen : List ℕ → Option g.row.A.Denot = λ is. left.seen (counted_from axis 0 is) in
-          let here = first-along {ns = g.P.Shaped.lengths c.args.p} {yields_at = g.P.NdProducer.yields_at c.args.p} {axis = c.in-Some.cut.axis.0} left i.0 long low high _ i.4 part all-of in
+          let here = first-along left slowest long low high each wide part all-of in
           elim c.match-try_flat.branch [
             | in-Ok-try_flat+in-Ok-update_run w ↦
-                subst (λ k. Left o (g.P.Shaped.lengths c.args.p) (g.P.NdProducer.yields_at c.args.p) g.C.CellCall.call_gives g.C.CellCall.can_call c.args.f c.args.slice.now at (g.P.Shaped.lengths c.split_at-first.result.1) (g.P.NdProducer.yields_at c.split_at-first.result.1) k c.match-try_flat.slice (c.loop-done.from + length c.args.slice.now / c.in-Some.cut.len)) (sym w.f-is)
-                (left-rest {ns = g.P.Shaped.lengths c.args.p} {yields_at = g.P.NdProducer.yields_at c.args.p} {axis = c.in-Some.cut.axis.0} left i.0 long low high _ i.4 part all-of w.in-Ok-update_run.next w.update_run-in-Ok-try_flat.new.slice w.in-Ok-update_run.ensures.as_long (omega (arith, i.4))
-                (w.in-Ok-update_run.ensures.ran first o seen (w.run_flat-in-Ok-try_flat.ensures.gives first o w.in-Ok-try_flat.ensures.flat) here) c.match-try_flat.slice (c.loop-done.from + length c.args.slice.now / c.in-Some.cut.len) w.slice-is (omega arith))
+                subst (λ k. Left o (g.P.Shaped.lengths c.args.p) (g.P.NdProducer.yields_at c.args.p) g.C.CellCall.call_gives g.C.CellCall.can_call c.args.f c.args.slice.now at (g.P.Shaped.lengths rest) (g.P.NdProducer.yields_at rest) k c.match-try_flat.slice (c.loop-done.from + length c.args.slice.now / c.in-Some.cut.len)) (sym w.f-is)
+                (left-rest left slowest long low high each wide part all-of w.in-Ok-update_run.next w.update_run-in-Ok-try_flat.new.slice w.in-Ok-update_run.ensures.as_long (from-within c.loop-done.from (slice_index ns axis) each (length c.loop-done.slice) wide)
+                (w.in-Ok-update_run.ensures.ran first o seen (w.run_flat-in-Ok-try_flat.ensures.gives first o w.in-Ok-try_flat.ensures.flat) here) c.match-try_flat.slice (c.loop-done.from + length c.args.slice.now / c.in-Some.cut.len) w.slice-is (ap (λ n. c.loop-done.from + n) (sym all-of)))
             | in-Err-try_flat+in-Ok-update_parts+else-not-flat w ↦
-                subst (λ k. Left o (g.P.Shaped.lengths c.args.p) (g.P.NdProducer.yields_at c.args.p) g.C.CellCall.call_gives g.C.CellCall.can_call c.args.f c.args.slice.now at (g.P.Shaped.lengths c.split_at-first.result.1) (g.P.NdProducer.yields_at c.split_at-first.result.1) k c.match-try_flat.slice (c.loop-done.from + length c.args.slice.now / c.in-Some.cut.len)) (sym w.f-is)
-                (left-rest {ns = g.P.Shaped.lengths c.args.p} {yields_at = g.P.NdProducer.yields_at c.args.p} {axis = c.in-Some.cut.axis.0} left i.0 long low high _ i.4 part all-of w.in-Ok-update_parts.field-0.turn w.update_parts.new.slice w.in-Ok-update_parts.ensures.as_long (omega (arith, i.4))
+                subst (λ k. Left o (g.P.Shaped.lengths c.args.p) (g.P.NdProducer.yields_at c.args.p) g.C.CellCall.call_gives g.C.CellCall.can_call c.args.f c.args.slice.now at (g.P.Shaped.lengths rest) (g.P.NdProducer.yields_at rest) k c.match-try_flat.slice (c.loop-done.from + length c.args.slice.now / c.in-Some.cut.len)) (sym w.f-is)
+                (left-rest left slowest long low high each wide part all-of w.in-Ok-update_parts.field-0.turn w.update_parts.new.slice w.in-Ok-update_parts.ensures.as_long (from-within c.loop-done.from (slice_index ns axis) each (length c.loop-done.slice) wide)
                 (overwrote-less o w.in-Err-try_flat.ensures.back seen g.C.CellCall.call_gives c.loop-done.f (take part (drop c.loop-done.from c.loop-done.slice)) (Ok w.in-Ok-update_parts.field-0.turn) w.update_parts.new.slice
                 (w.in-Ok-update_parts.ensures.ran seen (subst (λ ns. map seen (box_in o ns) ≡ map Some (take part (drop c.loop-done.from c.loop-done.slice))) (sym w.in-Err-try_flat.ensures.back.lengths) here)))
-                c.match-try_flat.slice (c.loop-done.from + length c.args.slice.now / c.in-Some.cut.len) w.slice-is (omega arith))
+                c.match-try_flat.slice (c.loop-done.from + length c.args.slice.now / c.in-Some.cut.len) w.slice-is (ap (λ n. c.loop-done.from + n) (sym all-of)))
           ],
     )
 
@@ -264,14 +339,19 @@ pub update_parts-requires-2 : goal.update_parts-requires-2
 update_parts-requires-2 g t c κs within =
     let i = c.loop-done.invariant in
     let q = c.requires.can in
-    let left = i.5 q.0 q.1.0 in
-    (omega (arith, i.1, i.2, c.loop-done.auto.done-end, c.loop-done-test.false, c.in-Some.ensures.long, c.decreases), (within.0, (within.1.0, (within.1.1.0, (within.1.1.1.0, (within.1.1.1.1.0, (within.1.1.1.1.1.0, (within.1.1.1.1.1.1.0, (within.1.1.1.1.1.1.1, (left.seen, (left-along left, left.may q.1.1)))))))))))
+    let o = c.args.order in
+    let ns = g.P.Shaped.lengths c.loop-done.p in
+    let shown = g.P.NdProducer.yields_at c.loop-done.p in
+    let left : Left o (g.P.Shaped.lengths c.args.p) (g.P.NdProducer.yields_at c.args.p) g.C.CellCall.call_gives g.C.CellCall.can_call c.args.f c.args.slice.now q.0 ns shown c.loop-done.f c.loop-done.slice c.loop-done.from = i.5 q.0 q.1.0 in
+    (subst (λ n. sum ns < n) c.decreases (last-fewer c.loop-done.done c.in-Some.cut.len (sum ns) (sum (g.P.Shaped.lengths c.args.p)) i.2 c.in-Some.ensures.long c.loop-done-test.false), (within.0, (within.1.0, (within.1.1.0, (within.1.1.1.0, (within.1.1.1.1.0, (within.1.1.1.1.1.0, (within.1.1.1.1.1.1.0, (within.1.1.1.1.1.1.1, (left.seen, (left-along left, left.may q.1.1)))))))))))
 
 pub returns-clause-ran : goal.returns-clause-ran
 returns-clause-ran g t c = λ at along.
     let o = c.args.order in
     let p = c.loop-done.p in
-    let left = c.loop-done.invariant.5 at along in
+    let ns = g.P.Shaped.lengths p in
+    let shown = g.P.NdProducer.yields_at p in
+    let left : Left o (g.P.Shaped.lengths c.args.p) (g.P.NdProducer.yields_at c.args.p) g.C.CellCall.call_gives g.C.CellCall.can_call c.args.f c.args.slice.now at ns shown c.loop-done.f c.loop-done.slice c.loop-done.from = c.loop-done.invariant.5 at along in
     let from = c.loop-done.from in
     let now = c.loop-done.slice in
     let zs = c.update_parts-2.new.slice in
@@ -279,3 +359,23 @@ returns-clause-ran g t c = λ at along.
     (λ r. OverwritesTo (is_beside left.seen (g.P.NdProducer.yields_at p)) g.C.CellCall.call_gives (box_in o (g.P.Shaped.lengths p)) c.loop-done.f (take (length now - from) (drop from now)) r zs)
     (λ r. OverwritesTo (is_beside at (g.P.NdProducer.yields_at c.args.p)) g.C.CellCall.call_gives (box_in o (g.P.Shaped.lengths c.args.p)) c.args.f c.args.slice.now r (put_mid from (length now - from) now zs))
     (λ r w. left-ran left r zs w) (c.update_parts-2.ensures.ran left.seen (left-along left))
+
+-- a part that is put back leaves the slice as long
+pub returns-in-Err-update_run-clause-as_long : goal.returns-in-Err-update_run-clause-as_long
+returns-in-Err-update_run-clause-as_long g t c =
+    same_len_mid c.loop-done.from (c.loop-done.from + length c.args.slice.now / c.in-Some.cut.len - c.loop-done.from) c.loop-done.slice c.update_run-in-Ok-try_flat.new.slice c.in-Err-update_run.ensures.as_long ∙ c.loop-done.invariant.3
+
+pub returns-in-Err-update_parts-clause-as_long : goal.returns-in-Err-update_parts-clause-as_long
+returns-in-Err-update_parts-clause-as_long g t c =
+    same_len_mid c.loop-done.from (c.loop-done.from + length c.args.slice.now / c.in-Some.cut.len - c.loop-done.from) c.loop-done.slice c.update_parts.new.slice c.in-Err-update_parts.ensures.as_long ∙ c.loop-done.invariant.3
+
+pub returns-then-not-flat-clause-as_long : goal.returns-then-not-flat-clause-as_long
+returns-then-not-flat-clause-as_long g t c =
+    let end : ℕ = c.loop-done.from + length c.args.slice.now / c.in-Some.cut.len in
+    let after : List g.row.A.Denot = put_mid c.loop-done.from (c.loop-done.from + length c.args.slice.now / c.in-Some.cut.len - c.loop-done.from) c.loop-done.slice c.update_parts.new.slice in
+    same_len_mid end (length after - end) after c.update_run-then-not-flat.new.slice c.update_run-then-not-flat.ensures.as_long
+    ∙ (same_len_mid c.loop-done.from (c.loop-done.from + length c.args.slice.now / c.in-Some.cut.len - c.loop-done.from) c.loop-done.slice c.update_parts.new.slice c.in-Ok-update_parts.ensures.as_long ∙ c.loop-done.invariant.3)
+
+pub returns-clause-as_long : goal.returns-clause-as_long
+returns-clause-as_long g t c =
+    same_len_mid c.loop-done.from (length c.loop-done.slice - c.loop-done.from) c.loop-done.slice c.update_parts-2.new.slice c.update_parts-2.ensures.as_long ∙ c.loop-done.invariant.3

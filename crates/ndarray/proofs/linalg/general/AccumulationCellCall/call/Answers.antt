@@ -2,6 +2,16 @@ use Rattle.std.proofs.Common.{◌≢◌, ◌∙◌, ap, refl, subst, sym}
 use Rattle.std.proofs.lemmas.Bool.{iff_false}
 use Rattle.ndarray.proofs.linalg.general.AccumulationCellCall.call.Goals as goal
 
+pub mul-added-requires : goal.mul-added-requires
+mul-added-requires g c = g.met.A.ProductElem.mul_in_range c.args.self.now.alpha c.entry.result (c.requires.1 c.entry.result c.entry.ensures).scaled
+
+pub returns-then-is_zero : goal.returns-then-is_zero
+returns-then-is_zero g c =
+    let k = c.requires.1 c.entry.result c.entry.ensures in
+    let zero = (g.met.A.SumElem.is_zero_meaning c.args.self.now.beta).0 (sym c.is_zero.ensures.test ∙ c.if-is_zero.true) in
+    let sum = g.met.A.ProductElem.mul_meaning c.args.self.now.alpha c.entry.result c.mul-added.result k.scaled c.mul-added.ensures in
+    ((c.entry.result, c.entry.ensures, record { zero = λ _. sum; some = λ some. absurd (some zero) }), refl)
+
 pub mul-requires : goal.mul-requires
 mul-requires g c =
     let v = g.A.Valued in

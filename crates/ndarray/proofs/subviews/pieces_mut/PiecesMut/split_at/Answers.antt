@@ -1,5 +1,5 @@
 use contract.BorrowLft.{⊑_meet, ⊑_refl, ⊑_static}
-use Rattle.std.proofs.Common.{List, ◌^◌, ◌*◌, ◌%◌, ◌<◌, ◌≤◌, ◌+◌, ◌-◌, ℕ, arith, length, get_or, set, ap, ◌∙◌}
+use Rattle.std.proofs.Common.{List, ◌^◌, ◌*◌, ◌%◌, ◌<◌, ◌≤◌, ◌+◌, ◌-◌, ℕ, arith, length, get_or, set, ap, ◌∙◌, subst, sym}
 use Rattle.ndarray.specs.Index.{row_order}
 use Rattle.ndarray.specs.base.Places.{Rearranges}
 use Rattle.ndarray.specs.base.CellLayouts.{CellLayout}
@@ -31,13 +31,13 @@ module _ (g : _) (c : After-split-here g) where
   bs = g.D.Lengths.numbers c.self.inside.strides
 
   axis-lt : c.args.axis.0 < length ps
-  axis-lt = omega (arith, ap (λ v. length v.lengths) c.self.view_is, c.requires.axis)
+  axis-lt = subst (λ n. c.args.axis.0 < n) (sym (ap (λ v. length v.lengths) c.self.view_is)) c.requires.axis
 
   abbrev axis-len : ℕ
   axis-len = get_or ps c.args.axis.0 0
 
   index-le : c.args.index ≤ axis-len
-  index-le = omega (arith, ap (λ v. get_or v.lengths c.args.axis.0 0) c.self.view_is, c.requires.within)
+  index-le = subst (λ n. c.args.index ≤ n) (sym (ap (λ v. get_or v.lengths c.args.axis.0 0) c.self.view_is)) c.requires.within
 
   here-kept : Rearranges ⊥ ps start steps (g.P.Lengths.numbers c.cut.new.self.dim) c.cut.new.self.start (g.P.Lengths.numbers c.cut.new.self.strides) (λ js. set js c.args.axis.0 (0 + get_or js c.args.axis.0 0))
   here-kept =
