@@ -2,8 +2,8 @@
 
 use crate::rows::calls::ViewCall;
 use crate::rows::layouts::Table;
-use crate::rows::operators::{View, all_viewed, push_answer};
-use crate::rows::reading::kind;
+use crate::rows::operators::{View, push_answer};
+use crate::rows::reading::{all_viewed, kind};
 use crate::rows::spelling::{axis, number};
 use crate::rows::wrapped::all_wrapped;
 use crate::rows::writing::views_spelled;

@@ -4,7 +4,7 @@ use crate::rows::answer::spelled;
 use crate::rows::calls::ViewCall;
 use crate::rows::layouts::{LAYOUTS, Layout, Table};
 use crate::rows::operators::push_text;
-use crate::rows::reading::{kind, viewed};
+use crate::rows::reading::{all_viewed, kind};
 use crate::rows::shown::as_text;
 use crate::rows::spelling::axis;
 use crate::rows::writing::views_spelled;
@@ -63,18 +63,6 @@ impl JoinCall {
             _ => None,
         }
     }
-}
-
-/// The view that calls make of a view; `None` where a test of one of them says no.
-fn all_viewed<'a>(given: View<'a>, calls: &[ViewCall]) -> Option<View<'a>> {
-    let mut view = given;
-    for call in calls {
-        view = match viewed(view, *call) {
-            Ok(Some(next)) => next,
-            _ => return None,
-        };
-    }
-    Some(view)
 }
 
 /// What a call gives on a view and further tables, in each layout of those.

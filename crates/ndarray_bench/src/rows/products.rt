@@ -4,7 +4,8 @@ use crate::residue::Residue;
 use crate::rows::answer::spelled;
 use crate::rows::calls::ViewCall;
 use crate::rows::layouts::{LAYOUTS, Table};
-use crate::rows::reading::{kind, viewed};
+use crate::rows::operators::push_text;
+use crate::rows::reading::{all_viewed, kind};
 use crate::rows::shown::push_lengths;
 use crate::rows::writing::views_spelled;
 use ndarray::linalg::{Dot, dot_ok, kron, kron_ok};
@@ -68,18 +69,6 @@ fn computed(
     }
 }
 
-/// The view that calls make of a view; `None` where a test of one of them says no.
-fn all_viewed<'a>(given: View<'a>, calls: &[ViewCall]) -> Option<View<'a>> {
-    let mut view = given;
-    for call in calls {
-        view = match viewed(view, *call) {
-            Ok(Some(next)) => next,
-            _ => return None,
-        };
-    }
-    Some(view)
-}
-
 /// What a product gives with a table, which these words spell, in each layout of it.
 fn with_tables(
     alloc: Global,
@@ -100,17 +89,6 @@ fn with_tables(
         push_text(&mut text, answer.as_str())?;
     }
     Ok(text)
-}
-
-/// Appends an answer to other answers, unless it is the same.
-fn push_text(text: &mut String, next: &str) -> Result<(), AllocError> {
-    if text.as_str() == next {
-        return Ok(());
-    }
-    if !text.is_empty() {
-        text.push_str(" or ")?;
-    }
-    text.push_str(next)
 }
 
 /// What a product gives between two tables; `refused` where its test says no.
