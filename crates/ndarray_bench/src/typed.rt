@@ -69,7 +69,7 @@ fn of_dimensions<R: Print + AllocGlobal>(rt: &R, given: Counts) -> io::Result<Co
 /// The tests of views to read and their iterators.
 fn of_reading<R: Print + AllocGlobal>(rt: &R, given: Counts) -> io::Result<Counts> {
     carried_out!(rt, given;
-        fixed::windows_and_chunks_by_tuples(alloc),
+        fixed::windows_by_tuples(alloc),
         fixed::subviews_have_one_axis_fewer(alloc),
         fixed::a_seventh_axis_is_inserted(alloc),
         fixed::ranges_are_slices(),

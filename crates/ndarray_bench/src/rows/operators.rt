@@ -9,7 +9,6 @@ use crate::rows::reading::{all_viewed, kind};
 use crate::rows::shown::push_lengths;
 use crate::rows::spelling::cell;
 use crate::rows::wrapped::{Wrapped, all_wrapped};
-use crate::rows::writing::views_spelled;
 use ndarray::{Array, ArrayView, IxDyn, Lengths};
 use std::alloc::{AllocError, Global};
 
@@ -18,22 +17,20 @@ type Owned = Array<Wrapped, IxDyn>;
 /// A view of numbers to compute with.
 pub type View<'a> = ArrayView<'a, Wrapped, IxDyn>;
 
-/// What an operator gives on a table, after calls that view it; `None` where the call after those is no operator.
+/// What an operator gives on a table, after calls that view it; `None` where the words spell no operator.
 ///
 /// It is carried out with each layout of the right table. Answers that differ are joined by `or`.
-pub fn answer(alloc: Global, table: &Table, calls: &[&str]) -> Result<Option<String>, AllocError> {
-    let views = views_spelled(alloc, calls)?;
-    let [call] = calls.get(views.len()..).unwrap_or(&[]) else {
-        return Ok(None);
-    };
-    let words: Vec<&str> = call.split_whitespace().collect(alloc)?;
-    let Some((name, arguments)) = words.as_slice().split_first() else {
+pub fn answer(
+    alloc: Global,
+    table: &Table,
+    views: &[ViewCall],
+    words: &[&str],
+) -> Result<Option<String>, AllocError> {
+    let Some((name, arguments)) = words.split_first() else {
         return Ok(None);
     };
     match Operator::named(*name) {
-        Some(operator) => {
-            computed(alloc, table, views.as_slice(), operator, arguments).map(Some)
-        }
+        Some(operator) => computed(alloc, table, views, operator, arguments).map(Some),
         None => Ok(None),
     }
 }

@@ -7,7 +7,6 @@ use crate::rows::layouts::{LAYOUTS, Table};
 use crate::rows::operators::push_text;
 use crate::rows::reading::{all_viewed, kind};
 use crate::rows::shown::push_lengths;
-use crate::rows::writing::views_spelled;
 use ndarray::linalg::{Dot, dot_ok, kron, kron_ok};
 use ndarray::{Array, ArrayView, Ix2, IxDyn, Lengths};
 use std::alloc::{AllocError, Global};
@@ -15,21 +14,21 @@ use std::alloc::{AllocError, Global};
 /// A view of residues.
 type View<'a> = ArrayView<'a, Residue<0>, IxDyn>;
 
-/// What a product gives on a table, after calls that view it; `None` where the call after those is none.
+/// What a product gives on a table, after calls that view it; `None` where the words spell none.
 ///
 /// It is carried out with each layout of the right table. Answers that differ are joined by `or`.
-pub fn answer(alloc: Global, table: &Table, calls: &[&str]) -> Result<Option<String>, AllocError> {
-    let views = views_spelled(alloc, calls)?;
-    let [call] = calls.get(views.len()..).unwrap_or(&[]) else {
-        return Ok(None);
-    };
-    let words: Vec<&str> = call.split_whitespace().collect(alloc)?;
-    let Some((name, words)) = words.as_slice().split_first() else {
+pub fn answer(
+    alloc: Global,
+    table: &Table,
+    views: &[ViewCall],
+    words: &[&str],
+) -> Result<Option<String>, AllocError> {
+    let Some((name, words)) = words.split_first() else {
         return Ok(None);
     };
     match *name {
-        "dot" => computed(alloc, table, views.as_slice(), Product::Dot, words).map(Some),
-        "kron" => computed(alloc, table, views.as_slice(), Product::Kron, words).map(Some),
+        "dot" => computed(alloc, table, views, Product::Dot, words).map(Some),
+        "kron" => computed(alloc, table, views, Product::Kron, words).map(Some),
         _ => Ok(None),
     }
 }
