@@ -61,12 +61,7 @@ fn of_dimensions<R: Print + AllocGlobal>(rt: &R, given: Counts) -> io::Result<Co
         base::which_numbers_of_axes_a_type_has(),
         base::numbers_are_read_and_set(),
         base::index_lists_are_tuples_or_arrays(),
-        base::a_shape_in_column_order_takes_the_first_elements(),
         order::the_last_index_fastest(alloc),
-        order::the_first_index_fastest(alloc),
-        order::the_box_of_no_lengths_is_one_empty_list(),
-        order::a_box_with_an_empty_axis_is_empty(),
-        order::one_axis_from_both_ends(),
         order::a_huge_empty_box_ends_at_once(),
     )
 }
@@ -74,12 +69,11 @@ fn of_dimensions<R: Print + AllocGlobal>(rt: &R, given: Counts) -> io::Result<Co
 /// The tests of views to read and their iterators.
 fn of_reading<R: Print + AllocGlobal>(rt: &R, given: Counts) -> io::Result<Counts> {
     carried_out!(rt, given;
-        fixed::windows_and_chunks_by_tuples(alloc),
+        fixed::windows_by_tuples(alloc),
         fixed::subviews_have_one_axis_fewer(alloc),
         fixed::a_seventh_axis_is_inserted(alloc),
         fixed::ranges_are_slices(),
         iter::both_ends_meet(),
-        iter::folds_go_in_row_order_or_back(),
         owned::cells_may_own_memory(alloc),
     )
 }
@@ -88,12 +82,8 @@ fn of_reading<R: Print + AllocGlobal>(rt: &R, given: Counts) -> io::Result<Count
 fn of_writing<R: Print + AllocGlobal>(rt: &R, given: Counts) -> io::Result<Counts> {
     carried_out!(rt, given;
         iter_mut::two_cells_held_together_are_exchanged(alloc),
-        iter_mut::index_patterns_are_tuples(alloc),
         iter_mut::both_ends_of_a_step_are_written_and_the_rest_stays(alloc),
-        writing::two_columns_held_together_are_written(alloc),
-        writing::a_cell_of_one_axis_is_a_view_of_none(),
         writing::cells_side_by_side_in_row_order_are_a_slice(alloc),
-        writing::stepped_reversed_and_transposed_cells_are_no_slice(),
     )
 }
 
@@ -105,13 +95,10 @@ fn of_callers<R: Print + AllocGlobal>(rt: &R, given: Counts) -> io::Result<Count
         ops::a_refused_update_leaves_the_cells_to_come(alloc),
         refusing::refuses_one_request(alloc),
         refusing::lists_grow_or_are_left(alloc),
-        residues::products_of_residues(alloc),
-        residues::a_general_product_of_residues(alloc),
         residues::fibonacci_numbers_of_residues(alloc),
         zip::dot_of_two_layouts(),
-        zip::a_row_broadcasts(),
         zip::azip_adds(),
-        zip::a_generic_caller_doubles(alloc),
+        zip::answers_are_written(alloc),
         zip::a_producer_is_asked(),
     )
 }

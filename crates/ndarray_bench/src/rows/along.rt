@@ -2,23 +2,22 @@
 
 use crate::rows::calls::ViewCall;
 use crate::rows::layouts::Table;
-use crate::rows::operators::{View, all_viewed, push_answer};
-use crate::rows::reading::kind;
+use crate::rows::operators::{View, push_answer};
+use crate::rows::reading::{all_viewed, kind};
 use crate::rows::spelling::{axis, number};
 use crate::rows::wrapped::all_wrapped;
-use crate::rows::writing::views_spelled;
 use ndarray::Axis;
 use std::alloc::{AllocError, Global};
 
-/// What a call gives on a table, after calls that view it; `None` where the call after those is none of these.
-pub fn answer(alloc: Global, table: &Table, calls: &[&str]) -> Result<Option<String>, AllocError> {
-    let views = views_spelled(alloc, calls)?;
-    let [call] = calls.get(views.len()..).unwrap_or(&[]) else {
-        return Ok(None);
-    };
-    let words: Vec<&str> = call.split_whitespace().collect(alloc)?;
-    match AlongCall::spelled(words.as_slice()) {
-        Some(call) => computed(alloc, table, views.as_slice(), call).map(Some),
+/// What a call gives on a table, after calls that view it; `None` where the words spell none of these.
+pub fn answer(
+    alloc: Global,
+    table: &Table,
+    views: &[ViewCall],
+    words: &[&str],
+) -> Result<Option<String>, AllocError> {
+    match AlongCall::spelled(words) {
+        Some(call) => computed(alloc, table, views, call).map(Some),
         None => Ok(None),
     }
 }

@@ -1,6 +1,8 @@
 //! What a row gives.
 
+use crate::rows::calls::ViewCall;
 use crate::rows::layouts::{Layout, Table};
+use crate::rows::writing::views_spelled;
 use crate::rows::{along, joining, operators, owned, products, reading, spelling, writing};
 use std::alloc::{AllocError, Global};
 
@@ -115,20 +117,34 @@ fn begun(
 
 /// What calls give on a view of a table.
 fn read(alloc: Global, table: &Table, calls: &[&str]) -> Result<String, AllocError> {
-    if let Some(text) = operators::answer(alloc, table, calls)? {
-        return Ok(text);
-    }
-    if let Some(text) = along::answer(alloc, table, calls)? {
-        return Ok(text);
-    }
-    if let Some(text) = joining::answer(alloc, table, calls)? {
-        return Ok(text);
-    }
-    if let Some(text) = products::answer(alloc, table, calls)? {
-        return Ok(text);
+    let views = views_spelled(alloc, calls)?;
+    if let [call] = calls.get(views.len()..).unwrap_or(&[]) {
+        if let Some(text) = made(alloc, table, views.as_slice(), *call)? {
+            return Ok(text);
+        }
     }
     match table.view() {
         Ok(view) => reading::answer(alloc, view, calls),
         Err(error) => reading::kind(alloc, &error),
     }
+}
+
+/// What a call gives that makes an array of a table, after calls that view it; `None` for another call.
+fn made(
+    alloc: Global,
+    table: &Table,
+    views: &[ViewCall],
+    call: &str,
+) -> Result<Option<String>, AllocError> {
+    let words: Vec<&str> = call.split_whitespace().collect(alloc)?;
+    if let Some(text) = operators::answer(alloc, table, views, words.as_slice())? {
+        return Ok(Some(text));
+    }
+    if let Some(text) = along::answer(alloc, table, views, words.as_slice())? {
+        return Ok(Some(text));
+    }
+    if let Some(text) = products::answer(alloc, table, views, words.as_slice())? {
+        return Ok(Some(text));
+    }
+    joining::answer(alloc, table, views, call)
 }

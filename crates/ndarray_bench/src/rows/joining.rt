@@ -4,25 +4,25 @@ use crate::rows::answer::spelled;
 use crate::rows::calls::ViewCall;
 use crate::rows::layouts::{LAYOUTS, Layout, Table};
 use crate::rows::operators::push_text;
-use crate::rows::reading::{kind, viewed};
+use crate::rows::reading::{all_viewed, kind};
 use crate::rows::shown::as_text;
 use crate::rows::spelling::axis;
-use crate::rows::writing::views_spelled;
 use ndarray::{Array, ArrayView, Axis, IxDyn, StackError, concatenate, stack};
 use std::alloc::{AllocError, Global};
 
 /// A view of a table.
 type View<'a> = ArrayView<'a, i64, IxDyn>;
 
-/// What a call gives on a table, after calls that view it; `None` where the call after those is none of these.
+/// What a call gives on a table, after calls that view it; `None` where it is none of these.
 ///
 /// Further tables of the call, which are joined by commas, have each layout in turn. Answers that differ are joined by
 /// `or`.
-pub fn answer(alloc: Global, table: &Table, calls: &[&str]) -> Result<Option<String>, AllocError> {
-    let views = views_spelled(alloc, calls)?;
-    let [call] = calls.get(views.len()..).unwrap_or(&[]) else {
-        return Ok(None);
-    };
+pub fn answer(
+    alloc: Global,
+    table: &Table,
+    views: &[ViewCall],
+    call: &str,
+) -> Result<Option<String>, AllocError> {
     let pieces: Vec<&str> = call.split(',').collect(alloc)?;
     let Some((first, others)) = pieces.as_slice().split_first() else {
         return Ok(None);
@@ -35,7 +35,7 @@ pub fn answer(alloc: Global, table: &Table, calls: &[&str]) -> Result<Option<Str
         return Ok(None);
     };
     match table.view() {
-        Ok(view) => match all_viewed(view, views.as_slice()) {
+        Ok(view) => match all_viewed(view, views) {
             Some(view) => in_each_layout(alloc, &view, call, words, others).map(Some),
             None => "refused".to_string(alloc).map(Some),
         },
@@ -63,18 +63,6 @@ impl JoinCall {
             _ => None,
         }
     }
-}
-
-/// The view that calls make of a view; `None` where a test of one of them says no.
-fn all_viewed<'a>(given: View<'a>, calls: &[ViewCall]) -> Option<View<'a>> {
-    let mut view = given;
-    for call in calls {
-        view = match viewed(view, *call) {
-            Ok(Some(next)) => next,
-            _ => return None,
-        };
-    }
-    Some(view)
 }
 
 /// What a call gives on a view and further tables, in each layout of those.

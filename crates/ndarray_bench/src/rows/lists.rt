@@ -2,7 +2,7 @@
 
 use crate::rows::calls::{Cells, Pieces};
 use crate::rows::reading::View;
-use crate::rows::stepping::{Ending, cloned, parted};
+use crate::rows::stepping::{Ending, cloned, parted_to_read};
 use crate::rows::steps::Step;
 use ndarray::iter::ElementsBase;
 use ndarray::{ArrayView1, Axis, IxDyn, Lengths};
@@ -51,11 +51,15 @@ fn along_axis(
 ) -> Result<Ending, AllocError> {
     match pieces {
         Pieces::AxisIter(axis) if view.axis_ok(*axis) => {
-            parted(alloc, view.axis_iter(*axis), steps)
+            parted_to_read(alloc, view.axis_iter(*axis), steps)
         }
-        Pieces::OuterIter if view.axis_ok(Axis(0)) => parted(alloc, view.outer_iter(), steps),
+        Pieces::OuterIter if view.axis_ok(Axis(0)) => parted_to_read(
+            alloc,
+            view.outer_iter(),
+            steps,
+        ),
         Pieces::AxisChunksIter(axis, size) if view.chunk_ok(*axis, *size) => {
-            parted(alloc, view.axis_chunks_iter(*axis, *size), steps)
+            parted_to_read(alloc, view.axis_chunks_iter(*axis, *size), steps)
         }
         _ => Ok(Ending::Refused),
     }

@@ -1,15 +1,14 @@
-//! Operators on a table: each with both sides borrowed, and those of sums in each form of ownership.
+//! Operators on a table, with both sides borrowed. unproved/ops.txt has those on owned arrays.
 
 ghost use Rattle.ndarray.specs.Broadcast.{BroadcastTogether};
 
 use crate::rows::answer::spelled;
 use crate::rows::calls::ViewCall;
 use crate::rows::layouts::{LAYOUTS, Table};
-use crate::rows::reading::{kind, viewed};
+use crate::rows::reading::{all_viewed, kind};
 use crate::rows::shown::push_lengths;
 use crate::rows::spelling::cell;
 use crate::rows::wrapped::{Wrapped, all_wrapped};
-use crate::rows::writing::views_spelled;
 use ndarray::{Array, ArrayView, IxDyn, Lengths};
 use std::alloc::{AllocError, Global};
 
@@ -18,22 +17,20 @@ type Owned = Array<Wrapped, IxDyn>;
 /// A view of numbers to compute with.
 pub type View<'a> = ArrayView<'a, Wrapped, IxDyn>;
 
-/// What an operator gives on a table, after calls that view it; `None` where the call after those is no operator.
+/// What an operator gives on a table, after calls that view it; `None` where the words spell no operator.
 ///
-/// The forms are carried out with each layout of the right table. Answers that differ are joined by `or`.
-pub fn answer(alloc: Global, table: &Table, calls: &[&str]) -> Result<Option<String>, AllocError> {
-    let views = views_spelled(alloc, calls)?;
-    let [call] = calls.get(views.len()..).unwrap_or(&[]) else {
-        return Ok(None);
-    };
-    let words: Vec<&str> = call.split_whitespace().collect(alloc)?;
-    let Some((name, arguments)) = words.as_slice().split_first() else {
+/// It is carried out with each layout of the right table. Answers that differ are joined by `or`.
+pub fn answer(
+    alloc: Global,
+    table: &Table,
+    views: &[ViewCall],
+    words: &[&str],
+) -> Result<Option<String>, AllocError> {
+    let Some((name, arguments)) = words.split_first() else {
         return Ok(None);
     };
     match Operator::named(*name) {
-        Some(operator) => {
-            computed(alloc, table, views.as_slice(), operator, arguments).map(Some)
-        }
+        Some(operator) => computed(alloc, table, views, operator, arguments).map(Some),
         None => Ok(None),
     }
 }
@@ -49,7 +46,7 @@ enum Operator {
     Not,
 }
 
-/// An operator that adds or takes away. Rows carry out each form of these; unproved/ops.txt has the forms of the others.
+/// An operator that adds or takes away.
 #[derive(Clone, Copy)]
 enum Sums {
     Add,
@@ -145,37 +142,19 @@ fn computed(
     }
 }
 
-/// The view that calls make of a view; `None` where a test of one of them says no.
-pub fn all_viewed<'a>(given: View<'a>, calls: &[ViewCall]) -> Option<View<'a>> {
-    let mut view = given;
-    for call in calls {
-        view = match viewed(view, *call) {
-            Ok(Some(next)) => next,
-            _ => return None,
-        };
-    }
-    Some(view)
-}
-
-/// What `-` or `!` gives, on an owned array and on a reference to it.
+/// What `-` or `!` gives, on a reference to an array.
 fn of_each_cell(alloc: Global, view: &View<'_>, operator: Operator) -> Result<String, AllocError> {
     let array = ArrayView::to_owned(view, alloc)?;
     let mut text = String::new(alloc);
     match operator {
-        Operator::Neg => {
-            push_answer(&mut text, alloc, (-&array)?)?;
-            push_answer(&mut text, alloc, (-array)?)?;
-        }
-        Operator::Not => {
-            push_answer(&mut text, alloc, (!&array)?)?;
-            push_answer(&mut text, alloc, (!array)?)?;
-        }
+        Operator::Neg => push_answer(&mut text, alloc, (-&array)?)?,
+        Operator::Not => push_answer(&mut text, alloc, (!&array)?)?,
         _ => text.push_str("not understood")?,
     }
     Ok(text)
 }
 
-/// What an operator gives with a scalar, on a reference to an array, and one of sums on the array itself.
+/// What an operator gives with a scalar, on a reference to an array.
 fn with_scalar(
     alloc: Global,
     view: &View<'_>,
@@ -187,9 +166,6 @@ fn with_scalar(
     match operator.with(&array, scalar)? {
         Some(answer) => push_answer(&mut text, alloc, answer)?,
         None => text.push_str("not understood")?,
-    }
-    if let Operator::Sums(operator) = operator {
-        push_answer(&mut text, alloc, operator.with_in_place(array, scalar)?)?;
     }
     Ok(text)
 }
@@ -215,8 +191,7 @@ fn with_tables(
     Ok(text)
 }
 
-/// Appends what an operator gives between two tables, with both borrowed, and one of sums in each form; `refused` where
-/// their shapes do not broadcast together.
+/// Appends what an operator gives between two tables; `refused` where their shapes do not broadcast together.
 fn push_between(
     text: &mut String,
     alloc: Global,
@@ -229,15 +204,9 @@ fn push_between(
     }
     let array = ArrayView::to_owned(left, alloc)?;
     match operator.between(&array, right)? {
-        Some(answer) => push_answer(text, alloc, answer)?,
-        None => push_text(text, "not understood")?,
+        Some(answer) => push_answer(text, alloc, answer),
+        None => push_text(text, "not understood"),
     }
-    if let Operator::Sums(operator) = operator {
-        push_answer(text, alloc, operator.into_left(array, right)?)?;
-        let owned = ArrayView::to_owned(right, alloc)?;
-        push_answer(text, alloc, operator.into_right(left, owned)?)?;
-    }
-    Ok(())
 }
 
 /// Appends an array to other answers, unless it is the same.
@@ -303,27 +272,8 @@ impl Sums {
         sums!(self, left, right)
     }
 
-    /// With the left side owned.
-    fn into_left(self, left: Owned, right: &View<'_>) -> Result<Owned, AllocError>
-        requires { BroadcastTogether left.lengths right.now.lengths }
-    {
-        sums!(self, left, right)
-    }
-
-    /// With the right side owned.
-    fn into_right(self, left: &View<'_>, right: Owned) -> Result<Owned, AllocError>
-        requires { BroadcastTogether left.now.lengths right.lengths }
-    {
-        sums!(self, left, right)
-    }
-
     /// With a scalar.
     fn with(self, left: &Owned, scalar: Wrapped) -> Result<Owned, AllocError> {
-        sums!(self, left, scalar)
-    }
-
-    /// With a scalar, and the left side owned.
-    fn with_in_place(self, left: Owned, scalar: Wrapped) -> Result<Owned, AllocError> {
         sums!(self, left, scalar)
     }
 }

@@ -4,9 +4,9 @@ use crate::residue::Residue;
 use crate::rows::answer::spelled;
 use crate::rows::calls::ViewCall;
 use crate::rows::layouts::{LAYOUTS, Table};
-use crate::rows::reading::{kind, viewed};
+use crate::rows::operators::push_text;
+use crate::rows::reading::{all_viewed, kind};
 use crate::rows::shown::push_lengths;
-use crate::rows::writing::views_spelled;
 use ndarray::linalg::{Dot, dot_ok, kron, kron_ok};
 use ndarray::{Array, ArrayView, Ix2, IxDyn, Lengths};
 use std::alloc::{AllocError, Global};
@@ -14,21 +14,21 @@ use std::alloc::{AllocError, Global};
 /// A view of residues.
 type View<'a> = ArrayView<'a, Residue<0>, IxDyn>;
 
-/// What a product gives on a table, after calls that view it; `None` where the call after those is none.
+/// What a product gives on a table, after calls that view it; `None` where the words spell none.
 ///
 /// It is carried out with each layout of the right table. Answers that differ are joined by `or`.
-pub fn answer(alloc: Global, table: &Table, calls: &[&str]) -> Result<Option<String>, AllocError> {
-    let views = views_spelled(alloc, calls)?;
-    let [call] = calls.get(views.len()..).unwrap_or(&[]) else {
-        return Ok(None);
-    };
-    let words: Vec<&str> = call.split_whitespace().collect(alloc)?;
-    let Some((name, words)) = words.as_slice().split_first() else {
+pub fn answer(
+    alloc: Global,
+    table: &Table,
+    views: &[ViewCall],
+    words: &[&str],
+) -> Result<Option<String>, AllocError> {
+    let Some((name, words)) = words.split_first() else {
         return Ok(None);
     };
     match *name {
-        "dot" => computed(alloc, table, views.as_slice(), Product::Dot, words).map(Some),
-        "kron" => computed(alloc, table, views.as_slice(), Product::Kron, words).map(Some),
+        "dot" => computed(alloc, table, views, Product::Dot, words).map(Some),
+        "kron" => computed(alloc, table, views, Product::Kron, words).map(Some),
         _ => Ok(None),
     }
 }
@@ -68,18 +68,6 @@ fn computed(
     }
 }
 
-/// The view that calls make of a view; `None` where a test of one of them says no.
-fn all_viewed<'a>(given: View<'a>, calls: &[ViewCall]) -> Option<View<'a>> {
-    let mut view = given;
-    for call in calls {
-        view = match viewed(view, *call) {
-            Ok(Some(next)) => next,
-            _ => return None,
-        };
-    }
-    Some(view)
-}
-
 /// What a product gives with a table, which these words spell, in each layout of it.
 fn with_tables(
     alloc: Global,
@@ -100,17 +88,6 @@ fn with_tables(
         push_text(&mut text, answer.as_str())?;
     }
     Ok(text)
-}
-
-/// Appends an answer to other answers, unless it is the same.
-fn push_text(text: &mut String, next: &str) -> Result<(), AllocError> {
-    if text.as_str() == next {
-        return Ok(());
-    }
-    if !text.is_empty() {
-        text.push_str(" or ")?;
-    }
-    text.push_str(next)
 }
 
 /// What a product gives between two tables; `refused` where its test says no.

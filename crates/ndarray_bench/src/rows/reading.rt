@@ -174,6 +174,21 @@ fn stepped(
     }
 }
 
+/// The view that calls make of a view, one of another; `None` where a test of one of them says no.
+pub fn all_viewed<S: Data>(
+    given: ArrayBase<S, IxDyn>,
+    calls: &[ViewCall],
+) -> Option<ArrayBase<S, IxDyn>> {
+    let mut view = given;
+    for call in calls {
+        view = match viewed(view, *call) {
+            Ok(Some(next)) => next,
+            _ => return None,
+        };
+    }
+    Some(view)
+}
+
 /// The view that a call makes of a view, or `None` where its test says no.
 pub fn viewed<S: Data>(
     view: ArrayBase<S, IxDyn>,

@@ -6,7 +6,7 @@ use crate::rows::items::{Item, number_all};
 use crate::rows::shown::{push_separator, push_word};
 use crate::rows::steps::Step;
 use ndarray::iter::{AxisChunksIter, AxisChunksIterMut, AxisIter, AxisIterMut};
-use ndarray::{ArrayView, ArrayViewMut, IxDyn};
+use ndarray::{ArrayView, IxDyn};
 use std::alloc::{AllocError, Global};
 
 /// How the calls of a row end.
@@ -114,36 +114,21 @@ impl Answers {
     }
 
     /// Carries out a step that an iterator has which goes from both ends, and answers whether it is one.
-    fn step_from_ends<I: BothEnds>(&mut self, items: &mut I, step: Step) -> Result<bool, AllocError>
+    fn step_from_ends<I: DoubleEndedIterator + Drop>(
+        &mut self,
+        items: &mut I,
+        step: Step,
+    ) -> Result<bool, AllocError>
     where
         I::Item: Item,
         requires can { (it : I) → I.can_next it }
         requires back { (it : I) → I.can_next_back it }
-        requires ends { (it : I) → IsFinite (I.remaining it) }
     {
         match step {
             Step::NextBack => self.take(items.next_back())?,
-            Step::Nth(count) => self.take(items.after(count))?,
-            Step::Clone => return self.take_twin(items.twin()),
             step => return self.step(items, step),
         }
         Ok(true)
-    }
-
-    /// Takes all items of a clone, and answers whether there is one.
-    fn take_twin<I: Iterator + Drop>(&mut self, twin: Option<I>) -> Result<bool, AllocError>
-    where
-        I::Item: Item,
-        requires can { (it : I) → I.can_next it }
-        requires ends { (it : I) → IsFinite (I.remaining it) }
-    {
-        match twin {
-            Some(twin) => {
-                self.take_part(twin)?;
-                Ok(true)
-            }
-            None => Ok(false),
-        }
     }
 
     /// Carries out a step that takes all items.
@@ -222,14 +207,12 @@ where
 pub trait BothEnds: DoubleEndedIterator + Drop {
     /// The first so many items, and the rest; `None` where there are fewer.
     fn split(self, count: usize) -> Option<(Self, Self)>;
+}
 
-    /// The item after so many, by the iterator's own `nth` where it has one.
+/// One whose items are read: it has clones, and an `nth` of its own.
+pub trait BothEndsRead: BothEnds + Clone {
+    /// The item after so many.
     fn after(&mut self, count: usize) -> Option<Self::Item>;
-
-    /// A clone, where it has clones.
-    fn twin(&self) -> Option<Self> {
-        None
-    }
 }
 
 /// Carries out the steps of an iterator that goes from both ends, and is split.
@@ -256,6 +239,41 @@ where
     Ok(Ending::Done(answers.text))
 }
 
+/// Carries out the steps of an iterator that goes from both ends and is split, whose items are read.
+pub fn parted_to_read<I: BothEndsRead>(
+    alloc: Global,
+    given: I,
+    steps: &[Step],
+) -> Result<Ending, AllocError>
+where
+    I::Item: Item,
+    requires can { (it : I) → I.can_next it }
+    requires back { (it : I) → I.can_next_back it }
+    requires ends { (it : I) → IsFinite (I.remaining it) }
+{
+    let mut items = given;
+    let mut answers = Answers::new(alloc);
+    for step in steps {
+        match *step {
+            Step::Clone => answers.take_part(items.clone()?)?,
+            Step::Nth(count) => answers.take(items.after(count))?,
+            Step::SplitAt(count) => {
+                let Some((first, second)) = items.split(count) else {
+                    return Ok(Ending::Refused);
+                };
+                answers.take_part(first)?;
+                items = second;
+            }
+            step => {
+                if !answers.step_from_ends(&mut items, step)? {
+                    return answers.last_step(items, step);
+                }
+            }
+        }
+    }
+    Ok(Ending::Done(answers.text))
+}
+
 impl<'a> BothEnds for AxisIter<'a, i64, IxDyn> {
     fn split(self, count: usize) -> Option<(Self, Self)> {
         if count > self.len() {
@@ -263,13 +281,11 @@ impl<'a> BothEnds for AxisIter<'a, i64, IxDyn> {
         }
         Some(self.split_at(count))
     }
+}
 
+impl<'a> BothEndsRead for AxisIter<'a, i64, IxDyn> {
     fn after(&mut self, count: usize) -> Option<ArrayView<'a, i64, IxDyn>> {
         self.nth(count)
-    }
-
-    fn twin(&self) -> Option<Self> {
-        self.clone().ok()
     }
 }
 
@@ -280,13 +296,11 @@ impl<'a> BothEnds for AxisChunksIter<'a, i64, IxDyn> {
         }
         Some(self.split_at(count))
     }
+}
 
+impl<'a> BothEndsRead for AxisChunksIter<'a, i64, IxDyn> {
     fn after(&mut self, count: usize) -> Option<ArrayView<'a, i64, IxDyn>> {
         self.nth(count)
-    }
-
-    fn twin(&self) -> Option<Self> {
-        self.clone().ok()
     }
 }
 
@@ -297,10 +311,6 @@ impl<'a> BothEnds for AxisIterMut<'a, i64, IxDyn> {
         }
         Some(self.split_at(count))
     }
-
-    fn after(&mut self, count: usize) -> Option<ArrayViewMut<'a, i64, IxDyn>> {
-        self.nth(count)
-    }
 }
 
 impl<'a> BothEnds for AxisChunksIterMut<'a, i64, IxDyn> {
@@ -309,9 +319,5 @@ impl<'a> BothEnds for AxisChunksIterMut<'a, i64, IxDyn> {
             return None;
         }
         Some(self.split_at(count))
-    }
-
-    fn after(&mut self, count: usize) -> Option<ArrayViewMut<'a, i64, IxDyn>> {
-        self.nth(count)
     }
 }

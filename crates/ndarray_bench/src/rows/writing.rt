@@ -3,7 +3,7 @@
 use crate::rows::calls::{CellsMut, PartCall, Pieces, ViewCall, WriteCall};
 use crate::rows::items::fill;
 use crate::rows::layouts::{HIDDEN, Layout, Table, cut};
-use crate::rows::reading::{View, kind, viewed};
+use crate::rows::reading::{View, all_viewed, kind};
 use crate::rows::shown::push_view;
 use crate::rows::stepping::{Ending, forward, parted};
 use crate::rows::steps::Step;
@@ -203,15 +203,11 @@ fn item_of<'b>(view: &'b mut ViewMut<'_>, axis: Axis, index: usize) -> Option<Vi
 }
 
 /// Makes the views that the calls name, one of another, and writes to the last.
-fn view_written(alloc: Global, given: ViewMut<'_>, calls: Calls) -> Result<Ending, AllocError> {
-    let mut view = given;
-    for call in calls.views.as_slice() {
-        view = match viewed(view, *call) {
-            Ok(Some(next)) => next,
-            _ => return Ok(Ending::Refused),
-        };
+fn view_written(alloc: Global, view: ViewMut<'_>, calls: Calls) -> Result<Ending, AllocError> {
+    match all_viewed(view, calls.views.as_slice()) {
+        Some(view) => last_written(alloc, view, calls.last, calls.steps.as_slice()),
+        None => Ok(Ending::Refused),
     }
-    last_written(alloc, view, calls.last, calls.steps.as_slice())
 }
 
 /// Writes to the items of a call, which may take the view itself.

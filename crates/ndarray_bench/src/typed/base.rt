@@ -3,8 +3,7 @@
 use crate::typed::checks::Checks;
 use crate::typed::layouts::{line, table};
 use ndarray::{
-    ArrayView, Axis, Dim, Dimension, IntoDimension, Ix0, Ix1, Ix2, Ix3, Ix4, Ix6, IxDyn, Lengths,
-    RemoveAxis, ShapeBuilder,
+    Axis, Dim, Dimension, IntoDimension, Ix0, Ix1, Ix2, Ix3, Ix4, Ix6, IxDyn, Lengths, RemoveAxis,
 };
 
 pub fn what_is_written_for_a_dimension(checks: &mut Checks) {
@@ -75,14 +74,4 @@ pub fn index_lists_are_tuples_or_arrays(checks: &mut Checks) {
     let view = table();
     checks.same((view.get((1, 0)), view.get([0, 2])), (Some(&4), Some(&3)));
     checks.same((view.get((2, 0)), line().get(2)), (None, Some(&3)));
-}
-
-pub fn a_shape_in_column_order_takes_the_first_elements(checks: &mut Checks) {
-    let Ok(columns) = ArrayView::from_shape((2, 2).f(), &[1i64, 2, 3, 4, 5]) else {
-        return checks.fail();
-    };
-    checks.same(
-        (columns.get((1, 0)), columns.get((1, 1))),
-        (Some(&2), Some(&4)),
-    );
 }

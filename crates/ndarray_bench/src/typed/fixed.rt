@@ -5,16 +5,10 @@ use crate::typed::layouts::table;
 use ndarray::{ArrayView, Axis, Slice};
 use std::alloc::{AllocError, Global};
 
-pub fn windows_and_chunks_by_tuples(alloc: Global, checks: &mut Checks) -> Result<(), AllocError> {
+pub fn windows_by_tuples(alloc: Global, checks: &mut Checks) -> Result<(), AllocError> {
     let view = table();
     let windows = view.windows((2, 2)).into_iter();
     checks.all_show(alloc, windows, "[2, 2]: [1, 2, 4, 5]; [2, 2]: [2, 3, 5, 6]")?;
-    let chunks = view.exact_chunks((2, 1)).into_iter();
-    checks.all_show(
-        alloc,
-        chunks,
-        "[2, 1]: [1, 4]; [2, 1]: [2, 5]; [2, 1]: [3, 6]",
-    )?;
     Ok(())
 }
 
@@ -24,8 +18,6 @@ pub fn subviews_have_one_axis_fewer(alloc: Global, checks: &mut Checks) -> Resul
     checks.shows(alloc, &row, "[3]: [4, 5, 6]")?;
     checks.shows(alloc, &row.index_axis(Axis(0), 0), "[]: [4]")?;
     checks.all_show(alloc, view.outer_iter(), "[3]: [1, 2, 3]; [3]: [4, 5, 6]")?;
-    let chunks = view.axis_chunks_iter(Axis(1), 2).rev();
-    checks.all_show(alloc, chunks, "[2, 1]: [3, 6]; [2, 2]: [1, 2, 4, 5]")?;
     Ok(())
 }
 

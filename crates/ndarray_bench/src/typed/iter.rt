@@ -1,7 +1,7 @@
-//! The cells of an array one by one: both ends of one axis, and folds.
+//! The cells of an array one by one: both ends of one axis, and a fold from the back.
 
 use crate::typed::checks::Checks;
-use crate::typed::layouts::{line, table};
+use crate::typed::layouts::line;
 use ndarray::iter::ElementsBase;
 
 pub fn both_ends_meet(checks: &mut Checks) {
@@ -21,11 +21,4 @@ pub fn both_ends_meet(checks: &mut Checks) {
     );
     let digits = |number: i64, digit: &i64| number.wrapping_mul(10).wrapping_add(*digit);
     checks.same(elements.rfold(0, digits), 5432);
-}
-
-pub fn folds_go_in_row_order_or_back(checks: &mut Checks) {
-    let digits = |number: i64, digit: &i64| number.wrapping_mul(10).wrapping_add(*digit);
-    checks.same(table().t().iter().fold(0, digits), 142_536);
-    checks.same(line().iter().fold(0, digits), 123_456);
-    checks.same(line().iter().rfold(0, digits), 654_321);
 }

@@ -1,6 +1,4 @@
-//! The cells of arrays to write to: two held together, both ends of one axis, and index patterns.
-
-ghost use Rattle.std.specs.Iterator.{IsFinite};
+//! The cells of arrays to write to: two held together, and both ends of one axis.
 
 use crate::typed::checks::Checks;
 use crate::typed::layouts::{array, array_of_six};
@@ -27,31 +25,6 @@ pub fn two_cells_held_together_are_exchanged(
     let mut array = array(alloc)?;
     exchange(array.view_mut().reversed_axes().iter_mut());
     checks.shows(alloc, &array.view(), "[2, 3]: [4, 2, 3, 1, 5, 6]")?;
-    Ok(())
-}
-
-/// Writes the digits of its index list into each cell.
-fn write_digits<'a, I: Iterator<Item = ((usize, usize), &'a mut i64)>>(cells: I)
-    requires can { I.can_next cells }
-    requires ends { IsFinite (I.remaining cells) }
-{
-    for ((i, j), cell) in cells {
-        *cell = digits(i, j);
-    }
-}
-
-/// The number of two digits.
-fn digits(tens: usize, ones: usize) -> i64 {
-    match (i64::try_from(tens), i64::try_from(ones)) {
-        (Ok(tens), Ok(ones)) => tens.wrapping_mul(10).wrapping_add(ones),
-        _ => -1,
-    }
-}
-
-pub fn index_patterns_are_tuples(alloc: Global, checks: &mut Checks) -> Result<(), AllocError> {
-    let mut array = array(alloc)?;
-    write_digits(array.indexed_iter_mut());
-    checks.shows(alloc, &array.view(), "[2, 3]: [0, 1, 2, 10, 11, 12]")?;
     Ok(())
 }
 

@@ -29,16 +29,6 @@ pub fn array(alloc: Global) -> Result<Array<i64, Ix2>, AllocError>
     table().to_owned(alloc)
 }
 
-/// An array of the rows 1, 2 and 3, 4.
-pub fn square(alloc: Global) -> Result<Array<i64, Ix2>, AllocError>
-    ensures { IfOk result (λ array. array.lengths ≡ 2 ∷ 2 ∷ []) }
-{
-    let Ok(view) = ArrayView::from_shape((2, 2), ROWS) else {
-        unreachable!()
-    };
-    view.to_owned(alloc)
-}
-
 /// An array of the numbers 1 to 6 along one axis.
 pub fn array_of_six(alloc: Global) -> Result<Array<i64, Ix1>, AllocError>
     ensures { IfOk result (λ array. array.lengths ≡ 6 ∷ []) }

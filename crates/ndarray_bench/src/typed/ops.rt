@@ -1,7 +1,7 @@
 //! Operations that change an array cell by cell.
 
 use crate::typed::checks::Checks;
-use crate::typed::layouts::square;
+use crate::typed::layouts::array;
 use ndarray::{ArrayBase, ArrayView1, Data, DataMut, Ix1, Ix2};
 use std::alloc::{AllocError, Global};
 
@@ -26,9 +26,9 @@ pub fn a_refused_update_leaves_the_cells_to_come(
     alloc: Global,
     checks: &mut Checks,
 ) -> Result<(), AllocError> {
-    let mut array = square(alloc)?;
-    let row = ArrayView1::from([10i64, 20].as_slice());
+    let mut array = array(alloc)?;
+    let row = ArrayView1::from([10i64, 20, 30].as_slice());
     checks.holds(add_up_to_three(&mut array, &row).is_err());
-    checks.shows(alloc, &array.view(), "[2, 2]: [11, 22, 3, 4]")?;
+    checks.shows(alloc, &array.view(), "[2, 3]: [11, 22, 3, 4, 5, 6]")?;
     Ok(())
 }

@@ -5,19 +5,12 @@ use crate::typed::checks::Checks;
 use crate::typed::layouts::{array, table};
 use crate::walked::products_of_two_layouts;
 use ndarray::zip::{One, Parts};
-use ndarray::{
-    ArrayBase, ArrayView1, Axis, Data, DataMut, FoldWhile, Ix1, Ix2, NdProducer, Zip, azip,
-};
+use ndarray::{Array, ArrayView1, FoldWhile, Ix1, Ix2, NdProducer, Zip, azip};
 use std::alloc::{AllocError, Global};
 use std::cell::Cell;
 
 pub fn dot_of_two_layouts(checks: &mut Checks) {
     checks.same(products_of_two_layouts(), 88);
-}
-
-pub fn a_row_broadcasts(checks: &mut Checks) {
-    let a = table();
-    checks.holds(Zip::from(&a).broadcasts(&a.index_axis(Axis(0), 1)));
 }
 
 pub fn azip_adds(checks: &mut Checks) {
@@ -27,23 +20,22 @@ pub fn azip_adds(checks: &mut Checks) {
     checks.same(total.get(), 21);
 }
 
-/// Doubles, in code that does not know what keeps the cells.
-fn double_into<S: Data<Elem = i64>, T: DataMut<Elem = i64>>(
-    from: &ArrayBase<S, Ix2>,
-    into: &mut ArrayBase<T, Ix2>,
+/// Writes twice each number, of any producer of numbers, into an array of its lengths.
+fn double_into<'a, N: NdProducer<Item = &'a i64, Dim = Ix2>>(
+    zip: Zip<Parts<N, One>, Ix2>,
+    into: &mut Array<i64, Ix2>,
 ) -> bool {
-    if !Zip::from(from).fits(&into.view()) {
+    if !zip.fits(&into.view()) {
         return false;
     }
-    Zip::from(from).map_assign_into(into, |x| x.wrapping_mul(2));
+    zip.map_assign_into(into, |x| x.wrapping_mul(2));
     true
 }
 
-pub fn a_generic_caller_doubles(alloc: Global, checks: &mut Checks) -> Result<(), AllocError> {
-    let a = array(alloc)?;
-    let mut b = array(alloc)?;
-    checks.holds(double_into(&a, &mut b));
-    checks.shows(alloc, &b.view(), "[2, 3]: [2, 4, 6, 8, 10, 12]")?;
+pub fn answers_are_written(alloc: Global, checks: &mut Checks) -> Result<(), AllocError> {
+    let mut doubled = array(alloc)?;
+    checks.holds(double_into(Zip::from(&table()), &mut doubled));
+    checks.shows(alloc, &doubled.view(), "[2, 3]: [2, 4, 6, 8, 10, 12]")?;
     Ok(())
 }
 
