@@ -19,7 +19,8 @@ module _ (g : _) (c : After-into_broadcast g) where
 
   left : c.in-Ok.cells ≡ broadcast_to c.args.left ns
   left =
-      let own : ns ≡ c.args.left.lengths = search rules in
+      let equal : c.slice.result.now ≡ c.shape.result.now = search rules in
+      let own : ns ≡ c.args.left.lengths = sym c.requires.lengths ∙ (sym c.slice.ensures.value ∙ (equal ∙ c.shape.ensures.value)) in
       let same = c.in-Ok.ensures.value in
       same ∙ (sym (broadcast_to-own c.args.left (subst IsGrid same c.in-Ok.ensures.whole)) ∙ ap (broadcast_to c.args.left) (sym own))
 
@@ -28,6 +29,9 @@ module _ (g : _) (c : After-into_broadcast g) where
 
   cells-at : (i : List ℕ) (x : g.row.A.Denot) (y : g.row.B.Denot) → cell c.in-Ok.cells i ≡ Some x → cell c.into_broadcast.result i ≡ Some y → AreCellsAt c.args.left c.args.right i x y
   cells-at i x y p q = record { left = ap (λ v. cell v i) (sym left) ∙ p; right = ap (λ v. cell v i) (sym right) ∙ q }
+
+pub update_cells-requires-clause-same : goal.update_cells-requires-clause-same
+update_cells-requires-clause-same g c = ap (λ v. v.lengths) (right g c) ∙ sym (ap (λ v. v.lengths) (left g c))
 
 pub update_cells-requires-clause-callable : goal.update_cells-requires-clause-callable
 update_cells-requires-clause-callable g c = λ o.
