@@ -1,7 +1,8 @@
 use Rattle.std.proofs.Common.{◌≡◌, ◌∙◌, ap, refl, rules, subst, sym, List, ℕ, Some}
 use Rattle.std.specs.Prelude.{⊤}
+use Rattle.core.specs.Result.{IfOk}
 use Rattle.ndarray.specs.Broadcast.{broadcast_lengths}
-use Rattle.ndarray.specs.Elementwise.{AreCellsAt}
+use Rattle.ndarray.specs.Elementwise.{AreCellsAt, Combines}
 use Rattle.ndarray.specs.Grid.{IsGrid, cell}
 use Rattle.ndarray.specs.Index.{size}
 use Rattle.ndarray.specs.Views.{broadcast_to}
@@ -37,6 +38,15 @@ pub update_cells-requires-clause-callable : goal.update_cells-requires-clause-ca
 update_cells-requires-clause-callable g c = λ o.
     may-gather _ _ _ _ (λ i x r k s h. refl) _ o
     (λ i x b s. (c.requires.can.defined i x.0 x.1.now (cells-at g c i x.0 x.1.now s.0 s.1), c.requires.left_clones, c.requires.right_clones))
+
+pub returns-then-ne : goal.returns-then-ne
+returns-then-ne g c =
+    let same = c.view.ensures.same in
+    record {
+      made = subst (λ v. IfOk c.combine_at.result (Combines v c.args.right g.O.Operation.apply_gives)) same c.combine_at.ensures.made;
+      empty = λ none. c.combine_at.ensures.empty (ap (λ v. size (broadcast_lengths v.lengths c.args.right.lengths)) same ∙ none);
+      in_place = λ own left_ok right_ok. let equal : c.slice.result.now ≡ c.shape.result.now = c.slice.ensures.value ∙ (c.requires.lengths ∙ (own ∙ sym c.shape.ensures.value)) in absurd (search (rules, equal));
+    }
 
 pub returns : goal.returns
 returns g c =
