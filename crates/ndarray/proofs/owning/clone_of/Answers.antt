@@ -1,4 +1,4 @@
-use Rattle.std.proofs.Common.{◌≡◌, ◌∙◌, ap, arith, length, rules, subst, sym}
+use Rattle.std.proofs.Common.{◌≡◌, ◌<◌, ◌∙◌, ℕ, ap, arith, length, rules, subst, sym}
 use Rattle.std.specs.List.{AllZip}
 use Rattle.std.proofs.lemmas.List.Elements.{length_all_zip, same_from_all_zip}
 use Rattle.ndarray.specs.Grid.{grid, IsGrid}
@@ -10,6 +10,13 @@ use Rattle.ndarray.proofs.cells.Cells.{along-row_order}
 use Rattle.ndarray.proofs.cells.CellsInOrder.{AllZip-cells, length-cells_in}
 use Rattle.ndarray.proofs.lists.Clones.{IsClonedTo, IsClonedTo-all, IsClonedTo-more, IsClonedTo-room}
 use Rattle.ndarray.proofs.owning.clone_of.Goals as goal
+
+-- there is room for what is left, and none when all is there
+has-room : (b n m s z : ℕ) → b < n → n ≡ m → m ≡ s → z ≡ s → b < z
+has-room b n m s z lt all whole room = omega arith
+
+is-full : (b n m s z : ℕ) → n ≡ b → n ≡ m → m ≡ s → z ≡ s → b ≡ z
+is-full b n m s z many all whole room = omega arith
 
 pub from_elements-requires : goal.from_elements-requires
 from_elements-requires g c =
@@ -36,10 +43,8 @@ push-requires g c =
     let all : c.into_iter-cell-iterator.result ≡ c.args.array.now.cells = c.into_iter-cell-iterator.ensures.into_iter_gives ∙ (c.new-cell-items.ensures.cells ∙ ap (λ v. v.cells) c.view-2.ensures.same) in
     let room = IsClonedTo-room g.A.Clone.is_clone _ _ _ _ _ c.loop-cell.invariant.clones c.in-Some-cell.ensures.steps in
     let la = ap length all in
-    let w = c.raw_dim-2.ensures.whole in
     let ns : c.loop-cell.builder.lengths ≡ c.args.array.now.lengths = c.loop-cell.invariant.lengths ∙ (ap (λ f. f.lengths) c.in_ok-builder.ensures.room ∙ c.raw_dim-2.ensures.lengths) in
-    let e = ap size ns in
-    omega arith
+    has-room (length c.loop-cell.builder.cells) (length c.into_iter-cell-iterator.result) (length c.args.array.now.cells) (size c.args.array.now.lengths) (size c.loop-cell.builder.lengths) room la c.raw_dim-2.ensures.whole (ap size ns)
 
 pub returns-in-Some-clause-cells : goal.returns-in-Some-clause-cells
 returns-in-Some-clause-cells g c =
@@ -71,10 +76,8 @@ finish-requires g c =
     let clones = IsClonedTo-all g.A.Clone.is_clone _ _ _ c.loop-cell.invariant.clones c.in-None.ensures.steps.0 in
     let l = length_all_zip g.A.Clone.is_clone _ _ clones in
     let la = ap length all in
-    let w = c.raw_dim-2.ensures.whole in
     let ns : c.loop-cell.builder.lengths ≡ c.args.array.now.lengths = c.loop-cell.invariant.lengths ∙ (ap (λ f. f.lengths) c.in_ok-builder.ensures.room ∙ c.raw_dim-2.ensures.lengths) in
-    let e = ap size ns in
-    omega arith
+    is-full (length c.loop-cell.builder.cells) (length c.into_iter-cell-iterator.result) (length c.args.array.now.cells) (size c.args.array.now.lengths) (size c.loop-cell.builder.lengths) l la c.raw_dim-2.ensures.whole (ap size ns)
 
 pub returns-clause-cells : goal.returns-clause-cells
 returns-clause-cells g c =

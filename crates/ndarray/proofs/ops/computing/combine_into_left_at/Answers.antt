@@ -1,7 +1,8 @@
 use Rattle.std.proofs.Common.{◌≡◌, ◌∙◌, ap, refl, rules, subst, sym, List, ℕ, Some}
 use Rattle.std.specs.Prelude.{⊤}
+use Rattle.core.specs.Result.{IfOk}
 use Rattle.ndarray.specs.Broadcast.{broadcast_lengths}
-use Rattle.ndarray.specs.Elementwise.{AreCellsAt}
+use Rattle.ndarray.specs.Elementwise.{AreCellsAt, Combines}
 use Rattle.ndarray.specs.Grid.{IsGrid, cell}
 use Rattle.ndarray.specs.Index.{size}
 use Rattle.ndarray.specs.Views.{broadcast_to}
@@ -19,7 +20,8 @@ module _ (g : _) (c : After-into_broadcast g) where
 
   left : c.in-Ok.cells ≡ broadcast_to c.args.left ns
   left =
-      let own : ns ≡ c.args.left.lengths = search rules in
+      let equal : c.slice.result.now ≡ c.shape.result.now = search rules in
+      let own : ns ≡ c.args.left.lengths = sym c.requires.lengths ∙ (sym c.slice.ensures.value ∙ (equal ∙ c.shape.ensures.value)) in
       let same = c.in-Ok.ensures.value in
       same ∙ (sym (broadcast_to-own c.args.left (subst IsGrid same c.in-Ok.ensures.whole)) ∙ ap (broadcast_to c.args.left) (sym own))
 
@@ -29,10 +31,22 @@ module _ (g : _) (c : After-into_broadcast g) where
   cells-at : (i : List ℕ) (x : g.row.A.Denot) (y : g.row.B.Denot) → cell c.in-Ok.cells i ≡ Some x → cell c.into_broadcast.result i ≡ Some y → AreCellsAt c.args.left c.args.right i x y
   cells-at i x y p q = record { left = ap (λ v. cell v i) (sym left) ∙ p; right = ap (λ v. cell v i) (sym right) ∙ q }
 
+pub update_cells-requires-clause-same : goal.update_cells-requires-clause-same
+update_cells-requires-clause-same g c = ap (λ v. v.lengths) (right g c) ∙ sym (ap (λ v. v.lengths) (left g c))
+
 pub update_cells-requires-clause-callable : goal.update_cells-requires-clause-callable
 update_cells-requires-clause-callable g c = λ o.
     may-gather _ _ _ _ (λ i x r k s h. refl) _ o
     (λ i x b s. (c.requires.can.defined i x.0 x.1.now (cells-at g c i x.0 x.1.now s.0 s.1), c.requires.left_clones, c.requires.right_clones))
+
+pub returns-then-ne : goal.returns-then-ne
+returns-then-ne g c =
+    let same = c.view.ensures.same in
+    record {
+      made = subst (λ v. IfOk c.combine_at.result (Combines v c.args.right g.O.Operation.apply_gives)) same c.combine_at.ensures.made;
+      empty = λ none. c.combine_at.ensures.empty (ap (λ v. size (broadcast_lengths v.lengths c.args.right.lengths)) same ∙ none);
+      in_place = λ own left_ok right_ok. let equal : c.slice.result.now ≡ c.shape.result.now = c.slice.ensures.value ∙ (c.requires.lengths ∙ (own ∙ sym c.shape.ensures.value)) in absurd (search (rules, equal));
+    }
 
 pub returns : goal.returns
 returns g c =

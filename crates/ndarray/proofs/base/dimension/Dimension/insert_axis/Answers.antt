@@ -1,29 +1,92 @@
 -- Filled from the front: the numbers before the axis, the 1 at it, and the numbers from it on.
-use Rattle.std.proofs.Common.{ℕ, insert, arith, subst}
+use Rattle.std.proofs.Common.{◌≡◌, ◌∙◌, ◌+◌, ◌<◌, ◌≤◌, ℕ, ap, insert, length, arith, refl, subst, sym}
 use Rattle.std.proofs.lemmas.List.{length-replicate}
 use Rattle.std.proofs.lemmas.List.Edits.{length-insert, get_or-insert_at, get_or-insert_below, get_or-insert_above}
 use Rattle.ndarray.proofs.lists.Prefixes.{IsFilledTo, IsFilledTo-none, IsFilledTo-more, IsFilledTo-all}
 use Rattle.ndarray.proofs.base.dimension.Dimension.insert_axis.Goals as goal
 
+-- a list that is one longer
+longer : (d n m : ℕ) → d ≡ n → m ≡ n + 1 → d + 1 ≡ m
+longer d n m axes more = omega arith
+
+-- the places before the axis, at it and after it, in a list that is one longer
+before-axis : (k a n l m : ℕ) → k < a → a ≤ n → l ≡ m → m ≡ n + 1 → k < l
+before-axis k a n l m lt most long more = omega arith
+
+at-axis : (a n l m : ℕ) → a ≤ n → l ≡ m → m ≡ n + 1 → a < l
+at-axis a n l m most long more = omega arith
+
+after-axis : (k d n l m : ℕ) → k < d → d ≡ n → l ≡ m → m ≡ n + 1 → k + 1 < l
+after-axis k d n l m lt axes long more = omega arith
+
+below-axis : (k a n : ℕ) → k < a → a ≤ n → k < n
+below-axis k a n lt most = omega arith
+
+-- what is read at one place is what stands at the other
+carried : {x y z : ℕ} → x ≡ y → z ≡ y → x ≡ z
+carried e f = e ∙ sym f
+
+at-end : (k n : ℕ) → k ≤ n → n ≤ k → k ≡ n
+at-end k n most least = omega arith
+
+all-filled : (k d n m : ℕ) → d ≤ k → d ≡ n → m ≡ n + 1 → m ≤ k + 1
+all-filled k d n m least axes more = omega arith
+
 pub loop-k-init : goal.loop-k-init
-loop-k-init g c = IsFilledTo-none _ _ (grind (arith, length-replicate, length-insert))
+loop-k-init g c =
+    let more = length-insert (g.Self.Lengths.numbers c.args.self.now) c.args.axis.0 1 c.requires.axis_at_most in
+    IsFilledTo-none _ _ (ap length c.zeros-larger.ensures ∙ (length-replicate (c.ndim-ndim.result + 1) 0 ∙ longer c.ndim-ndim.result (length (g.Self.Lengths.numbers c.args.self.now)) (length (insert (g.Self.Lengths.numbers c.args.self.now) c.args.axis.0 1)) c.ndim-ndim.ensures.value more))
+
+pub axis-requires : goal.axis-requires
+axis-requires g c = below-axis c.loop-k.k c.args.axis.0 (length (g.Self.Lengths.numbers c.args.self.now)) c.loop-k-test.true c.requires.axis_at_most
+
+pub set_axis-requires : goal.set_axis-requires
+set_axis-requires g c =
+    let ns = g.Self.Lengths.numbers c.args.self.now in
+    before-axis c.loop-k.k c.args.axis.0 (length ns) (length (g.Self.Larger.Lengths.numbers c.loop-k.larger)) (length (insert ns c.args.axis.0 1)) c.loop-k-test.true c.requires.axis_at_most c.loop-k.invariant.as_long (length-insert ns c.args.axis.0 1 c.requires.axis_at_most)
 
 pub loop-k-preserved : goal.loop-k-preserved
 loop-k-preserved g c =
-    let e = get_or-insert_below (g.Self.Lengths.numbers c.args.self.now) c.args.axis.0 1 0 c.loop-k.k c.loop-k-test.true c.requires.axis_at_most in
-    IsFilledTo-more _ _ _ _ _ 0 c.loop-k.invariant (omega (arith, length-insert {X = ℕ})) c.set_axis.ensures (cc)
+    let ns = g.Self.Lengths.numbers c.args.self.now in
+    let long = length (insert ns c.args.axis.0 1) in
+    let e = get_or-insert_below ns c.args.axis.0 1 0 c.loop-k.k c.loop-k-test.true c.requires.axis_at_most in
+    IsFilledTo-more (insert ns c.args.axis.0 1) c.loop-k.k _ _ _ 0 c.loop-k.invariant
+    (before-axis c.loop-k.k c.args.axis.0 (length ns) long long c.loop-k-test.true c.requires.axis_at_most refl (length-insert ns c.args.axis.0 1 c.requires.axis_at_most))
+    c.set_axis.ensures (carried e c.axis.ensures)
+
+pub set_axis-requires-2 : goal.set_axis-requires-2
+set_axis-requires-2 g c =
+    let ns = g.Self.Lengths.numbers c.args.self.now in
+    at-axis c.args.axis.0 (length ns) (length (g.Self.Larger.Lengths.numbers c.loop-k.larger)) (length (insert ns c.args.axis.0 1)) c.requires.axis_at_most c.loop-k.invariant.as_long (length-insert ns c.args.axis.0 1 c.requires.axis_at_most)
 
 pub loop-k-2-init : goal.loop-k-2-init
 loop-k-2-init g c =
     let ns = g.Self.Lengths.numbers c.args.self.now in
+    let long = length (insert ns c.args.axis.0 1) in
     let filled : IsFilledTo (insert ns c.args.axis.0 1) c.args.axis.0 (g.Self.Larger.Lengths.numbers c.loop-k.larger) =
-    subst (λ k. IsFilledTo (insert ns c.args.axis.0 1) k (g.Self.Larger.Lengths.numbers c.loop-k.larger)) (omega arith) c.loop-k.invariant in
-    IsFilledTo-more _ _ _ _ _ 0 filled (omega (arith, length-insert {X = ℕ})) c.set_axis-2.ensures (get_or-insert_at ns c.args.axis.0 1 0 c.requires.axis_at_most)
+    subst (λ k. IsFilledTo (insert ns c.args.axis.0 1) k (g.Self.Larger.Lengths.numbers c.loop-k.larger)) (at-end c.loop-k.k c.args.axis.0 c.loop-k.auto.k-end c.loop-k-test.false) c.loop-k.invariant in
+    IsFilledTo-more (insert ns c.args.axis.0 1) c.args.axis.0 _ _ _ 0 filled
+    (at-axis c.args.axis.0 (length ns) long long c.requires.axis_at_most refl (length-insert ns c.args.axis.0 1 c.requires.axis_at_most))
+    c.set_axis-2.ensures (get_or-insert_at ns c.args.axis.0 1 0 c.requires.axis_at_most)
+
+pub axis-requires-in-loop-k-2 : goal.axis-requires-in-loop-k-2
+axis-requires-in-loop-k-2 g c = subst (λ n. c.loop-k-2.k < n) c.ndim-ndim.ensures.value c.loop-k-2-test.true
+
+pub set_axis-requires-in-loop-k-2 : goal.set_axis-requires-in-loop-k-2
+set_axis-requires-in-loop-k-2 g c =
+    let ns = g.Self.Lengths.numbers c.args.self.now in
+    after-axis c.loop-k-2.k c.ndim-ndim.result (length ns) (length (g.Self.Larger.Lengths.numbers c.loop-k-2.larger)) (length (insert ns c.args.axis.0 1)) c.loop-k-2-test.true c.ndim-ndim.ensures.value c.loop-k-2.invariant.as_long (length-insert ns c.args.axis.0 1 c.requires.axis_at_most)
 
 pub loop-k-2-preserved : goal.loop-k-2-preserved
 loop-k-2-preserved g c =
-    let e = get_or-insert_above (g.Self.Lengths.numbers c.args.self.now) c.args.axis.0 1 0 c.loop-k-2.k c.loop-k-2.auto.k c.requires.axis_at_most in
-    IsFilledTo-more _ _ _ _ _ 0 c.loop-k-2.invariant (omega (arith, length-insert {X = ℕ})) c.set_axis-in-loop-k-2.ensures (cc)
+    let ns = g.Self.Lengths.numbers c.args.self.now in
+    let long = length (insert ns c.args.axis.0 1) in
+    let e = get_or-insert_above ns c.args.axis.0 1 0 c.loop-k-2.k c.loop-k-2.auto.k c.requires.axis_at_most in
+    IsFilledTo-more (insert ns c.args.axis.0 1) (c.loop-k-2.k + 1) _ _ _ 0 c.loop-k-2.invariant
+    (after-axis c.loop-k-2.k c.ndim-ndim.result (length ns) long long c.loop-k-2-test.true c.ndim-ndim.ensures.value refl (length-insert ns c.args.axis.0 1 c.requires.axis_at_most))
+    c.set_axis-in-loop-k-2.ensures (carried e c.axis-in-loop-k-2.ensures)
 
 pub returns : goal.returns
-returns g c = IsFilledTo-all _ _ _ c.loop-k-2.invariant (omega (arith, length-insert {X = ℕ}))
+returns g c =
+    let ns = g.Self.Lengths.numbers c.args.self.now in
+    IsFilledTo-all _ _ _ c.loop-k-2.invariant (all-filled c.loop-k-2.k c.ndim-ndim.result (length ns) (length (insert ns c.args.axis.0 1)) c.loop-k-2-test.false c.ndim-ndim.ensures.value (length-insert ns c.args.axis.0 1 c.requires.axis_at_most))

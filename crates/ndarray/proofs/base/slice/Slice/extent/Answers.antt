@@ -11,6 +11,22 @@ use Rattle.ndarray.proofs.base.slice.Slice.extent.Goals.{then-self-gt0, else-sel
 between : (x y : ℤ) (a b : ℕ) → x ≡ pos a → y ≡ pos b → a ≤ b → b < 2 ^ 63 → unsigned_abs (cast_signed w64 (cast_unsigned w64 (cast_signed w64 (cast_unsigned w64 y) -ℤ cast_signed w64 (cast_unsigned w64 x)))) ≡ b - a
 between x y a b ex ey order fits = omega (arith, ints)
 
+-- it is a word with a sign
+between-fits : (x y : ℤ) (a b : ℕ) → x ≡ pos a → y ≡ pos b → a ≤ b → b < 2 ^ 63 → FitsSigned w64 (cast_signed w64 (cast_unsigned w64 y) -ℤ cast_signed w64 (cast_unsigned w64 x))
+between-fits x y a b ex ey order fits = omega (arith, ints)
+
+below-limit : (b n : ℕ) → b ≤ n → n < 2 ^ 63 → b < 2 ^ 63
+below-limit b n most fits = omega arith
+
+pub overflow_sub-end : goal.overflow_sub-end
+overflow_sub-end c =
+    let n = c.args.len in
+    let s = c.args.self.now in
+    let e = slice-ends n s c.requires.within in
+    let a : ℕ = unsigned_abs (slice_start n s) in
+    let b : ℕ = unsigned_abs (slice_end n s) in
+    between-fits c.ends-start.result.0 c.ends-start.result.1 a b (c.ends-start.ensures.start ∙ e.start) (c.ends-start.ensures.end ∙ e.end) e.order (below-limit b n e.high c.requires.fits)
+
 pub returns-clause-len : goal.returns-clause-len
 returns-clause-len c =
     let n = c.args.len in
@@ -24,7 +40,7 @@ returns-clause-len c =
     let order = e.order in
     let high = e.high in
     let size : c.unsigned_abs.result ≡ unsigned_abs s.step = c.unsigned_abs.ensures.value ∙ ap unsigned_abs (to_z-of_z w64 s.step word) in
-    c.div_ceil-taken.ensures ∙ (ap (λ x. div_ceil x c.unsigned_abs.result) (between c.ends-start.result.0 c.ends-start.result.1 a b start end order (omega arith)) ∙ (ap (div_ceil (b - a)) size ∙ (ceil-is (b - a) (unsigned_abs s.step) (size-pos s.step c.requires.within.step) ∙ sym (slice_length-is n a b s e))))
+    c.div_ceil-taken.ensures ∙ (ap (λ x. div_ceil x c.unsigned_abs.result) (between c.ends-start.result.0 c.ends-start.result.1 a b start end order (below-limit b n high c.requires.fits)) ∙ (ap (div_ceil (b - a)) size ∙ (ceil-is (b - a) (unsigned_abs s.step) (size-pos s.step c.requires.within.step) ∙ sym (slice_length-is n a b s e))))
 
 pub returns-clause-indices : goal.returns-clause-indices
 returns-clause-indices c = λ i lt.
