@@ -1,20 +1,15 @@
 //! Tests of what rows cannot say: types and tuples, generic callers, closures. Each is an ordinary function, so that the
 //! program is proved once, with them.
 
-mod base;
 mod checks;
 mod fixed;
 mod generic;
-mod iter;
 mod iter_mut;
 mod layouts;
-mod ops;
-mod order;
 mod owned;
 mod refusing;
 mod residues;
 mod shown;
-mod writing;
 mod zip;
 
 use crate::counts::Counts;
@@ -45,25 +40,9 @@ macro_rules! carried_out {
 
 /// Carries out each test, prints the names of those that fail, and counts them.
 pub fn carried_out<R: Print + AllocGlobal>(rt: &R, given: Counts) -> io::Result<Counts> {
-    let counts = of_dimensions(rt, given)?;
-    let counts = of_reading(rt, counts)?;
+    let counts = of_reading(rt, given)?;
     let counts = of_writing(rt, counts)?;
     of_callers(rt, counts)
-}
-
-/// The tests of dimensions, shapes and index lists.
-fn of_dimensions<R: Print + AllocGlobal>(rt: &R, given: Counts) -> io::Result<Counts> {
-    carried_out!(rt, given;
-        base::what_is_written_for_a_dimension(),
-        base::patterns_read_as_tuples(),
-        base::an_axis_put_in_and_taken_out(),
-        base::the_limit_on_shapes(),
-        base::which_numbers_of_axes_a_type_has(),
-        base::numbers_are_read_and_set(),
-        base::index_lists_are_tuples_or_arrays(),
-        order::the_last_index_fastest(alloc),
-        order::a_huge_empty_box_ends_at_once(),
-    )
 }
 
 /// The tests of views to read and their iterators.
@@ -71,9 +50,6 @@ fn of_reading<R: Print + AllocGlobal>(rt: &R, given: Counts) -> io::Result<Count
     carried_out!(rt, given;
         fixed::windows_by_tuples(alloc),
         fixed::subviews_have_one_axis_fewer(alloc),
-        fixed::a_seventh_axis_is_inserted(alloc),
-        fixed::ranges_are_slices(),
-        iter::both_ends_meet(),
         owned::cells_may_own_memory(alloc),
     )
 }
@@ -83,7 +59,6 @@ fn of_writing<R: Print + AllocGlobal>(rt: &R, given: Counts) -> io::Result<Count
     carried_out!(rt, given;
         iter_mut::two_cells_held_together_are_exchanged(alloc),
         iter_mut::both_ends_of_a_step_are_written_and_the_rest_stays(alloc),
-        writing::cells_side_by_side_in_row_order_are_a_slice(alloc),
     )
 }
 
@@ -92,7 +67,6 @@ fn of_callers<R: Print + AllocGlobal>(rt: &R, given: Counts) -> io::Result<Count
     carried_out!(rt, given;
         generic::lanes_are_begun(alloc),
         generic::items_and_chunks_are_filled(alloc),
-        ops::a_refused_update_leaves_the_cells_to_come(alloc),
         refusing::refuses_one_request(alloc),
         refusing::lists_grow_or_are_left(alloc),
         residues::fibonacci_numbers_of_residues(alloc),
