@@ -20,10 +20,10 @@ use std::process::ExitCode;
 use std::{env, fs, io};
 
 fn main(rt: HostRuntime) -> io::Result<ExitCode> {
-    let mut counts = typed::carried_out(&rt, Counts::new())?;
+    let mut counts = typed::carry_out_all(&rt, Counts::new())?;
     for name in env::args(&rt)?.skip(1) {
         let text = fs::read_to_string(&rt, name.as_str())?;
-        counts = rows::compared(&rt, name.as_str(), text.as_str(), counts)?;
+        counts = rows::compare(&rt, name.as_str(), text.as_str(), counts)?;
     }
     println!(rt; "{counts}")?;
     Ok(counts.status())

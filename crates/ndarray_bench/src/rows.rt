@@ -26,7 +26,7 @@ use std::alloc::{AllocError, Global};
 use std::io;
 
 /// Carries out the rows of a file, prints those that give another answer, and counts them.
-pub fn compared<R: Print + AllocGlobal>(
+pub fn compare<R: Print + AllocGlobal>(
     rt: &R,
     name: &str,
     text: &str,

@@ -18,28 +18,28 @@ use std::io;
 
 /// Carries out tests, prints the names of those that fail, and counts them. A test that is written with `alloc` needs
 /// memory.
-macro_rules! carried_out {
+macro_rules! carry_out {
     ($rt:ident, $counts:ident; $($module:ident::$test:ident($($alloc:ident)?)),+ $(,)?) => {{
         let mut counts = $counts;
         $(
-            counts = carried_out!(@one $rt, counts; $module, $test $(, $alloc)?);
+            counts = carry_out!(@one $rt, counts; $module, $test $(, $alloc)?);
         )+
         Ok(counts)
     }};
     (@one $rt:ident, $counts:ident; $module:ident, $test:ident) => {{
         let mut checks = Checks::new();
         $module::$test(&mut checks);
-        counted($rt, $counts, stringify!($test), checks)?
+        count($rt, $counts, stringify!($test), checks)?
     }};
     (@one $rt:ident, $counts:ident; $module:ident, $test:ident, alloc) => {{
         let mut checks = Checks::new();
         $module::$test($rt.alloc(), &mut checks)?;
-        counted($rt, $counts, stringify!($test), checks)?
+        count($rt, $counts, stringify!($test), checks)?
     }};
 }
 
 /// Carries out each test, prints the names of those that fail, and counts them.
-pub fn carried_out<R: Print + AllocGlobal>(rt: &R, given: Counts) -> io::Result<Counts> {
+pub fn carry_out_all<R: Print + AllocGlobal>(rt: &R, given: Counts) -> io::Result<Counts> {
     let counts = of_reading(rt, given)?;
     let counts = of_writing(rt, counts)?;
     of_callers(rt, counts)
@@ -47,7 +47,7 @@ pub fn carried_out<R: Print + AllocGlobal>(rt: &R, given: Counts) -> io::Result<
 
 /// The tests of views to read and their iterators.
 fn of_reading<R: Print + AllocGlobal>(rt: &R, given: Counts) -> io::Result<Counts> {
-    carried_out!(rt, given;
+    carry_out!(rt, given;
         fixed::windows_by_tuples(alloc),
         fixed::subviews_have_one_axis_fewer(alloc),
         owned::cells_may_own_memory(alloc),
@@ -56,7 +56,7 @@ fn of_reading<R: Print + AllocGlobal>(rt: &R, given: Counts) -> io::Result<Count
 
 /// The tests of views to write in and their iterators.
 fn of_writing<R: Print + AllocGlobal>(rt: &R, given: Counts) -> io::Result<Counts> {
-    carried_out!(rt, given;
+    carry_out!(rt, given;
         iter_mut::two_cells_held_together_are_exchanged(alloc),
         iter_mut::both_ends_of_a_step_are_written_and_the_rest_stays(alloc),
     )
@@ -64,7 +64,7 @@ fn of_writing<R: Print + AllocGlobal>(rt: &R, given: Counts) -> io::Result<Count
 
 /// The tests of generic callers, closures and what the program has of its own.
 fn of_callers<R: Print + AllocGlobal>(rt: &R, given: Counts) -> io::Result<Counts> {
-    carried_out!(rt, given;
+    carry_out!(rt, given;
         generic::lanes_are_begun(alloc),
         generic::items_and_chunks_are_filled(alloc),
         refusing::refuses_one_request(alloc),
@@ -78,7 +78,7 @@ fn of_callers<R: Print + AllocGlobal>(rt: &R, given: Counts) -> io::Result<Count
 }
 
 /// One test more, whose name is printed where it fails.
-fn counted<R: Print>(rt: &R, counts: Counts, name: &str, checks: Checks) -> io::Result<Counts> {
+fn count<R: Print>(rt: &R, counts: Counts, name: &str, checks: Checks) -> io::Result<Counts> {
     let has_passed = checks.have_passed();
     if !has_passed {
         println!(rt; "{name}: {checks}")?;

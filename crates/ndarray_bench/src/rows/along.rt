@@ -3,9 +3,9 @@
 use crate::rows::calls::ViewCall;
 use crate::rows::layouts::Table;
 use crate::rows::operators::{View, push_answer};
-use crate::rows::reading::{all_viewed, kind};
+use crate::rows::reading::{apply_all, kind};
 use crate::rows::spelling::{axis, number};
-use crate::rows::wrapped::all_wrapped;
+use crate::rows::wrapped::wrap_all;
 use ndarray::Axis;
 use std::alloc::{AllocError, Global};
 
@@ -16,8 +16,8 @@ pub fn answer(
     views: &[ViewCall],
     words: &[&str],
 ) -> Result<Option<String>, AllocError> {
-    match AlongCall::spelled(words) {
-        Some(call) => computed(alloc, table, views, call).map(Some),
+    match AlongCall::parse(words) {
+        Some(call) => compute(alloc, table, views, call).map(Some),
         None => Ok(None),
     }
 }
@@ -31,7 +31,7 @@ enum AlongCall {
 
 impl AlongCall {
     /// The call that these words spell.
-    fn spelled(words: &[&str]) -> Option<AlongCall> {
+    fn parse(words: &[&str]) -> Option<AlongCall> {
         let (name, arguments) = words.split_first()?;
         match arguments {
             [at] if *name == "cumprod" => Some(AlongCall::Cumprod(axis(*at)?)),
@@ -42,18 +42,18 @@ impl AlongCall {
 }
 
 /// What a call gives on a table, after calls that view it; `refused` where a test of the library says no.
-fn computed(
+fn compute(
     alloc: Global,
     table: &Table,
     views: &[ViewCall],
     call: AlongCall,
 ) -> Result<String, AllocError> {
-    let cells = all_wrapped(alloc, table.cells.as_slice())?;
+    let cells = wrap_all(alloc, table.cells.as_slice())?;
     let view = match table.view_of(cells.as_slice()) {
         Ok(view) => view,
         Err(error) => return kind(alloc, &error),
     };
-    match all_viewed(view, views) {
+    match apply_all(view, views) {
         Some(view) => along(alloc, &view, call),
         None => "refused".to_string(alloc),
     }

@@ -2,7 +2,7 @@
 
 use crate::rows::calls::ViewCall;
 use crate::rows::layouts::{Layout, Table};
-use crate::rows::writing::views_spelled;
+use crate::rows::writing::parse_views;
 use crate::rows::{along, joining, operators, owned, products, reading, spelling, writing};
 use std::alloc::{AllocError, Global};
 
@@ -17,7 +17,7 @@ pub fn answer(alloc: Global, row: &str, layout: Layout) -> Result<String, AllocE
     let words: Vec<&str> = table.split_whitespace().collect(alloc)?;
     match words.as_slice() {
         ["i8", words @ ..] => of_i8(alloc, words, calls, layout),
-        words => called(alloc, words, calls, layout),
+        words => carry_out(alloc, words, calls, layout),
     }
 }
 
@@ -28,7 +28,7 @@ fn of_i8(
     calls: &[&str],
     layout: Layout,
 ) -> Result<String, AllocError> {
-    let Some(table) = spelled(alloc, table, layout)? else {
+    let Some(table) = parse_table(alloc, table, layout)? else {
         return "no table".to_string(alloc);
     };
     let Some(cells) = as_i8(alloc, table.cells.as_slice())? else {
@@ -70,23 +70,27 @@ fn as_i8(alloc: Global, cells: &[i64]) -> Result<Option<Vec<i8>>, AllocError> {
 }
 
 /// What calls give on a layout of a table.
-fn called(
+fn carry_out(
     alloc: Global,
     table: &[&str],
     calls: &[&str],
     layout: Layout,
 ) -> Result<String, AllocError> {
-    let Some(table) = spelled(alloc, table, layout)? else {
+    let Some(table) = parse_table(alloc, table, layout)? else {
         return "no table".to_string(alloc);
     };
     match calls.split_first() {
-        Some((first, rest)) => begun(alloc, table, first.trim(), rest, calls),
+        Some((first, rest)) => carry_out_on(alloc, table, first.trim(), rest, calls),
         None => read(alloc, &table, calls),
     }
 }
 
 /// The table of these words; `None` where they spell none.
-pub fn spelled(alloc: Global, words: &[&str], layout: Layout) -> Result<Option<Table>, AllocError> {
+pub fn parse_table(
+    alloc: Global,
+    words: &[&str],
+    layout: Layout,
+) -> Result<Option<Table>, AllocError> {
     let Some((shape, cells)) = words.split_first() else {
         return Ok(None);
     };
@@ -100,7 +104,7 @@ pub fn spelled(alloc: Global, words: &[&str], layout: Layout) -> Result<Option<T
 }
 
 /// What calls give on a table, by the first of them.
-fn begun(
+fn carry_out_on(
     alloc: Global,
     table: Table,
     first: &str,
@@ -110,16 +114,16 @@ fn begun(
     match first {
         "view_mut" => writing::answer(alloc, table, rest),
         "owned" => owned::answer(alloc, table, rest),
-        "cow_array" => owned::borrowed(alloc, &table, rest),
+        "cow_array" => owned::borrow(alloc, &table, rest),
         _ => read(alloc, &table, calls),
     }
 }
 
 /// What calls give on a view of a table.
 fn read(alloc: Global, table: &Table, calls: &[&str]) -> Result<String, AllocError> {
-    let views = views_spelled(alloc, calls)?;
+    let views = parse_views(alloc, calls)?;
     if let [call] = calls.get(views.len()..).unwrap_or(&[]) {
-        if let Some(text) = made(alloc, table, views.as_slice(), *call)? {
+        if let Some(text) = make(alloc, table, views.as_slice(), *call)? {
             return Ok(text);
         }
     }
@@ -130,7 +134,7 @@ fn read(alloc: Global, table: &Table, calls: &[&str]) -> Result<String, AllocErr
 }
 
 /// What a call gives that makes an array of a table, after calls that view it; `None` for another call.
-fn made(
+fn make(
     alloc: Global,
     table: &Table,
     views: &[ViewCall],

@@ -20,18 +20,18 @@ impl ViewCall {
     /// The call that this text spells.
     pub fn of_text(alloc: Global, call: &str) -> Result<Option<ViewCall>, AllocError> {
         let words: Vec<&str> = call.split_whitespace().collect(alloc)?;
-        Ok(ViewCall::spelled(words.as_slice()))
+        Ok(ViewCall::parse(words.as_slice()))
     }
 
     /// The call that these words spell.
-    pub fn spelled(words: &[&str]) -> Option<ViewCall> {
+    pub fn parse(words: &[&str]) -> Option<ViewCall> {
         let (name, arguments) = words.split_first()?;
         match arguments {
             [] if *name == "reversed_axes" => Some(ViewCall::ReversedAxes),
             [argument] => ViewCall::of_one(*name, *argument),
             [first, second] => ViewCall::of_two(*name, *first, *second),
             [at, range, step] if *name == "slice_axis_inplace" => {
-                ViewCall::sliced(*at, *range, *step)
+                ViewCall::slice_of_axis(*at, *range, *step)
             }
             _ => None,
         }
@@ -51,14 +51,14 @@ impl ViewCall {
     fn of_two(name: &str, first: &str, second: &str) -> Option<ViewCall> {
         match name {
             "swap_axes" => Some(ViewCall::SwapAxes(number(first)?, number(second)?)),
-            "slice_axis_inplace" => ViewCall::sliced(first, second, "1"),
+            "slice_axis_inplace" => ViewCall::slice_of_axis(first, second, "1"),
             "index_axis_move" => Some(ViewCall::IndexAxisMove(axis(first)?, number(second)?)),
             _ => None,
         }
     }
 
     /// A slice of an axis, with a range and a step.
-    fn sliced(at: &str, range: &str, step: &str) -> Option<ViewCall> {
+    fn slice_of_axis(at: &str, range: &str, step: &str) -> Option<ViewCall> {
         Some(ViewCall::SliceAxisInplace(axis(at)?, slice(range, step)?))
     }
 }
@@ -74,20 +74,22 @@ pub enum PartCall {
 
 impl PartCall {
     /// The call of this name with these arguments.
-    pub fn spelled(name: &str, arguments: &[&str]) -> Option<PartCall> {
+    pub fn parse(name: &str, arguments: &[&str]) -> Option<PartCall> {
         match arguments {
-            [] => PartCall::whole(name),
+            [] => PartCall::without_arguments(name),
             [at, index] if name == "index_axis" => {
                 Some(PartCall::IndexAxis(axis(*at)?, number(*index)?))
             }
-            [at, range] if name == "slice_axis" => PartCall::sliced(*at, *range, "1"),
-            [at, range, step] if name == "slice_axis" => PartCall::sliced(*at, *range, *step),
+            [at, range] if name == "slice_axis" => PartCall::slice_of_axis(*at, *range, "1"),
+            [at, range, step] if name == "slice_axis" => PartCall::slice_of_axis(
+                *at, *range, *step,
+            ),
             _ => None,
         }
     }
 
     /// The call of this name that borrows all of the view.
-    fn whole(name: &str) -> Option<PartCall> {
+    fn without_arguments(name: &str) -> Option<PartCall> {
         match name {
             "view" => Some(PartCall::View),
             "t" => Some(PartCall::Transposed),
@@ -96,7 +98,7 @@ impl PartCall {
     }
 
     /// A slice of an axis, with a range and a step.
-    fn sliced(at: &str, range: &str, step: &str) -> Option<PartCall> {
+    fn slice_of_axis(at: &str, range: &str, step: &str) -> Option<PartCall> {
         Some(PartCall::SliceAxis(axis(at)?, slice(range, step)?))
     }
 }
@@ -119,7 +121,7 @@ pub enum Pieces {
 
 impl Pieces {
     /// The call of this name with these arguments.
-    pub fn spelled(
+    pub fn parse(
         alloc: Global,
         name: &str,
         arguments: &[&str],
@@ -207,7 +209,7 @@ pub enum Cells {
 
 impl Cells {
     /// The call of this name.
-    pub fn spelled(name: &str) -> Option<Cells> {
+    pub fn parse(name: &str) -> Option<Cells> {
         match name {
             "iter" => Some(Cells::Iter),
             "indexed_iter" => Some(Cells::IndexedIter),
@@ -241,7 +243,7 @@ pub enum CellsMut {
 
 impl WriteCall {
     /// The call that these words spell.
-    pub fn spelled(alloc: Global, words: &[&str]) -> Result<Option<WriteCall>, AllocError> {
+    pub fn parse(alloc: Global, words: &[&str]) -> Result<Option<WriteCall>, AllocError> {
         let Some((name, arguments)) = words.split_first() else {
             return Ok(None);
         };
@@ -289,7 +291,7 @@ impl WriteCall {
             "iter" => Ok(Some(WriteCall::Cells(CellsMut::IterMut))),
             "indexed_iter" => Ok(Some(WriteCall::Cells(CellsMut::IndexedIterMut))),
             "elements_base" => Ok(Some(WriteCall::ElementsBaseMut)),
-            stem => Ok(Pieces::spelled(alloc, stem, arguments)?.map(WriteCall::Pieces)),
+            stem => Ok(Pieces::parse(alloc, stem, arguments)?.map(WriteCall::Pieces)),
         }
     }
 }

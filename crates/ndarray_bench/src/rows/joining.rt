@@ -1,10 +1,10 @@
 //! Tables joined along an axis or stacked along a new one, and triangles of a table.
 
-use crate::rows::answer::spelled;
+use crate::rows::answer::parse_table;
 use crate::rows::calls::ViewCall;
 use crate::rows::layouts::{LAYOUTS, Layout, Table};
 use crate::rows::operators::push_text;
-use crate::rows::reading::{all_viewed, kind};
+use crate::rows::reading::{apply_all, kind};
 use crate::rows::shown::as_text;
 use crate::rows::spelling::axis;
 use ndarray::{Array, ArrayView, Axis, IxDyn, StackError, concatenate, stack};
@@ -31,11 +31,11 @@ pub fn answer(
     let [name, argument, words @ ..] = words.as_slice() else {
         return Ok(None);
     };
-    let Some(call) = JoinCall::spelled(*name, *argument) else {
+    let Some(call) = JoinCall::parse(*name, *argument) else {
         return Ok(None);
     };
     match table.view() {
-        Ok(view) => match all_viewed(view, views) {
+        Ok(view) => match apply_all(view, views) {
             Some(view) => in_each_layout(alloc, &view, call, words, others).map(Some),
             None => "refused".to_string(alloc).map(Some),
         },
@@ -54,7 +54,7 @@ enum JoinCall {
 
 impl JoinCall {
     /// The call of this name with this argument.
-    fn spelled(name: &str, argument: &str) -> Option<JoinCall> {
+    fn parse(name: &str, argument: &str) -> Option<JoinCall> {
         match name {
             "concatenate" => Some(JoinCall::Concatenate(axis(argument)?)),
             "stack" => Some(JoinCall::Stack(axis(argument)?)),
@@ -75,10 +75,10 @@ fn in_each_layout(
 ) -> Result<String, AllocError> {
     let mut text = String::new(alloc);
     for layout in LAYOUTS {
-        let Some(tables) = all_spelled(alloc, first, others, *layout)? else {
+        let Some(tables) = parse_all(alloc, first, others, *layout)? else {
             return "not understood".to_string(alloc);
         };
-        let next = match joined(alloc, view, call, tables.as_slice())? {
+        let next = match join(alloc, view, call, tables.as_slice())? {
             Ok(array) => as_text(alloc, &array.view())?,
             Err(StackError::Shape(error)) => kind(alloc, &error)?,
             Err(StackError::Memory(error)) => return Err(error),
@@ -89,7 +89,7 @@ fn in_each_layout(
 }
 
 /// The further tables of a call; `None` where words spell none.
-fn all_spelled(
+fn parse_all(
     alloc: Global,
     first: &[&str],
     others: &[&str],
@@ -99,13 +99,13 @@ fn all_spelled(
     if first.is_empty() {
         return Ok(Some(tables));
     }
-    let Some(table) = spelled(alloc, first, layout)? else {
+    let Some(table) = parse_table(alloc, first, layout)? else {
         return Ok(None);
     };
     tables.push(table)?;
     for other in others {
         let words: Vec<&str> = other.split_whitespace().collect(alloc)?;
-        let Some(table) = spelled(alloc, words.as_slice(), layout)? else {
+        let Some(table) = parse_table(alloc, words.as_slice(), layout)? else {
             return Ok(None);
         };
         tables.push(table)?;
@@ -114,7 +114,7 @@ fn all_spelled(
 }
 
 /// What a call gives on a view and further tables.
-fn joined(
+fn join(
     alloc: Global,
     view: &View<'_>,
     call: JoinCall,

@@ -70,7 +70,7 @@ impl Table {
         if layout == Layout::Stepped {
             return spread(alloc, lengths, cells);
         }
-        let cells = arranged(alloc, lengths.slice(), cells, layout)?;
+        let cells = arrange(alloc, lengths.slice(), cells, layout)?;
         Ok(Table {
             layout,
             lengths,
@@ -120,7 +120,7 @@ impl Table {
 }
 
 /// Cells as they lie in memory, which are given in row order, where they lie one after another.
-fn arranged(
+fn arrange(
     alloc: Global,
     lengths: &[usize],
     given: Vec<i64>,
@@ -180,7 +180,7 @@ fn row_position(lengths: &[usize], place: usize) -> usize {
 
 /// The table at every second place along each axis of a larger one, where that is not too large.
 fn spread(alloc: Global, lengths: IxDyn, cells: Vec<i64>) -> Result<Table, AllocError> {
-    let larger = doubled(alloc, lengths.slice())?.unwrap_or(lengths.copied());
+    let larger = double(alloc, lengths.slice())?.unwrap_or(lengths.copied());
     if larger.slice() == lengths.slice() || !larger.size_ok() {
         return Ok(Table::in_rows(lengths, cells));
     }
@@ -212,7 +212,7 @@ fn at_even_places(
 }
 
 /// Twice each length above 1, where the lengths are small.
-fn doubled(alloc: Global, lengths: &[usize]) -> Result<Option<IxDyn>, AllocError> {
+fn double(alloc: Global, lengths: &[usize]) -> Result<Option<IxDyn>, AllocError> {
     let mut numbers = Vec::new(alloc);
     for length in lengths {
         if *length > 1000 {

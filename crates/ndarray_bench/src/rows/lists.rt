@@ -2,7 +2,7 @@
 
 use crate::rows::calls::{Cells, Pieces};
 use crate::rows::reading::View;
-use crate::rows::stepping::{Ending, cloned, parted_to_read};
+use crate::rows::stepping::{Ending, read_both_ends, step_with_clones};
 use crate::rows::steps::Step;
 use ndarray::iter::ElementsBase;
 use ndarray::{ArrayView1, Axis, IxDyn, Lengths};
@@ -16,11 +16,11 @@ pub fn cells(
     steps: &[Step],
 ) -> Result<Ending, AllocError> {
     match call {
-        Cells::Iter => cloned(alloc, view.iter(), steps),
-        Cells::IndexedIter => cloned(alloc, view.indexed_iter(), steps),
-        Cells::IntoIter => cloned(alloc, view.view().into_iter(), steps),
-        Cells::RefIntoIter => cloned(alloc, (&*view).into_iter(), steps),
-        Cells::ElementsBase => cloned(alloc, ElementsBase::new(view.view()), steps),
+        Cells::Iter => step_with_clones(alloc, view.iter(), steps),
+        Cells::IndexedIter => step_with_clones(alloc, view.indexed_iter(), steps),
+        Cells::IntoIter => step_with_clones(alloc, view.view().into_iter(), steps),
+        Cells::RefIntoIter => step_with_clones(alloc, (&*view).into_iter(), steps),
+        Cells::ElementsBase => step_with_clones(alloc, ElementsBase::new(view.view()), steps),
     }
 }
 
@@ -51,15 +51,15 @@ fn along_axis(
 ) -> Result<Ending, AllocError> {
     match pieces {
         Pieces::AxisIter(axis) if view.axis_ok(*axis) => {
-            parted_to_read(alloc, view.axis_iter(*axis), steps)
+            read_both_ends(alloc, view.axis_iter(*axis), steps)
         }
-        Pieces::OuterIter if view.axis_ok(Axis(0)) => parted_to_read(
+        Pieces::OuterIter if view.axis_ok(Axis(0)) => read_both_ends(
             alloc,
             view.outer_iter(),
             steps,
         ),
         Pieces::AxisChunksIter(axis, size) if view.chunk_ok(*axis, *size) => {
-            parted_to_read(alloc, view.axis_chunks_iter(*axis, *size), steps)
+            read_both_ends(alloc, view.axis_chunks_iter(*axis, *size), steps)
         }
         _ => Ok(Ending::Refused),
     }
@@ -74,12 +74,12 @@ fn lanes(
 ) -> Result<Ending, AllocError> {
     match pieces {
         Pieces::Lanes(axis) if view.lanes_ok(*axis) => {
-            cloned(alloc, view.lanes(*axis).into_iter(), steps)
+            step_with_clones(alloc, view.lanes(*axis).into_iter(), steps)
         }
-        Pieces::Rows => cloned(alloc, view.rows().into_iter(), steps),
-        Pieces::Columns => cloned(alloc, view.columns().into_iter(), steps),
+        Pieces::Rows => step_with_clones(alloc, view.rows().into_iter(), steps),
+        Pieces::Columns => step_with_clones(alloc, view.columns().into_iter(), steps),
         Pieces::ExactChunks(chunk) if view.chunks_ok(chunk) => {
-            cloned(alloc, view.exact_chunks(chunk.copied()).into_iter(), steps)
+            step_with_clones(alloc, view.exact_chunks(chunk.copied()).into_iter(), steps)
         }
         _ => Ok(Ending::Refused),
     }
@@ -94,19 +94,19 @@ fn windows(
 ) -> Result<Ending, AllocError> {
     match pieces {
         Pieces::Windows(window) if view.chunks_ok(window) => {
-            cloned(alloc, view.windows(window.copied()).into_iter(), steps)
+            step_with_clones(alloc, view.windows(window.copied()).into_iter(), steps)
         }
         Pieces::WindowsWithStride(window, strides) if view.windows_ok(window, strides) => {
             let windows = view.windows_with_stride(window.copied(), strides.copied());
-            cloned(alloc, windows.into_iter(), steps)
+            step_with_clones(alloc, windows.into_iter(), steps)
         }
         Pieces::AxisWindows(axis, window) if view.chunk_ok(*axis, *window) => {
-            cloned(alloc, view.axis_windows(*axis, *window).into_iter(), steps)
+            step_with_clones(alloc, view.axis_windows(*axis, *window).into_iter(), steps)
         }
         Pieces::AxisWindowsWithStride(axis, window, stride)
             if view.chunk_ok(*axis, *window) && view.chunk_ok(*axis, *stride) => {
             let windows = view.axis_windows_with_stride(*axis, *window, *stride);
-            cloned(alloc, windows.into_iter(), steps)
+            step_with_clones(alloc, windows.into_iter(), steps)
         }
         _ => Ok(Ending::Refused),
     }

@@ -2,13 +2,13 @@
 
 ghost use Rattle.ndarray.specs.Broadcast.{BroadcastTogether};
 
-use crate::rows::answer::spelled;
+use crate::rows::answer::parse_table;
 use crate::rows::calls::ViewCall;
 use crate::rows::layouts::{LAYOUTS, Table};
-use crate::rows::reading::{all_viewed, kind};
+use crate::rows::reading::{apply_all, kind};
 use crate::rows::shown::push_lengths;
 use crate::rows::spelling::cell;
-use crate::rows::wrapped::{Wrapped, all_wrapped};
+use crate::rows::wrapped::{Wrapped, wrap_all};
 use ndarray::{Array, ArrayView, IxDyn, Lengths};
 use std::alloc::{AllocError, Global};
 
@@ -29,8 +29,8 @@ pub fn answer(
     let Some((name, arguments)) = words.split_first() else {
         return Ok(None);
     };
-    match Operator::named(*name) {
-        Some(operator) => computed(alloc, table, views, operator, arguments).map(Some),
+    match Operator::by_name(*name) {
+        Some(operator) => compute(alloc, table, views, operator, arguments).map(Some),
         None => Ok(None),
     }
 }
@@ -73,11 +73,11 @@ enum Bits {
 
 impl Operator {
     /// The operator of this name.
-    fn named(name: &str) -> Option<Operator> {
-        if let Some(operator) = Bits::named(name) {
+    fn by_name(name: &str) -> Option<Operator> {
+        if let Some(operator) = Bits::by_name(name) {
             return Some(Operator::Bits(operator));
         }
-        if let Some(operator) = Products::named(name) {
+        if let Some(operator) = Products::by_name(name) {
             return Some(Operator::Products(operator));
         }
         match name {
@@ -92,7 +92,7 @@ impl Operator {
 
 impl Products {
     /// The operator of this name.
-    fn named(name: &str) -> Option<Products> {
+    fn by_name(name: &str) -> Option<Products> {
         match name {
             "mul" => Some(Products::Mul),
             "div" => Some(Products::Div),
@@ -104,7 +104,7 @@ impl Products {
 
 impl Bits {
     /// The operator of this name.
-    fn named(name: &str) -> Option<Bits> {
+    fn by_name(name: &str) -> Option<Bits> {
         match name {
             "bitand" => Some(Bits::And),
             "bitor" => Some(Bits::Or),
@@ -117,19 +117,19 @@ impl Bits {
 }
 
 /// What an operator gives on a table, after calls that view it, and the words of its right side.
-fn computed(
+fn compute(
     alloc: Global,
     table: &Table,
     views: &[ViewCall],
     operator: Operator,
     words: &[&str],
 ) -> Result<String, AllocError> {
-    let cells = all_wrapped(alloc, table.cells.as_slice())?;
+    let cells = wrap_all(alloc, table.cells.as_slice())?;
     let view = match table.view_of(cells.as_slice()) {
         Ok(view) => view,
         Err(error) => return kind(alloc, &error),
     };
-    let Some(view) = all_viewed(view, views) else {
+    let Some(view) = apply_all(view, views) else {
         return "refused".to_string(alloc);
     };
     match words {
@@ -179,10 +179,10 @@ fn with_tables(
 ) -> Result<String, AllocError> {
     let mut text = String::new(alloc);
     for layout in LAYOUTS {
-        let Some(table) = spelled(alloc, words, *layout)? else {
+        let Some(table) = parse_table(alloc, words, *layout)? else {
             return "not understood".to_string(alloc);
         };
-        let cells = all_wrapped(alloc, table.cells.as_slice())?;
+        let cells = wrap_all(alloc, table.cells.as_slice())?;
         match table.view_of(cells.as_slice()) {
             Ok(right) => push_between(&mut text, alloc, left, operator, &right)?,
             Err(error) => return kind(alloc, &error),

@@ -3,7 +3,7 @@
 use crate::rows::calls::{ViewCall, WriteCall};
 use crate::rows::layouts::{Layout, Table, cut};
 use crate::rows::shown::as_text;
-use crate::rows::stepping::forward;
+use crate::rows::stepping::step_forward;
 use crate::rows::steps::Step;
 use crate::rows::{reading, spelling, writing};
 use ndarray::iter::IntoIter;
@@ -17,22 +17,22 @@ pub fn answer(alloc: Global, table: Table, calls: &[&str]) -> Result<String, All
         Ok(whole) => {
             let mut array = whole;
             cut(&mut array, layout);
-            called(alloc, array, layout, calls)
+            carry_out(alloc, array, layout, calls)
         }
         Err(error) => reading::kind(alloc, &error),
     }
 }
 
 /// What calls give on an array that borrows the cells of a table, and would own a copy of them.
-pub fn borrowed(alloc: Global, table: &Table, calls: &[&str]) -> Result<String, AllocError> {
+pub fn borrow(alloc: Global, table: &Table, calls: &[&str]) -> Result<String, AllocError> {
     match table.view() {
-        Ok(view) => shared(alloc, CowArray::from(view), calls),
+        Ok(view) => share(alloc, CowArray::from(view), calls),
         Err(error) => reading::kind(alloc, &error),
     }
 }
 
 /// What calls give on an array: calls that make another array of it, and then one of another kind.
-fn called(
+fn carry_out(
     alloc: Global,
     given: Array<i64, IxDyn>,
     layout: Layout,
@@ -40,10 +40,10 @@ fn called(
 ) -> Result<String, AllocError> {
     let mut array = given;
     for (at, call) in calls.iter().enumerate() {
-        let Some(call) = ArrayCall::spelled(alloc, *call)? else {
-            return ended(alloc, array, calls.get(at..).unwrap_or(&[]));
+        let Some(call) = ArrayCall::parse(alloc, *call)? else {
+            return finish(alloc, array, calls.get(at..).unwrap_or(&[]));
         };
-        array = match made(alloc, array, layout, call)? {
+        array = match make(alloc, array, layout, call)? {
             Some(next) => next,
             None => return "refused".to_string(alloc),
         };
@@ -52,14 +52,14 @@ fn called(
 }
 
 /// The array that a call makes of an array; `None` where its test says no.
-fn made(
+fn make(
     alloc: Global,
     array: Array<i64, IxDyn>,
     layout: Layout,
     call: ArrayCall,
 ) -> Result<Option<Array<i64, IxDyn>>, AllocError> {
     match call {
-        ArrayCall::View(call) => Ok(reading::viewed(array, call).unwrap_or(None)),
+        ArrayCall::View(call) => Ok(reading::apply(array, call).unwrap_or(None)),
         ArrayCall::ToOwned => Array::to_owned(&array, alloc).map(Some),
         ArrayCall::IntoOwned => array.into_owned(alloc).map(Some),
         ArrayCall::Zeros => zeros(alloc, &array, layout).map(Some),
@@ -79,25 +79,25 @@ enum ArrayCall {
 
 impl ArrayCall {
     /// The call that this text spells.
-    fn spelled(alloc: Global, call: &str) -> Result<Option<ArrayCall>, AllocError> {
+    fn parse(alloc: Global, call: &str) -> Result<Option<ArrayCall>, AllocError> {
         let words: Vec<&str> = call.split_whitespace().collect(alloc)?;
-        match ViewCall::spelled(words.as_slice()) {
+        match ViewCall::parse(words.as_slice()) {
             Some(call) => Ok(Some(ArrayCall::View(call))),
-            None => Ok(ArrayCall::making(words.as_slice())),
+            None => Ok(ArrayCall::parse_maker(words.as_slice())),
         }
     }
 
     /// The call that these words spell, which makes an array anew.
-    fn making(words: &[&str]) -> Option<ArrayCall> {
+    fn parse_maker(words: &[&str]) -> Option<ArrayCall> {
         match words {
             ["from_elem", word] => Some(ArrayCall::FromElem(spelling::cell(*word)?)),
-            [name] => ArrayCall::named(*name),
+            [name] => ArrayCall::by_name(*name),
             _ => None,
         }
     }
 
     /// The call of this name without arguments.
-    fn named(name: &str) -> Option<ArrayCall> {
+    fn by_name(name: &str) -> Option<ArrayCall> {
         match name {
             "to_owned" => Some(ArrayCall::ToOwned),
             "into_owned" => Some(ArrayCall::IntoOwned),
@@ -138,32 +138,32 @@ fn of_one_cell(
 
 /// What a call gives that makes no other array: the cells that are moved out, an array that may be owned, or what the
 /// array holds after a call that writes.
-fn ended(alloc: Global, array: Array<i64, IxDyn>, calls: &[&str]) -> Result<String, AllocError> {
+fn finish(alloc: Global, array: Array<i64, IxDyn>, calls: &[&str]) -> Result<String, AllocError> {
     let Some((call, rest)) = calls.split_first() else {
         return as_text(alloc, &array.view());
     };
     match call.trim() {
-        "cow_array" => shared(alloc, CowArray::from(array), rest),
-        "into_iter" => moved(alloc, array.into_iter(), rest),
-        _ => written(alloc, array, calls),
+        "cow_array" => share(alloc, CowArray::from(array), rest),
+        "into_iter" => move_out(alloc, array.into_iter(), rest),
+        _ => write(alloc, array, calls),
     }
 }
 
 /// What an array holds after a call that writes, the first of these.
-fn written(alloc: Global, given: Array<i64, IxDyn>, calls: &[&str]) -> Result<String, AllocError> {
-    let Some((call, steps)) = writing::last_spelled(alloc, calls)? else {
+fn write(alloc: Global, given: Array<i64, IxDyn>, calls: &[&str]) -> Result<String, AllocError> {
+    let Some((call, steps)) = writing::parse_last(alloc, calls)? else {
         return "not understood".to_string(alloc);
     };
     let mut array = given;
     let ending = match call {
         WriteCall::GetMut(at, value) => writing::set(alloc, &mut array, at, value)?,
-        call => writing::written(alloc, &mut array.view_mut(), call, steps.as_slice())?,
+        call => writing::write_call(alloc, &mut array.view_mut(), call, steps.as_slice())?,
     };
-    writing::ending_shown(alloc, &array.view(), ending)
+    writing::show_ending(alloc, &array.view(), ending)
 }
 
 /// What a call gives on an array that may be owned.
-fn shared(
+fn share(
     alloc: Global,
     array: CowArray<'_, i64, IxDyn>,
     calls: &[&str],
@@ -174,15 +174,19 @@ fn shared(
     };
     match name {
         "into_owned" if rest.is_empty() => as_text(alloc, &array.into_owned(alloc)?.view()),
-        "try_into_iter" => moved(alloc, array.try_into_iter(alloc)?, rest),
+        "try_into_iter" => move_out(alloc, array.try_into_iter(alloc)?, rest),
         _ => reading::answer(alloc, array.view(), calls),
     }
 }
 
 /// What the steps of an iterator give that moves cells out.
-fn moved(alloc: Global, cells: IntoIter<i64, IxDyn>, steps: &[&str]) -> Result<String, AllocError> {
-    match Step::all_spelled(alloc, steps)? {
-        Some(steps) => forward(alloc, cells, steps.as_slice())?.into_text(alloc),
+fn move_out(
+    alloc: Global,
+    cells: IntoIter<i64, IxDyn>,
+    steps: &[&str],
+) -> Result<String, AllocError> {
+    match Step::parse_all(alloc, steps)? {
+        Some(steps) => step_forward(alloc, cells, steps.as_slice())?.into_text(alloc),
         None => "not understood".to_string(alloc),
     }
 }

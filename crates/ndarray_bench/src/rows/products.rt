@@ -1,11 +1,11 @@
 //! Products of a table with another, of residues modulo 2^32, so that no sum leaves the range.
 
 use crate::residue::Residue;
-use crate::rows::answer::spelled;
+use crate::rows::answer::parse_table;
 use crate::rows::calls::ViewCall;
 use crate::rows::layouts::{LAYOUTS, Table};
 use crate::rows::operators::push_text;
-use crate::rows::reading::{all_viewed, kind};
+use crate::rows::reading::{apply_all, kind};
 use crate::rows::shown::push_lengths;
 use ndarray::linalg::{Dot, dot_ok, kron, kron_ok};
 use ndarray::{Array, ArrayView, Ix2, IxDyn, Lengths};
@@ -27,8 +27,8 @@ pub fn answer(
         return Ok(None);
     };
     match *name {
-        "dot" => computed(alloc, table, views, Product::Dot, words).map(Some),
-        "kron" => computed(alloc, table, views, Product::Kron, words).map(Some),
+        "dot" => compute(alloc, table, views, Product::Dot, words).map(Some),
+        "kron" => compute(alloc, table, views, Product::Kron, words).map(Some),
         _ => Ok(None),
     }
 }
@@ -50,7 +50,7 @@ fn residues(alloc: Global, numbers: &[i64]) -> Result<Vec<Residue<0>>, AllocErro
 }
 
 /// What a product gives on a table, after calls that view it, and the words of its right side.
-fn computed(
+fn compute(
     alloc: Global,
     table: &Table,
     views: &[ViewCall],
@@ -62,7 +62,7 @@ fn computed(
         Ok(view) => view,
         Err(error) => return kind(alloc, &error),
     };
-    match all_viewed(view, views) {
+    match apply_all(view, views) {
         Some(view) => with_tables(alloc, &view, product, words),
         None => "refused".to_string(alloc),
     }
@@ -77,7 +77,7 @@ fn with_tables(
 ) -> Result<String, AllocError> {
     let mut text = String::new(alloc);
     for layout in LAYOUTS {
-        let Some(table) = spelled(alloc, words, *layout)? else {
+        let Some(table) = parse_table(alloc, words, *layout)? else {
             return "not understood".to_string(alloc);
         };
         let cells = residues(alloc, table.cells.as_slice())?;
@@ -98,15 +98,15 @@ fn between(
     right: &View<'_>,
 ) -> Result<String, AllocError> {
     match product {
-        Product::Dot => dotted(alloc, left, right),
+        Product::Dot => dot(alloc, left, right),
         Product::Kron => kronecker(alloc, left, right),
     }
 }
 
 /// What `dot` gives.
-fn dotted(alloc: Global, left: &View<'_>, right: &View<'_>) -> Result<String, AllocError> {
+fn dot(alloc: Global, left: &View<'_>, right: &View<'_>) -> Result<String, AllocError> {
     if dot_ok(left, right) {
-        shown(alloc, &Dot::dot(left, alloc, right)?)
+        text_of(alloc, &Dot::dot(left, alloc, right)?)
     } else {
         "refused".to_string(alloc)
     }
@@ -121,14 +121,14 @@ fn kronecker(alloc: Global, left: &View<'_>, right: &View<'_>) -> Result<String,
         return "refused".to_string(alloc);
     };
     if kron_ok(&a, &b) {
-        shown(alloc, &kron(alloc, &a, &b)?)
+        text_of(alloc, &kron(alloc, &a, &b)?)
     } else {
         "refused".to_string(alloc)
     }
 }
 
 /// The lengths of an array and its cells in row order.
-fn shown<D: Lengths>(alloc: Global, array: &Array<Residue<0>, D>) -> Result<String, AllocError> {
+fn text_of<D: Lengths>(alloc: Global, array: &Array<Residue<0>, D>) -> Result<String, AllocError> {
     let mut text = String::new(alloc);
     push_lengths(&mut text, array.shape())?;
     for cell in array.iter() {

@@ -19,8 +19,8 @@ pub fn answer(alloc: Global, view: View<'_>, calls: &[&str]) -> Result<String, A
     let Some((call, rest)) = calls.split_first() else {
         return as_text(alloc, &view);
     };
-    match Call::spelled(alloc, *call, rest)? {
-        Call::View(call) => match viewed(view, call) {
+    match Call::parse(alloc, *call, rest)? {
+        Call::View(call) => match apply(view, call) {
             Ok(Some(next)) => answer(alloc, next, rest),
             Ok(None) => "refused".to_string(alloc),
             Err(error) => kind(alloc, &error),
@@ -41,7 +41,7 @@ pub fn answer(alloc: Global, view: View<'_>, calls: &[&str]) -> Result<String, A
             let array = ArrayView::to_owned(&view, alloc)?;
             answer(alloc, array.view(), rest)
         }
-        Call::Last => listed(alloc, &view, *call, rest),
+        Call::Last => answer_last(alloc, &view, *call, rest),
     }
 }
 
@@ -65,26 +65,26 @@ enum Call {
 
 impl Call {
     /// What a call is, before the other ones.
-    fn spelled(alloc: Global, call: &str, rest: &[&str]) -> Result<Call, AllocError> {
+    fn parse(alloc: Global, call: &str, rest: &[&str]) -> Result<Call, AllocError> {
         let words: Vec<&str> = call.split_whitespace().collect(alloc)?;
         let words = words.as_slice();
-        if let Some(call) = ViewCall::spelled(words) {
+        if let Some(call) = ViewCall::parse(words) {
             return Ok(Call::View(call));
         }
         match words.split_first() {
-            Some((name, arguments)) => Call::named(alloc, *name, arguments, rest),
+            Some((name, arguments)) => Call::by_name(alloc, *name, arguments, rest),
             None => Ok(Call::Last),
         }
     }
 
     /// The call of this name with these arguments, before the other ones.
-    fn named(
+    fn by_name(
         alloc: Global,
         name: &str,
         arguments: &[&str],
         rest: &[&str],
     ) -> Result<Call, AllocError> {
-        if let Some(part) = PartCall::spelled(name, arguments) {
+        if let Some(part) = PartCall::parse(name, arguments) {
             return Ok(Call::Part(part));
         }
         match arguments {
@@ -112,7 +112,7 @@ impl Call {
         let Some(number) = item_number(rest) else {
             return Ok(Call::Last);
         };
-        match Pieces::spelled(alloc, name, arguments)? {
+        match Pieces::parse(alloc, name, arguments)? {
             Some(pieces) => Ok(Call::Item(pieces, number)),
             None => Ok(Call::Last),
         }
@@ -141,7 +141,12 @@ fn part_of<'b>(view: &'b View<'_>, call: PartCall) -> Option<View<'b>> {
 }
 
 /// What a call gives that makes no view: a value, or the items of a list.
-fn listed(alloc: Global, view: &View<'_>, call: &str, rest: &[&str]) -> Result<String, AllocError> {
+fn answer_last(
+    alloc: Global,
+    view: &View<'_>,
+    call: &str,
+    rest: &[&str],
+) -> Result<String, AllocError> {
     let words: Vec<&str> = call.split_whitespace().collect(alloc)?;
     let words = words.as_slice();
     if rest.is_empty() {
@@ -149,11 +154,11 @@ fn listed(alloc: Global, view: &View<'_>, call: &str, rest: &[&str]) -> Result<S
             return Ok(text);
         }
     }
-    stepped(alloc, view, words, rest)?.into_text(alloc)
+    step_through(alloc, view, words, rest)?.into_text(alloc)
 }
 
 /// What the steps of a list give.
-fn stepped(
+fn step_through(
     alloc: Global,
     view: &View<'_>,
     words: &[&str],
@@ -161,27 +166,27 @@ fn stepped(
 ) -> Result<Ending, AllocError> {
     let (Some((name, arguments)), Some(steps)) = (
         words.split_first(),
-        Step::all_spelled(alloc, calls)?,
+        Step::parse_all(alloc, calls)?,
     ) else {
         return Ok(Ending::Unknown);
     };
-    if let Some(call) = Cells::spelled(*name) {
+    if let Some(call) = Cells::parse(*name) {
         return lists::cells(alloc, view, call, steps.as_slice());
     }
-    match Pieces::spelled(alloc, *name, arguments)? {
+    match Pieces::parse(alloc, *name, arguments)? {
         Some(pieces) => lists::pieces(alloc, view, &pieces, steps.as_slice()),
         None => Ok(Ending::Unknown),
     }
 }
 
 /// The view that calls make of a view, one of another; `None` where a test of one of them says no.
-pub fn all_viewed<S: Data>(
+pub fn apply_all<S: Data>(
     given: ArrayBase<S, IxDyn>,
     calls: &[ViewCall],
 ) -> Option<ArrayBase<S, IxDyn>> {
     let mut view = given;
     for call in calls {
-        view = match viewed(view, *call) {
+        view = match apply(view, *call) {
             Ok(Some(next)) => next,
             _ => return None,
         };
@@ -190,7 +195,7 @@ pub fn all_viewed<S: Data>(
 }
 
 /// The view that a call makes of a view, or `None` where its test says no.
-pub fn viewed<S: Data>(
+pub fn apply<S: Data>(
     view: ArrayBase<S, IxDyn>,
     call: ViewCall,
 ) -> Result<Option<ArrayBase<S, IxDyn>>, ShapeError> {
@@ -198,13 +203,16 @@ pub fn viewed<S: Data>(
         ViewCall::ReversedAxes => Ok(Some(view.reversed_axes())),
         ViewCall::IndexAxisMove(axis, index) => Ok(item_of(view, axis, index)),
         ViewCall::InsertAxis(axis) => Ok(with_axis(view, axis)),
-        ViewCall::IntoDimensionality(axes) => through_fixed(view, axes),
-        call => Ok(changed(view, call)),
+        ViewCall::IntoDimensionality(axes) => round_trip_by_axes(view, axes),
+        call => Ok(apply_in_place(view, call)),
     }
 }
 
 /// A view that is changed in place; `None` where the test of the call says no.
-fn changed<S: Data>(given: ArrayBase<S, IxDyn>, call: ViewCall) -> Option<ArrayBase<S, IxDyn>> {
+fn apply_in_place<S: Data>(
+    given: ArrayBase<S, IxDyn>,
+    call: ViewCall,
+) -> Option<ArrayBase<S, IxDyn>> {
     let mut view = given;
     match call {
         ViewCall::InvertAxis(axis) if view.axis_ok(axis) => view.invert_axis(axis),
@@ -243,22 +251,22 @@ fn with_axis<S: Data>(view: ArrayBase<S, IxDyn>, axis: Axis) -> Option<ArrayBase
 }
 
 /// An array under so many fixed axes, and back; `None` for a number that rows do not have.
-fn through_fixed<S: Data>(
+fn round_trip_by_axes<S: Data>(
     array: ArrayBase<S, IxDyn>,
     axes: usize,
 ) -> Result<Option<ArrayBase<S, IxDyn>>, ShapeError> {
     match axes {
-        0 => through::<S, Ix0>(array).map(Some),
-        1 => through::<S, Ix1>(array).map(Some),
-        2 => through::<S, Ix2>(array).map(Some),
-        3 => through::<S, Ix3>(array).map(Some),
-        6 => through::<S, Ix6>(array).map(Some),
+        0 => round_trip::<S, Ix0>(array).map(Some),
+        1 => round_trip::<S, Ix1>(array).map(Some),
+        2 => round_trip::<S, Ix2>(array).map(Some),
+        3 => round_trip::<S, Ix3>(array).map(Some),
+        6 => round_trip::<S, Ix6>(array).map(Some),
         _ => Ok(None),
     }
 }
 
 /// An array under a fixed number of axes, and back.
-fn through<S: Data, E: Lengths>(
+fn round_trip<S: Data, E: Lengths>(
     array: ArrayBase<S, IxDyn>,
 ) -> Result<ArrayBase<S, IxDyn>, ShapeError> {
     array

@@ -160,7 +160,7 @@ impl Answers {
 }
 
 /// Carries out the steps of an iterator, each of which any iterator has.
-pub fn forward<I: Iterator + Drop>(
+pub fn step_forward<I: Iterator + Drop>(
     alloc: Global,
     given: I,
     steps: &[Step],
@@ -181,7 +181,7 @@ where
 }
 
 /// Carries out the steps of an iterator that has clones.
-pub fn cloned<I: Iterator + Clone + Drop>(
+pub fn step_with_clones<I: Iterator + Clone + Drop>(
     alloc: Global,
     given: I,
     steps: &[Step],
@@ -216,7 +216,11 @@ pub trait BothEndsRead: BothEnds + Clone {
 }
 
 /// Carries out the steps of an iterator that goes from both ends, and is split.
-pub fn parted<I: BothEnds>(alloc: Global, given: I, steps: &[Step]) -> Result<Ending, AllocError>
+pub fn step_both_ends<I: BothEnds>(
+    alloc: Global,
+    given: I,
+    steps: &[Step],
+) -> Result<Ending, AllocError>
 where
     I::Item: Item,
     requires can { (it : I) → I.can_next it }
@@ -240,7 +244,7 @@ where
 }
 
 /// Carries out the steps of an iterator that goes from both ends and is split, whose items are read.
-pub fn parted_to_read<I: BothEndsRead>(
+pub fn read_both_ends<I: BothEndsRead>(
     alloc: Global,
     given: I,
     steps: &[Step],

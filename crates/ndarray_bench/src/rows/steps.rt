@@ -28,7 +28,7 @@ pub enum Step {
 
 impl Step {
     /// The step that a word spells.
-    fn spelled(word: &str) -> Option<Step> {
+    fn parse(word: &str) -> Option<Step> {
         if let Some((name, count)) = word.split_once(':') {
             let count = number(count)?;
             return match name {
@@ -51,14 +51,14 @@ impl Step {
 
     /// The steps that the last call of a row spells, and with no such call all items. None comes after one that takes
     /// all items.
-    pub fn all_spelled(alloc: Global, calls: &[&str]) -> Result<Option<Vec<Step>>, AllocError> {
+    pub fn parse_all(alloc: Global, calls: &[&str]) -> Result<Option<Vec<Step>>, AllocError> {
         let mut steps = Vec::new(alloc);
         match calls {
             [] => steps.push(Step::Rest)?,
             [words] => {
                 let mut is_ended = false;
                 for word in words.split_whitespace() {
-                    let Some(step) = Step::spelled(word) else {
+                    let Some(step) = Step::parse(word) else {
                         return Ok(None);
                     };
                     if is_ended {

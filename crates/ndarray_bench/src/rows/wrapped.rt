@@ -12,7 +12,7 @@ pub struct Wrapped(pub i64);
 impl ScalarOperand for Wrapped {}
 
 /// These numbers, to compute with.
-pub fn all_wrapped(alloc: Global, numbers: &[i64]) -> Result<Vec<Wrapped>, AllocError> {
+pub fn wrap_all(alloc: Global, numbers: &[i64]) -> Result<Vec<Wrapped>, AllocError> {
     let mut wrapped = Vec::new(alloc);
     for number in numbers {
         wrapped.push(Wrapped(*number))?;

@@ -3,9 +3,9 @@
 use crate::rows::calls::{CellsMut, PartCall, Pieces, ViewCall, WriteCall};
 use crate::rows::items::fill;
 use crate::rows::layouts::{HIDDEN, Layout, Table, cut};
-use crate::rows::reading::{View, all_viewed, kind};
+use crate::rows::reading::{View, apply_all, kind};
 use crate::rows::shown::push_view;
-use crate::rows::stepping::{Ending, forward, parted};
+use crate::rows::stepping::{Ending, step_both_ends, step_forward};
 use crate::rows::steps::Step;
 use ndarray::iter::ElementsBaseMut;
 use ndarray::{Array, ArrayBase, ArrayViewMut, Axis, DataMut, IxDyn, Lengths, Slice};
@@ -19,12 +19,12 @@ type ViewMut<'a> = ArrayViewMut<'a, i64, IxDyn>;
 /// Each item that a step takes is written with its number, counted from 1: the cell, each cell of the
 /// subview, or for an indexed item the digits of its index list.
 pub fn answer(alloc: Global, table: Table, calls: &[&str]) -> Result<String, AllocError> {
-    let Some(calls) = Calls::spelled(alloc, calls)? else {
+    let Some(calls) = Calls::parse(alloc, calls)? else {
         return "not understood".to_string(alloc);
     };
     let layout = table.layout;
     match table.into_array() {
-        Ok(array) => written_in(alloc, array, layout, calls),
+        Ok(array) => write_in(alloc, array, layout, calls),
         Err(error) => kind(alloc, &error),
     }
 }
@@ -41,11 +41,11 @@ struct Calls {
 
 impl Calls {
     /// The calls that these texts spell.
-    fn spelled(alloc: Global, calls: &[&str]) -> Result<Option<Calls>, AllocError> {
+    fn parse(alloc: Global, calls: &[&str]) -> Result<Option<Calls>, AllocError> {
         let Some((first, rest)) = calls.split_first() else {
             return Ok(None);
         };
-        match part_spelled(alloc, *first)? {
+        match parse_part(alloc, *first)? {
             Some(part) => Calls::after(alloc, Some(part), rest),
             None => Calls::after(alloc, None, calls),
         }
@@ -57,9 +57,9 @@ impl Calls {
         part: Option<PartCall>,
         calls: &[&str],
     ) -> Result<Option<Calls>, AllocError> {
-        let views = views_spelled(alloc, calls)?;
+        let views = parse_views(alloc, calls)?;
         let rest = calls.get(views.len()..).unwrap_or(&[]);
-        match last_spelled(alloc, rest)? {
+        match parse_last(alloc, rest)? {
             Some((last, steps)) => Ok(Some(Calls {
                 part,
                 views,
@@ -72,7 +72,7 @@ impl Calls {
 }
 
 /// The calls that make views, up to the first other one.
-pub fn views_spelled(alloc: Global, calls: &[&str]) -> Result<Vec<ViewCall>, AllocError> {
+pub fn parse_views(alloc: Global, calls: &[&str]) -> Result<Vec<ViewCall>, AllocError> {
     let mut views = Vec::new(alloc);
     for call in calls {
         match ViewCall::of_text(alloc, *call)? {
@@ -84,64 +84,64 @@ pub fn views_spelled(alloc: Global, calls: &[&str]) -> Result<Vec<ViewCall>, All
 }
 
 /// The call that writes, the first of these, and its steps.
-pub fn last_spelled(
+pub fn parse_last(
     alloc: Global,
     calls: &[&str],
 ) -> Result<Option<(WriteCall, Vec<Step>)>, AllocError> {
     let Some((call, steps)) = calls.split_first() else {
         return Ok(None);
     };
-    let Some(steps) = Step::all_spelled(alloc, steps)? else {
+    let Some(steps) = Step::parse_all(alloc, steps)? else {
         return Ok(None);
     };
     let words: Vec<&str> = call.split_whitespace().collect(alloc)?;
-    match WriteCall::spelled(alloc, words.as_slice())? {
+    match WriteCall::parse(alloc, words.as_slice())? {
         Some(call) => Ok(Some((call, steps))),
         None => Ok(None),
     }
 }
 
 /// The call that this text spells, where it borrows a part to write in.
-fn part_spelled(alloc: Global, call: &str) -> Result<Option<PartCall>, AllocError> {
+fn parse_part(alloc: Global, call: &str) -> Result<Option<PartCall>, AllocError> {
     let words: Vec<&str> = call.split_whitespace().collect(alloc)?;
     let Some((name, arguments)) = words.as_slice().split_first() else {
         return Ok(None);
     };
     match name.strip_suffix("_mut") {
-        Some(name) => Ok(PartCall::spelled(name, arguments)),
+        Some(name) => Ok(PartCall::parse(name, arguments)),
         None => Ok(None),
     }
 }
 
 /// What a table holds after the calls on a view to write in of the array in which it lies.
-fn written_in(
+fn write_in(
     alloc: Global,
     given: Array<i64, IxDyn>,
     layout: Layout,
     calls: Calls,
 ) -> Result<String, AllocError> {
     let mut array = given;
-    let outside = hidden(&array);
+    let outside = count_hidden(&array);
     let mut view = array.view_mut();
     cut(&mut view, layout);
-    let ending = part_written(alloc, view, calls)?;
-    if hidden(&array) != outside {
+    let ending = write_part(alloc, view, calls)?;
+    if count_hidden(&array) != outside {
         return "a place outside the table is written".to_string(alloc);
     }
     cut(&mut array, layout);
-    ending_shown(alloc, &array.view(), ending)
+    show_ending(alloc, &array.view(), ending)
 }
 
 /// What a table holds after the calls and the answers of the steps, or why they ended.
-pub fn ending_shown(alloc: Global, table: &View<'_>, ending: Ending) -> Result<String, AllocError> {
+pub fn show_ending(alloc: Global, table: &View<'_>, ending: Ending) -> Result<String, AllocError> {
     match ending {
-        Ending::Done(answers) => held(alloc, table, answers.as_str()),
+        Ending::Done(answers) => show_table(alloc, table, answers.as_str()),
         ending => ending.into_text(alloc),
     }
 }
 
 /// What a table holds, and the answers of the steps.
-fn held(alloc: Global, table: &View<'_>, answers: &str) -> Result<String, AllocError> {
+fn show_table(alloc: Global, table: &View<'_>, answers: &str) -> Result<String, AllocError> {
     let mut text = String::new(alloc);
     push_view(&mut text, table)?;
     if !answers.is_empty() {
@@ -152,7 +152,7 @@ fn held(alloc: Global, table: &View<'_>, answers: &str) -> Result<String, AllocE
 }
 
 /// How many places hold what lies outside a table.
-fn hidden(array: &Array<i64, IxDyn>) -> usize {
+fn count_hidden(array: &Array<i64, IxDyn>) -> usize {
     let mut count = 0usize;
     for cell in array {
         if *cell == HIDDEN {
@@ -163,7 +163,7 @@ fn hidden(array: &Array<i64, IxDyn>) -> usize {
 }
 
 /// Carries out calls on a view, or on the part of it that the first of them borrows.
-fn part_written(alloc: Global, given: ViewMut<'_>, calls: Calls) -> Result<Ending, AllocError> {
+fn write_part(alloc: Global, given: ViewMut<'_>, calls: Calls) -> Result<Ending, AllocError> {
     let mut view = given;
     match calls.part {
         Some(part) => match part_of(&mut view, part) {
@@ -204,7 +204,7 @@ fn item_of<'b>(view: &'b mut ViewMut<'_>, axis: Axis, index: usize) -> Option<Vi
 
 /// Makes the views that the calls name, one of another, and writes to the last.
 fn view_written(alloc: Global, view: ViewMut<'_>, calls: Calls) -> Result<Ending, AllocError> {
-    match all_viewed(view, calls.views.as_slice()) {
+    match apply_all(view, calls.views.as_slice()) {
         Some(view) => last_written(alloc, view, calls.last, calls.steps.as_slice()),
         None => Ok(Ending::Refused),
     }
@@ -218,17 +218,17 @@ fn last_written(
     steps: &[Step],
 ) -> Result<Ending, AllocError> {
     match call {
-        WriteCall::IntoIter => forward(alloc, given.into_iter(), steps),
-        WriteCall::ElementsBaseMut => forward(alloc, ElementsBaseMut::new(given), steps),
+        WriteCall::IntoIter => step_forward(alloc, given.into_iter(), steps),
+        WriteCall::ElementsBaseMut => step_forward(alloc, ElementsBaseMut::new(given), steps),
         call => {
             let mut view = given;
-            written(alloc, &mut view, call, steps)
+            write_call(alloc, &mut view, call, steps)
         }
     }
 }
 
 /// Writes to the items of a call.
-pub fn written(
+pub fn write_call(
     alloc: Global,
     view: &mut ViewMut<'_>,
     call: WriteCall,
@@ -236,23 +236,23 @@ pub fn written(
 ) -> Result<Ending, AllocError> {
     match call {
         WriteCall::GetMut(at, value) => set(alloc, view, at, value),
-        WriteCall::SplitAt(axis, index) => Ok(both_written(alloc, view.view_mut(), axis, index)),
-        WriteCall::Cells(call) => cells_written(alloc, view, call, steps),
-        WriteCall::Pieces(pieces) => pieces_written(alloc, view, pieces, steps),
+        WriteCall::SplitAt(axis, index) => Ok(write_both(alloc, view.view_mut(), axis, index)),
+        WriteCall::Cells(call) => write_cells(alloc, view, call, steps),
+        WriteCall::Pieces(pieces) => write_pieces(alloc, view, pieces, steps),
         WriteCall::IntoIter | WriteCall::ElementsBaseMut => Ok(Ending::Unknown),
     }
 }
 
 /// Writes to each cell of an iterator over cells.
-fn cells_written(
+fn write_cells(
     alloc: Global,
     view: &mut ViewMut<'_>,
     call: CellsMut,
     steps: &[Step],
 ) -> Result<Ending, AllocError> {
     match call {
-        CellsMut::IterMut => forward(alloc, view.iter_mut(), steps),
-        CellsMut::IndexedIterMut => forward(alloc, view.indexed_iter_mut(), steps),
+        CellsMut::IterMut => step_forward(alloc, view.iter_mut(), steps),
+        CellsMut::IndexedIterMut => step_forward(alloc, view.indexed_iter_mut(), steps),
         CellsMut::MutIntoIter => by_reference(alloc, view, steps),
     }
 }
@@ -263,7 +263,7 @@ fn by_reference(
     view: &mut ViewMut<'_>,
     steps: &[Step],
 ) -> Result<Ending, AllocError> {
-    forward(alloc, view.into_iter(), steps)
+    step_forward(alloc, view.into_iter(), steps)
 }
 
 /// Writes a number to the cell at an index list, whatever keeps the cells.
@@ -283,7 +283,7 @@ pub fn set<S: DataMut<Elem = i64>>(
 }
 
 /// Writes 2 to the second part of a view and then 1 to the first, which is held beside it.
-fn both_written(alloc: Global, view: ViewMut<'_>, axis: Axis, index: usize) -> Ending {
+fn write_both(alloc: Global, view: ViewMut<'_>, axis: Axis, index: usize) -> Ending {
     if !view.axis_ok(axis) || view.len_of(axis) < index {
         return Ending::Refused;
     }
@@ -294,26 +294,26 @@ fn both_written(alloc: Global, view: ViewMut<'_>, axis: Axis, index: usize) -> E
 }
 
 /// Writes to the subviews of a call.
-fn pieces_written(
+fn write_pieces(
     alloc: Global,
     view: &mut ViewMut<'_>,
     pieces: Pieces,
     steps: &[Step],
 ) -> Result<Ending, AllocError> {
     match pieces {
-        Pieces::AxisIter(axis) => items_written(alloc, view, axis, steps),
-        Pieces::OuterIter => outer_written(alloc, view, steps),
-        Pieces::AxisChunksIter(axis, size) => chunks_written(alloc, view, axis, size, steps),
-        Pieces::Lanes(axis) => lanes_written(alloc, view, axis, steps),
-        Pieces::Rows => forward(alloc, view.rows_mut().into_iter(), steps),
-        Pieces::Columns => forward(alloc, view.columns_mut().into_iter(), steps),
-        Pieces::ExactChunks(chunk) => exact_chunks_written(alloc, view, chunk, steps),
+        Pieces::AxisIter(axis) => write_items(alloc, view, axis, steps),
+        Pieces::OuterIter => write_outer_items(alloc, view, steps),
+        Pieces::AxisChunksIter(axis, size) => write_chunks(alloc, view, axis, size, steps),
+        Pieces::Lanes(axis) => write_lanes(alloc, view, axis, steps),
+        Pieces::Rows => step_forward(alloc, view.rows_mut().into_iter(), steps),
+        Pieces::Columns => step_forward(alloc, view.columns_mut().into_iter(), steps),
+        Pieces::ExactChunks(chunk) => write_exact_chunks(alloc, view, chunk, steps),
         _ => Ok(Ending::Unknown),
     }
 }
 
 /// Writes to the items along an axis.
-fn items_written(
+fn write_items(
     alloc: Global,
     view: &mut ViewMut<'_>,
     axis: Axis,
@@ -322,11 +322,11 @@ fn items_written(
     if !view.axis_ok(axis) {
         return Ok(Ending::Refused);
     }
-    parted(alloc, view.axis_iter_mut(axis), steps)
+    step_both_ends(alloc, view.axis_iter_mut(axis), steps)
 }
 
 /// Writes to the items along the first axis.
-fn outer_written(
+fn write_outer_items(
     alloc: Global,
     view: &mut ViewMut<'_>,
     steps: &[Step],
@@ -334,11 +334,11 @@ fn outer_written(
     if !view.axis_ok(Axis(0)) {
         return Ok(Ending::Refused);
     }
-    parted(alloc, view.outer_iter_mut(), steps)
+    step_both_ends(alloc, view.outer_iter_mut(), steps)
 }
 
 /// Writes to the chunks along an axis.
-fn chunks_written(
+fn write_chunks(
     alloc: Global,
     view: &mut ViewMut<'_>,
     axis: Axis,
@@ -348,11 +348,11 @@ fn chunks_written(
     if !view.chunk_ok(axis, size) {
         return Ok(Ending::Refused);
     }
-    parted(alloc, view.axis_chunks_iter_mut(axis, size), steps)
+    step_both_ends(alloc, view.axis_chunks_iter_mut(axis, size), steps)
 }
 
 /// Writes to the lanes along an axis.
-fn lanes_written(
+fn write_lanes(
     alloc: Global,
     view: &mut ViewMut<'_>,
     axis: Axis,
@@ -361,11 +361,11 @@ fn lanes_written(
     if !view.lanes_ok(axis) {
         return Ok(Ending::Refused);
     }
-    forward(alloc, view.lanes_mut(axis).into_iter(), steps)
+    step_forward(alloc, view.lanes_mut(axis).into_iter(), steps)
 }
 
 /// Writes to the whole chunks of these lengths.
-fn exact_chunks_written(
+fn write_exact_chunks(
     alloc: Global,
     view: &mut ViewMut<'_>,
     chunk: IxDyn,
@@ -374,5 +374,5 @@ fn exact_chunks_written(
     if !view.chunks_ok(&chunk) {
         return Ok(Ending::Refused);
     }
-    forward(alloc, view.exact_chunks_mut(chunk).into_iter(), steps)
+    step_forward(alloc, view.exact_chunks_mut(chunk).into_iter(), steps)
 }

@@ -2,7 +2,7 @@
 
 ghost use Rattle.std.specs.Iterator.{IsFinite};
 
-use crate::typed::shown::{all_shown, shown};
+use crate::typed::shown::{text_of, text_of_all};
 use ndarray::{ArrayView, Lengths};
 use std::alloc::{AllocError, Global};
 use std::fmt;
@@ -55,7 +55,7 @@ impl Checks {
         view: &ArrayView<'_, i64, D>,
         text: &str,
     ) -> Result<(), AllocError> {
-        let given = shown(alloc, view)?;
+        let given = text_of(alloc, view)?;
         self.holds(given.as_str() == text);
         Ok(())
     }
@@ -70,7 +70,7 @@ impl Checks {
         requires can { I.can_next views }
         requires ends { IsFinite (I.remaining views) }
     {
-        let given = all_shown(alloc, views)?;
+        let given = text_of_all(alloc, views)?;
         self.holds(given.as_str() == text);
         Ok(())
     }

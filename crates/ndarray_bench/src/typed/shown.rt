@@ -6,7 +6,7 @@ use ndarray::{ArrayView, Lengths};
 use std::alloc::{AllocError, Global};
 
 /// The lengths of a view and its cells in row order, as `[2, 2]: [1, 2, 3, 4]`.
-pub fn shown<D: Lengths>(
+pub fn text_of<D: Lengths>(
     alloc: Global,
     view: &ArrayView<'_, i64, D>,
 ) -> Result<String, AllocError> {
@@ -15,7 +15,7 @@ pub fn shown<D: Lengths>(
 }
 
 /// Each view that is still to come in turn, as `[2]: [1, 2]; [1]: [3]`.
-pub fn all_shown<'a, D: Lengths, I: Iterator<Item = ArrayView<'a, i64, D>>>(
+pub fn text_of_all<'a, D: Lengths, I: Iterator<Item = ArrayView<'a, i64, D>>>(
     alloc: Global,
     views: I,
 ) -> Result<String, AllocError>
@@ -27,7 +27,7 @@ pub fn all_shown<'a, D: Lengths, I: Iterator<Item = ArrayView<'a, i64, D>>>(
         if !text.is_empty() {
             text.push_str("; ")?;
         }
-        text.push_str(shown(alloc, &view)?.as_str())?;
+        text.push_str(text_of(alloc, &view)?.as_str())?;
     }
     Ok(text)
 }
