@@ -1,15 +1,17 @@
-//! Tests of what rows cannot say: types and tuples, generic callers, closures. Each is an ordinary function, so that the
-//! program is proved once, with them.
+//! Tests of what rows cannot say and a caller may want to prove: generic callers, loops that write, subviews at fixed numbers
+//! of axes, closures. Each is an ordinary function, so that the program is proved once, with them.
 
 mod checks;
 mod fixed;
 mod generic;
 mod iter_mut;
 mod layouts;
+mod ops;
 mod owned;
 mod refusing;
 mod residues;
 mod shown;
+mod writing;
 mod zip;
 
 use crate::counts::Counts;
@@ -59,6 +61,7 @@ fn of_writing<R: Print + AllocGlobal>(rt: &R, given: Counts) -> io::Result<Count
     carry_out!(rt, given;
         iter_mut::two_cells_held_together_are_exchanged(alloc),
         iter_mut::both_ends_of_a_step_are_written_and_the_rest_stays(alloc),
+        writing::cells_side_by_side_in_row_order_are_a_slice(alloc),
     )
 }
 
@@ -67,6 +70,7 @@ fn of_callers<R: Print + AllocGlobal>(rt: &R, given: Counts) -> io::Result<Count
     carry_out!(rt, given;
         generic::lanes_are_begun(alloc),
         generic::items_and_chunks_are_filled(alloc),
+        ops::a_refused_update_leaves_the_cells_to_come(alloc),
         refusing::refuses_one_request(alloc),
         refusing::lists_grow_or_are_left(alloc),
         residues::fibonacci_numbers_of_residues(alloc),
