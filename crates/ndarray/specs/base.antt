@@ -1,4 +1,4 @@
--- What only `base` speaks of: places and strides.
+-- Places and strides: what contracts inside the library speak of.
 pub mod Chunks
 pub mod FixedAxes
 pub mod Follows

@@ -1,4 +1,4 @@
--- What only `places` speaks of: elements that are moved out.
+-- What `places` speaks of, and `iter`, which stands on it: cells one after another, and elements that are moved out.
 pub mod PartlyMoved
 pub mod Lent
 pub mod Moving

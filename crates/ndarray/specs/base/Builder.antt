@@ -1,4 +1,4 @@
--- Inside `base`: an array that is filled one cell after another.
+-- An array that is filled one cell after another: for `base`, `zip::collecting` and `stacking::blocks`.
 use Rattle.std.specs.Prelude.{ℕ, ◌≤◌, ◌++◌, ◌∷◌, [], List}
 use Rattle.ndarray.specs.Index.{size}
 use Rattle.ndarray.specs.Limits.{IsWithinLimit}

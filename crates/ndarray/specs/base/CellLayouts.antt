@@ -1,4 +1,4 @@
--- Inside `base`: where an array lies among the elements of its storage.
+-- Where an array lies among the elements of its storage: for `base` and `subviews`.
 use Rattle.std.specs.Prelude.{ℕ, List}
 use Rattle.ndarray.specs.base.Places.{place}
 

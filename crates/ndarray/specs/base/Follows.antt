@@ -1,4 +1,4 @@
--- Inside `base`: what a lender ends as, once the loans of its values have ended.
+-- Inside `base`: what a value ends as, once the borrows of its parts have ended.
 use Rattle.std.specs.Prelude.{ℕ, Bool, List, Option, Some, slice_set}
 use Rattle.std.specs.Borrow.{Fml, RattleType, MutBor, Array, Lends}
 use base.Fml.{GName}

@@ -1,4 +1,4 @@
--- Inside `base`: sub-views that share out the places of a storage, and the masks by which a region is split into them.
+-- Inside `subviews`: sub-views that share out the places of a storage, and the masks by which a region is split into them.
 use Rattle.std.specs.Prelude.{◌≡◌, ℕ, zero, suc, Bool, nat_eq, List, [], ◌∷◌, map, Option, All, AllPairs, ⊤}
 use Rattle.std.specs.List.{list_any}
 use Rattle.ndarray.specs.Index.{InBox, row_order}

@@ -1,4 +1,4 @@
--- Inside `base`: what an array that owns its cells ends as, once the loan of its elements has ended.
+-- Inside `base`: what an array that owns its cells ends as, once the borrow of its elements has ended.
 use Rattle.std.specs.Prelude.{ℕ, List, [], ◌∷◌, get_or}
 use Rattle.std.specs.Borrow.{Fml, RattleType, MutBor, follows, Array as SliceOf}
 use base.Fml.{GName}

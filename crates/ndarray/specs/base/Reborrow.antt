@@ -1,4 +1,4 @@
--- Inside `base`: what a writing view ends as, once the loans of what was opened have ended.
+-- Inside `base`: what a writing view ends as, once the borrows of its layout and its elements have ended.
 use Rattle.std.specs.Borrow.{Fml, RattleType, MutBor, follows}
 use base.Fml.{GName}
 use Rattle.ndarray.specs.Grid.{Grid, grid}

@@ -1,4 +1,4 @@
--- Inside `base`: some of the places of a slice. A place that is held has its value, another is `None`.
+-- Some of the places of a slice: for `base`, `subviews`, `places` and `iter`. A place that is held has its value, another is `None`.
 use Rattle.std.specs.Prelude.{◌≡◌, ℕ, ◌+◌, ◌≤◌, length, take, drop, map, replicate, ◌++◌, Bool, true, false, List, [], ◌∷◌, Option, Some, None, get_or}
 
 module _ {X : Type 0} where

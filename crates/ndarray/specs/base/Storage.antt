@@ -1,4 +1,4 @@
--- Inside `base`: the elements of a storage, by places.
+-- The elements of a storage, by places: for `base`, `subviews` and `iter`.
 use Rattle.std.specs.Prelude.{ℕ, Option, slice_get, ⊤}
 use Rattle.ndarray.specs.declared.base.storage.ViewRepr.{ViewRepr}
 use Rattle.ndarray.specs.declared.base.storage.ViewRepr.TheVariants.{Slice, Part}

@@ -1,4 +1,4 @@
--- Inside `base`: places that lie a step apart, modulo 2 ^ 64.
+-- Places that lie a step apart, modulo 2 ^ 64: for `base`, `places` and `iter`.
 use Rattle.std.specs.Prelude.{◌≡◌, ℕ, zero, suc, ◌+◌, ◌%◌, ◌^◌, ◌<◌, List, [], ◌∷◌, ◌++◌, Option, IsTrue, All, length, filter_map}
 use Rattle.std.specs.Option.{is_some}
 use Rattle.ndarray.specs.Grid.{Grid, HasCells, cell}

@@ -1,4 +1,4 @@
--- Cells that are lent one after another, along a list of index lists.
+-- Cells that are borrowed one after another, along a list of index lists.
 use Rattle.std.specs.Prelude.{◌≡◌, ℕ, List, map, zip, filter_map, Option, All, AllPairs, IsTrue}
 use Rattle.std.specs.Option.{is_some}
 use Rattle.ndarray.specs.base.Places.{place}
