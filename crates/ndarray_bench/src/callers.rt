@@ -277,14 +277,15 @@ pub fn matrix_times_vector<S: Data<Elem = i64>, T: Data<Elem = i64>>(
     Ok(Some(product))
 }
 
-/// Leaves a matrix times a vector in the place of another vector, in residues modulo 5, and allocates nothing. Where the
-/// lengths do not meet the answer is `false`, and nothing changes.
+/// Leaves a matrix times a vector in the cells of another vector, in residues modulo 5, or answers `false` where the lengths do
+/// not meet.
 pub fn multiply_into(
     a: &Array<Residue<5>, Ix2>,
     x: &Array<Residue<5>, Ix1>,
     y: &mut Array<Residue<5>, Ix1>,
 ) -> bool
-    ensures { IsTrue result → (i : ℕ) (old new : Below 5) → cell y.old (i ∷ []) ≡ Some old → cell y.new (i ∷ []) ≡ Some new → new ≡ (product_of ⟦<Residue<5> as Valued>⟧ (matrix_of ⟦<Residue<5> as Valued>⟧ a.now) (column_of ⟦<Residue<5> as Valued>⟧ x.now)).cell i 0 }
+    ensures lengths { y.new.lengths ≡ y.old.lengths }
+    ensures product { IsTrue result → (i : ℕ) (old new : Below 5) → cell y.old (i ∷ []) ≡ Some old → cell y.new (i ∷ []) ≡ Some new → new ≡ (product_of ⟦<Residue<5> as Valued>⟧ (matrix_of ⟦<Residue<5> as Valued>⟧ a.now) (column_of ⟦<Residue<5> as Valued>⟧ x.now)).cell i 0 }
 {
     if !mat_vec_ok(a, x, y) {
         return false;

@@ -6,5 +6,5 @@ use Rattle.ndarray_bench.proofs.callers.multiply_into.Goals as goal
 once : (one s new : Below 5) → one ≡ (residue_products 5 (modulus_pos 5)).unit → new ≡ (residue_products 5 (modulus_pos 5)).op one s → new ≡ s
 once one s new e f = f ∙ (ap (λ t. (residue_products 5 (modulus_pos 5)).op t s) e ∙ (residue_products 5 (modulus_pos 5)).unit_op s)
 
-pub returns : goal.returns
-returns c = λ _ i old new before after. once c.one.result _ new c.one.ensures ((c.general_mat_vec_mul.ensures.cells (i ∷ []) old new before after).zero c.zero.ensures)
+pub returns-clause-product : goal.returns-clause-product
+returns-clause-product c = λ _ i old new before after. once c.one.result _ new c.one.ensures ((c.general_mat_vec_mul.ensures.cells (i ∷ []) old new before after).zero c.zero.ensures)
