@@ -1,4 +1,4 @@
-//! Arrays of any number of axes: walks, views and sums whose results are proved to depend on the
+//! Arrays of any number of axes: walks, views, sums and products whose results are proved to depend on the
 //! lengths and the cells of an array alone, whatever its memory layout.
 //!
 //! A contract sees an array as its lengths and its cells (`specs/Grid.antt`). Arrays that own their
@@ -6,7 +6,8 @@
 //! `ArrayView::from_shape`. Views of them are turned, cut and broadcast without a copy. Cells are walked
 //! by `iter`, subviews by `rows`, `axis_iter`, `windows` and the like, several arrays together by `Zip`, to
 //! read or to write, computed with by operators, and added up or multiplied by `sum`, `product` and their like along an
-//! axis. The names are those of Rust's crate `ndarray` 0.17.2.
+//! axis. Arrays are joined by `concatenate` and `stack`, and cut to triangles by `triu` and `tril`; vectors and matrices are
+//! multiplied by `dot`, `general_mat_mul` and `kron`. The names are those of Rust's crate `ndarray` 0.17.2.
 #![tactic(auto)]
 
 pub mod base;

@@ -4,6 +4,7 @@ use Rattle.std.specs.List.{fold}
 use Rattle.ndarray.specs.Grid.{Grid, cell}
 use Rattle.ndarray.specs.Subviews.{window}
 use Rattle.ndarray_bench.specs.PairedProducts.{number}
+use Rattle.ndarray_bench.specs.Residue.{Below, modulus_pos, residue_products, residue_sums}
 
 -- half of the cell at an index list
 abbrev pub half_at : Grid ℕ → List ℕ → ℕ
@@ -34,3 +35,12 @@ sum_at g h is = whole_number (cell g is) +ℤ whole_number (cell h is)
 -- the sum of the cell of a table at an index list, and of the cell of a row at the list's other indices
 abbrev pub sum_below : Grid ℤ → Grid ℤ → List ℕ → ℤ
 sum_below table row is = whole_number (cell table is) +ℤ whole_number (cell row (drop 1 is))
+
+-- the residue at an index list, and 0 outside the box
+abbrev pub residue : Option (Below 5) → Below 5
+residue None = (residue_sums 5 (modulus_pos 5)).unit
+residue (Some x) = x
+
+-- the cell of a table of residues modulo 5 at an index list, plus a multiple of the cell of a row at the list's other indices
+abbrev pub multiple_added : Below 5 → Grid (Below 5) → Grid (Below 5) → List ℕ → Below 5
+multiple_added factor table row is = (residue_sums 5 (modulus_pos 5)).op (residue (cell table is)) ((residue_products 5 (modulus_pos 5)).op factor (residue (cell row (drop 1 is))))

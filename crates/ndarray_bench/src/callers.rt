@@ -10,20 +10,21 @@ ghost use Rattle.ndarray.specs.Grid.{IsGrid, arranged, cell, one_axis};
 ghost use Rattle.ndarray.specs.Index.{InBox};
 ghost use Rattle.ndarray.specs.Integers.{int_products, int_sums};
 ghost use Rattle.ndarray.specs.Joining.{stacked};
-ghost use Rattle.ndarray.specs.Products.{matrix_of, product_of, products_of};
+ghost use Rattle.ndarray.specs.Products.{column_of, matrix_of, product_of, products_of};
 ghost use Rattle.ndarray.specs.Subviews.{lane, window_counts};
 ghost use Rattle.ndarray.specs.Sums.{IsSummable, total, total_by};
 ghost use Rattle.ndarray.specs.Views.{axis_item};
-ghost use Rattle.ndarray_bench.specs.Callers.{greatest_in_square, half_at, rest_at, sum_at, sum_below};
+ghost use Rattle.ndarray_bench.specs.Callers.{greatest_in_square, half_at, multiple_added, rest_at, sum_at, sum_below};
 ghost use Rattle.ndarray_bench.specs.Residue.{Below, modulus, modulus_pos, residue_products, residue_sums};
 
 use crate::residue::Residue;
-use ndarray::linalg::dot_ok;
+use ndarray::linalg::{dot_ok, general_mat_vec_mul, mat_vec_ok};
 use ndarray::reduce::dot_fits;
 use ndarray::{
     Array, ArrayBase, ArrayView, Axis, Data, DimMax, Ix1, Ix2, Lengths, StackError, Valued, Zip,
     concatenate, scalar_left, stack,
 };
+use num_traits::{One, Zero};
 use std::alloc::{AllocError, Global};
 
 /// Half of each cell, rounded down, whatever keeps the cells and however they lie.
@@ -274,6 +275,36 @@ pub fn matrix_times_vector<S: Data<Elem = i64>, T: Data<Elem = i64>>(
     }
     let product = a.dot(alloc, &x)?;
     Ok(Some(product))
+}
+
+/// Leaves a matrix times a vector in the cells of another vector, in residues modulo 5, or answers `false` where the lengths do
+/// not meet.
+pub fn multiply_into(
+    a: &Array<Residue<5>, Ix2>,
+    x: &Array<Residue<5>, Ix1>,
+    y: &mut Array<Residue<5>, Ix1>,
+) -> bool
+    ensures lengths { y.new.lengths ≡ y.old.lengths }
+    ensures product { IsTrue result → (i : ℕ) (old new : Below 5) → cell y.old (i ∷ []) ≡ Some old → cell y.new (i ∷ []) ≡ Some new → new ≡ (product_of ⟦<Residue<5> as Valued>⟧ (matrix_of ⟦<Residue<5> as Valued>⟧ a.now) (column_of ⟦<Residue<5> as Valued>⟧ x.now)).cell i 0 }
+{
+    if !mat_vec_ok(a, x, y) {
+        return false;
+    }
+    general_mat_vec_mul(Residue::one(), a, x, Residue::zero(), y);
+    true
+}
+
+/// Adds a multiple of a row to each row of a table, in residues modulo 5.
+pub fn add_multiple_of_row(
+    table: &mut Array<Residue<5>, Ix2>,
+    factor: Residue<5>,
+    row: &Array<Residue<5>, Ix1>,
+)
+    requires as_long { (n : ℕ) × (table.old.lengths ≡ n ∷ row.now.lengths) }
+    ensures { table.new ≡ arranged table.old.lengths (multiple_added factor table.old row.now) }
+{
+    let _length = row.raw_dim();
+    table.scaled_add(factor, row);
 }
 
 /// Whether each row of a matrix and a vector pass `dot_fits`.
