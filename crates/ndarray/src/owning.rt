@@ -35,11 +35,13 @@ impl<A: Clone + Drop, S: Data<Elem = A>, D: Lengths> ArrayBase<S, D> {
     pub fn into_owned(self, alloc: Global) -> Result<Array<A, D>, AllocError>
         ensures owned { ((s : S) → S.owns s) → IsOk result × IfOk result (λ a. a ≡ self) }
         ensures lengths { IfOk result (λ a. a.lengths ≡ self.lengths) }
+        ensures axes { IfOk result (λ a. D.has_axes (length a.lengths)) }
         ensures cells { IfOk result (λ a. (a ≡ self) ⊎ AllZip A.is_clone self.cells a.cells) }
         ensures whole { IfOk result IsGrid }
         ensures same { IfOk result (λ a. ((x y : A) → A.is_clone x y → y ≡ x) → a ≡ self) }
         ensures empty { size self.lengths ≡ 0 → IsOk result }
     {
+        let _axes = self.ndim();
         let ArrayBase { storage, layout } = self;
         match storage.try_into_owned() {
             Ok(storage) => Ok(ArrayBase { storage, layout }),

@@ -49,6 +49,7 @@ impl<S: Data, D: Lengths> ArrayBase<S, D> {
         requires axis { axis.0 < length self.now.lengths }
         requires within { IsSliceOf (slice_index self.now.lengths axis.0) slice }
         ensures value { result ≡ sliced self.now axis.0 slice }
+        ensures axes { D.has_axes (length result.lengths) }
         ensures whole { IsGrid result }
     {
         let mut view = self.view();
@@ -73,6 +74,7 @@ impl<S: Data, D: Lengths> ArrayBase<S, D> {
     pub fn into_dimensionality<E: Lengths>(self) -> Result<ArrayBase<S, E>, ShapeError>
         ensures accepts { IsOk result ↔ E.has_axes (length self.lengths) }
         ensures value { IfOk result (λ a. a ≡ self) }
+        ensures axes { IfOk result (λ a. E.has_axes (length a.lengths)) }
         ensures whole { IfOk result IsGrid }
         ensures kind { IfErr result (λ e. e ≡ refusal IncompatibleShape) }
     {
@@ -126,6 +128,7 @@ impl<S: DataMut, D: Lengths> ArrayBase<S, D> {
         requires axis { axis.0 < length self.old.lengths }
         requires within { IsSliceOf (slice_index self.old.lengths axis.0) slice }
         ensures value { result ≡ sliced self.old axis.0 slice }
+        ensures axes { D.has_axes (length result.lengths) }
         ensures whole { IsGrid result }
     {
         let mut view = self.view_mut();

@@ -18,6 +18,7 @@ impl<S: Data, D: Lengths> ArrayBase<S, D> {
     /// reversed one.
     pub fn t(&self) -> ArrayView<'_, S::Elem, D>
         ensures value { result ≡ transposed self.now }
+        ensures axes { D.has_axes (length result.lengths) }
         ensures whole { IsGrid result }
     {
         self.view().reversed_axes()
