@@ -5,6 +5,7 @@ ghost use Rattle.std.specs.List.{AllClonesOf};
 ghost use Rattle.ndarray.specs.Errors.{refusal};
 ghost use Rattle.ndarray.specs.Grid.{IsGrid, IsKnownByCells, one_axis};
 ghost use Rattle.ndarray.specs.declared.base.error.ErrorKind.TheVariants.{OutOfBounds, Overflow};
+ghost use Rattle.ndarray.specs.declared.base.shape.Order.TheVariants.{RowMajor};
 ghost use Rattle.ndarray.specs.Index.{size};
 ghost use Rattle.ndarray.specs.Limits.{IsWithinLimit};
 ghost use Rattle.ndarray.specs.Orders.{HasInOrder, cells_in};
@@ -42,6 +43,7 @@ impl<'a, A, D: Dimension> ArrayView<'a, A, D> {
         ensures axes { IfOk result (λ v. D.has_axes (length v.lengths)) }
         ensures cells { IfOk result (λ v. HasInOrder (Sh.shape_order shape) v (take (size v.lengths) slice.now)) }
         ensures list { IfOk result (λ v. cells_in (Sh.shape_order shape) v ≡ take (size v.lengths) slice.now) }
+        ensures row_major { Sh.shape_order shape ≡ RowMajor → IfOk result (λ v. v.cells ≡ take (size v.lengths) slice.now) }
         ensures whole { IfOk result IsGrid }
     {
         let Shape { dim, order } = shape.into_shape_with_order();
@@ -167,6 +169,7 @@ impl<A: Drop, S: DataOwned<Elem = A>, D: Dimension> ArrayBase<S, D> {
         ensures axes { IfOk result (λ a. D.has_axes (length a.lengths)) }
         ensures cells { IfOk result (λ a. HasInOrder (Sh.shape_order shape) a v.items) }
         ensures list { IfOk result (λ a. cells_in (Sh.shape_order shape) a ≡ v.items) }
+        ensures row_major { Sh.shape_order shape ≡ RowMajor → IfOk result (λ a. a.cells ≡ v.items) }
         ensures whole { IfOk result IsGrid }
     {
         let Shape { dim, order } = shape.into_shape_with_order();
