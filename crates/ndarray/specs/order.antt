@@ -1,3 +1,3 @@
 -- What only `order` speaks of.
 pub mod Cuts
-pub mod Ranks
+pub mod Walks

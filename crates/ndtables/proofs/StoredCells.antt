@@ -6,7 +6,7 @@ use Rattle.std.proofs.lemmas.List.{length-map}
 use Rattle.ndarray.specs.Grid.{Grid, IsGrid, cell, beside, grid}
 use Rattle.ndarray.specs.Index.{InBox, IsBefore, IsBeforeFromLast, size, row_order}
 use Rattle.ndarray.specs.Orders.{box_in, cells_in}
-use Rattle.ndarray.specs.order.Ranks.{rank_in}
+use Rattle.ndarray.specs.base.Ranks.{rank_in}
 use Rattle.ndarray.specs.declared.base.shape.Order.{Order}
 use Rattle.ndarray.specs.declared.base.shape.Order.TheVariants.{RowMajor, ColumnMajor}
 use Rattle.ndarray.proofs.lists.CellLookup.{beside-at}

@@ -8,7 +8,7 @@ use Rattle.std.proofs.lemmas.Nat.{div-add-mod'}
 use Rattle.std.proofs.lemmas.Bool.{cases_lt}
 use Rattle.ndarray.specs.Index.{InBox, IsBefore, IsRowOrder, IsColumnOrder, size, row_order, column_order}
 use Rattle.ndarray.specs.Orders.{box_in, IsBoxIn}
-use Rattle.ndarray.specs.order.Ranks.{rank, column_rank, rank_in}
+use Rattle.ndarray.specs.base.Ranks.{rank, column_rank, rank_in}
 use Rattle.ndarray.specs.declared.base.shape.Order.{Order}
 use Rattle.ndarray.specs.declared.base.shape.Order.TheVariants.{RowMajor, ColumnMajor}
 use Rattle.ndarray.proofs.lists.Elements.{reverse-cons}

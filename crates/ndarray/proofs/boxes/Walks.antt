@@ -6,7 +6,8 @@ use Rattle.std.specs.Prelude.{Contains}
 use Rattle.ndarray.specs.Index.{InBox, size}
 use Rattle.ndarray.specs.Limits.{IsWithinLimit}
 use Rattle.ndarray.specs.Orders.{box_in}
-use Rattle.ndarray.specs.order.Ranks.{rank, column_rank, rank_in, axis_in, block_in, walk_rest, WalkStands, row_from}
+use Rattle.ndarray.specs.base.Ranks.{rank, column_rank, rank_in, axis_in, block_in, row_from}
+use Rattle.ndarray.specs.order.Walks.{walk_rest, WalkStands}
 use Rattle.ndarray.specs.declared.base.shape.Order.{Order}
 use Rattle.ndarray.specs.declared.base.shape.Order.TheVariants.{RowMajor, ColumnMajor}
 use Rattle.ndarray.proofs.boxes.Boxes.{InBox-length, InBox-get, InBox-set, InBox-zeros}

@@ -11,7 +11,7 @@ use Rattle.ndarray.specs.Grid.{Grid, IsGrid, arranged, cell}
 use Rattle.ndarray.specs.Index.{InBox}
 use Rattle.ndarray.specs.Subviews.{lane, lanes_of}
 use Rattle.ndarray.specs.Sums.{IsSummableBy, select, total_by}
-use Rattle.ndarray.specs.order.Ranks.{block_in, rank}
+use Rattle.ndarray.specs.base.Ranks.{block_in, rank}
 use Rattle.ndarray.specs.declared.base.shape.Order.TheVariants.{RowMajor}
 use Rattle.ndarray.proofs.boxes.Boxes.{InBox-length, InBox-set}
 use Rattle.ndarray.proofs.callers.Collecting.{arranged-at, lanes_of-some}

@@ -6,7 +6,7 @@ use Rattle.ndarray.specs.Index.{InBox, size}
 use Rattle.ndarray.specs.Grid.{Grid, IsGrid, cell}
 use Rattle.ndarray.specs.Views.{axis_part}
 use Rattle.ndarray.specs.base.Pieces.{AreAlong}
-use Rattle.ndarray.specs.order.Ranks.{rank}
+use Rattle.ndarray.specs.base.Ranks.{rank}
 use Rattle.ndarray.proofs.boxes.Boxes.{InBox-set_both}
 use Rattle.ndarray.proofs.cells.Cells.{cell-within, tabulate-cell}
 use Rattle.ndarray.proofs.runs.OneAxisProducers.{slice_get-part}

@@ -7,7 +7,7 @@ use Rattle.std.proofs.lemmas.Option.{slice_get-get_or, slice_get-map, get_or_fro
 use Rattle.std.proofs.lemmas.List.{length-map}
 use Rattle.ndarray.specs.Index.{InBox, row_order, size, IsBefore}
 use Rattle.ndarray.specs.Grid.{Grid, grid, beside, cell, IsGrid, HasCells, tabulate, tabulated, IsKnownByCells, arranged}
-use Rattle.ndarray.specs.order.Ranks.{rank, rank_in}
+use Rattle.ndarray.specs.base.Ranks.{rank, rank_in}
 use Rattle.ndarray.proofs.lists.Elements.{same_from_slice_get, length-filter_map_all, slice_get-filter_map_all, slice_get-Some, filter_map-same, filter_map-full, map-from_filter_map, map-same, filter_map-take_all, filter_map-drop_all, replicate-is}
 use Rattle.ndarray.proofs.boxes.Orders.{length-row_order, row_order-is, row_order-at, row_order-back, rank-lt, rank_in-lt, box_in-at, box_in-is, box_in-within, length-box_in, IsBefore-not_itself}
 use Rattle.ndarray.specs.Orders.{box_in, cells_in, HasInOrder}

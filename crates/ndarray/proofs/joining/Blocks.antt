@@ -8,7 +8,7 @@ use Rattle.std.proofs.lemmas.List.Sums.{sum_by-cons}
 use Rattle.ndarray.specs.Grid.{Grid}
 use Rattle.ndarray.specs.Index.{size}
 use Rattle.ndarray.specs.base.Builder.{BuilderState, pushed_all, pushed_to}
-use Rattle.ndarray.specs.order.Ranks.{rank}
+use Rattle.ndarray.specs.base.Ranks.{rank}
 use Rattle.ndarray.specs.stacking.Blocks.{block_at, blocks_at}
 
 module _ {X : Type 0} where

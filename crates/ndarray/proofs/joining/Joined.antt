@@ -15,7 +15,7 @@ use Rattle.ndarray.specs.Index.{InBox, row_order, size}
 use Rattle.ndarray.specs.Joining.{concatenate_error, concatenated, concatenated_cell, concatenated_lengths, is_same_but_along, is_within_limit, shapes_of, stack_error, stacked, stacked_cell, stacked_lengths}
 use Rattle.ndarray.specs.Limits.{nonzero_size}
 use Rattle.ndarray.specs.declared.base.error.ErrorKind.TheVariants.{IncompatibleShape, RangeLimited, OutOfBounds, Overflow}
-use Rattle.ndarray.specs.order.Ranks.{rank}
+use Rattle.ndarray.specs.base.Ranks.{rank}
 use Rattle.ndarray.specs.stacking.Blocks.{HasBlockAt, JoinsAs, MayJoin, all_blocks, block_at, blocks_at, outer_lengths}
 use Rattle.ndarray.proofs.boxes.Boxes.{InBox-drop, InBox-get, InBox-length, InBox-removed, InBox-set_both}
 use Rattle.ndarray.proofs.boxes.Orders.{length-row_order, rank-lt, row_order-at, row_order-is}

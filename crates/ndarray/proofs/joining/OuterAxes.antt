@@ -4,7 +4,7 @@ use Rattle.std.proofs.Math.Nat.{mul-le-mul_left}
 use Rattle.std.proofs.lemmas.List.{set-set, set-get_or}
 use Rattle.ndarray.specs.Index.{InBox, size}
 use Rattle.ndarray.specs.Limits.{nonzero_size}
-use Rattle.ndarray.specs.order.Ranks.{rank}
+use Rattle.ndarray.specs.base.Ranks.{rank}
 use Rattle.ndarray.specs.stacking.Blocks.{outer_lengths}
 use Rattle.ndarray.proofs.boxes.Boxes.{InBox-length, InBox-set_both}
 use Rattle.ndarray.proofs.boxes.Orders.{rank-lt}

@@ -11,7 +11,7 @@ use Rattle.ndarray.specs.base.Places.{place, Reaches, Rearranges, cells_at, grid
 use Rattle.ndarray.specs.base.Masks.{is_in, is_among, mask_from, mask_of, AreApart, Shares, grids_at}
 use Rattle.ndarray.specs.base.CellLayouts.{CellLayout}
 use Rattle.ndarray.specs.base.Slots.{held_at, slots_in, slots_outside}
-use Rattle.ndarray.specs.order.Ranks.{rank}
+use Rattle.ndarray.specs.base.Ranks.{rank}
 use Rattle.ndarray.proofs.views.Images.{Reaches-rearranged}
 use Rattle.ndarray.proofs.strides.NestedPlaces.{Reaches-apart}
 use Rattle.ndarray.proofs.lists.Elements.{filter_map-same, map-same}

@@ -11,7 +11,7 @@ use Rattle.ndarray.specs.Grid.{Grid, IsGrid, cell, one_axis}
 use Rattle.ndarray.specs.Orders.{box_in, cells_in}
 use Rattle.ndarray.specs.Producers.{YieldsInTurn, IsPart}
 use Rattle.ndarray.specs.Views.{axis_part}
-use Rattle.ndarray.specs.order.Ranks.{rank}
+use Rattle.ndarray.specs.base.Ranks.{rank}
 use Rattle.ndarray.specs.declared.base.shape.Order.{Order}
 use Rattle.ndarray.specs.declared.base.shape.Order.TheVariants.{RowMajor, ColumnMajor}
 use Rattle.ndarray.proofs.cells.Cells.{along-row_order, cell-within, tabulate-is}

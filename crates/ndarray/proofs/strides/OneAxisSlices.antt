@@ -6,7 +6,7 @@ use Rattle.ndarray.specs.Grid.{Grid, grid, one_axis}
 use Rattle.ndarray.specs.Limits.{nonzero_size}
 use Rattle.ndarray.specs.base.Places.{Reaches, grid_at}
 use Rattle.ndarray.specs.base.Strides.{AreStridesOf}
-use Rattle.ndarray.specs.order.Ranks.{block_in}
+use Rattle.ndarray.specs.base.Ranks.{block_in}
 use Rattle.ndarray.specs.declared.base.shape.Order.TheVariants.{RowMajor}
 use Rattle.ndarray.proofs.cells.Cells.{along-row_order}
 use Rattle.ndarray.proofs.strides.Reach.{length-cells_at}

@@ -4,7 +4,7 @@ use Rattle.std.proofs.lemmas.List.{length-append}
 use Rattle.std.proofs.lemmas.List.Elements.{All-get_or}
 use Rattle.ndarray.specs.Index.{InBox, size}
 use Rattle.ndarray.specs.base.Builder.{pushed_all}
-use Rattle.ndarray.specs.order.Ranks.{rank}
+use Rattle.ndarray.specs.base.Ranks.{rank}
 use Rattle.ndarray.specs.stacking.Blocks.{HasBlockAt, blocks_at}
 use Rattle.ndarray.proofs.joining.Blocks.{block-is, pushed-length, pushed-more, to-come}
 use Rattle.ndarray.proofs.stacking.blocks.push_blocks.Goals as goal
