@@ -29,7 +29,8 @@ impl<A: Clone + Drop, S: Data<Elem = A>, D: Lengths> ArrayBase<S, D> {
     }
 
     /// An array of the same lengths and cells: this one, where it owns its cells, else one with clones of
-    /// them.
+    /// them. Of a `CowArray` that owns them, which a contract does not see, it is not promised that it is
+    /// this one.
     ///
     /// The error is allocation failure, for the array or for a clone; this array is then gone.
     pub fn into_owned(self, alloc: Global) -> Result<Array<A, D>, AllocError>

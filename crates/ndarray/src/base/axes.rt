@@ -23,7 +23,9 @@ impl<S: Data, D: Lengths> ArrayBase<S, D> {
         axis.0 < self.ndim()
     }
 
-    /// Exchanges two axes. Requires both to be below the number of axes.
+    /// Exchanges two axes.
+    ///
+    /// Requires both to be below the number of axes; compare with `ndim`.
     pub fn swap_axes(&mut self, ax: usize, bx: usize)
         requires first { ax < length self.old.lengths }
         requires second { bx < length self.old.lengths }
@@ -95,7 +97,7 @@ impl<S: Data, D: RemoveAxis> ArrayBase<S, D> {
     /// axis.
     ///
     /// Requires an axis below the number of axes (check with `axis_ok`) and an index below its
-    /// length.
+    /// length (compare with `len_of`).
     pub fn index_axis(&self, axis: Axis, index: usize) -> ArrayView<'_, S::Elem, D::Smaller>
         requires axis { axis.0 < length self.now.lengths }
         requires within { index < slice_index self.now.lengths axis.0 }
@@ -158,7 +160,7 @@ impl<S: DataMut, D: RemoveAxis> ArrayBase<S, D> {
 impl<S: Data, D: Dimension> ArrayBase<S, D> {
     /// The array with an axis of length 1 put in.
     ///
-    /// Requires an axis that is at most the number of axes, which is below 32.
+    /// Requires an axis that is at most the number of axes, which is below 32; compare with `ndim`.
     pub fn insert_axis(self, axis: Axis) -> ArrayBase<S, D::Larger>
         requires axis { axis.0 ≤ length self.lengths }
         requires room { length self.lengths < 32 }
@@ -177,7 +179,7 @@ impl<'a, A, D: Lengths> ArrayView<'a, A, D> {
     /// The first `index` places of an axis, and the rest.
     ///
     /// Requires an axis below the number of axes (check with `axis_ok`) and an index that is at most
-    /// its length.
+    /// its length (compare with `len_of`).
     pub fn split_at(self, axis: Axis, index: usize) -> (Self, Self)
         requires axis { axis.0 < length self.lengths }
         requires within { index ≤ slice_index self.lengths axis.0 }
@@ -210,7 +212,7 @@ impl<'a, A, D: Lengths> ArrayViewMut<'a, A, D> {
     /// The first `index` places of an axis, and the rest. No cell is in both.
     ///
     /// Requires an axis below the number of axes (check with `axis_ok`) and an index that is at most
-    /// its length.
+    /// its length (compare with `len_of`).
     pub fn split_at(self, axis: Axis, index: usize) -> (Self, Self)
         requires axis { axis.0 < length self.lengths }
         requires within { index ≤ slice_index self.lengths axis.0 }

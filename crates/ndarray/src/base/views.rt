@@ -42,7 +42,7 @@ impl<S: Data, D: Lengths> ArrayBase<S, D> {
 
     /// Turns an axis round: the cell at an index is then that at length - 1 - index.
     ///
-    /// Requires an axis below the number of axes.
+    /// Requires an axis below the number of axes; check with `axis_ok`.
     pub fn invert_axis(&mut self, axis: Axis)
         requires { axis.0 < length self.old.lengths }
         ensures value { self.new ≡ inverted self.old axis.0 }
