@@ -102,6 +102,7 @@ impl<S: Data, D: RemoveAxis> ArrayBase<S, D> {
         requires axis { axis.0 < length self.now.lengths }
         requires within { index < slice_index self.now.lengths axis.0 }
         ensures value { result ≡ axis_item self.now axis.0 index }
+        ensures axes { D.Smaller.has_axes (length result.lengths) }
         ensures whole { IsGrid result }
     {
         self.view().index_axis_move(axis, index)
@@ -112,8 +113,10 @@ impl<S: Data, D: RemoveAxis> ArrayBase<S, D> {
         requires axis { axis.0 < length self.lengths }
         requires within { index < slice_index self.lengths axis.0 }
         ensures value { result ≡ axis_item self axis.0 index }
+        ensures axes { D.Smaller.has_axes (length result.lengths) }
         ensures whole { IsGrid result }
     {
+        let _axes = self.ndim();
         let ArrayBase { storage, layout } = self;
         ArrayBase {
             storage,
@@ -151,6 +154,7 @@ impl<S: DataMut, D: RemoveAxis> ArrayBase<S, D> {
         requires axis { axis.0 < length self.old.lengths }
         requires within { index < slice_index self.old.lengths axis.0 }
         ensures value { result ≡ axis_item self.old axis.0 index }
+        ensures axes { D.Smaller.has_axes (length result.lengths) }
         ensures whole { IsGrid result }
     {
         self.view_mut().index_axis_move(axis, index)
@@ -165,8 +169,10 @@ impl<S: Data, D: Dimension> ArrayBase<S, D> {
         requires axis { axis.0 ≤ length self.lengths }
         requires room { length self.lengths < 32 }
         ensures value { result ≡ axis_inserted self axis.0 }
+        ensures axes { D.Larger.has_axes (length result.lengths) }
         ensures whole { IsGrid result }
     {
+        let _axes = self.ndim();
         let ArrayBase { storage, layout } = self;
         ArrayBase {
             storage,
