@@ -111,6 +111,7 @@ impl<'a, S: Data, D: Lengths> From<&'a ArrayBase<S, D>> for ArrayView<'a, S::Ele
     /// The view of an array, as `view` gives it.
     fn from(array: &'a ArrayBase<S, D>) -> Self
         ensures same { result ≡ array.now }
+        ensures axes { D.has_axes (length result.lengths) }
         ensures whole { IsGrid result }
         ensures known { IsKnownByCells result }
     {
@@ -255,8 +256,10 @@ impl<'a, A: Drop, D: Lengths> From<ArrayView<'a, A, D>> for CowArray<'a, A, D> {
     /// The array with the view's lengths and cells, which it borrows.
     fn from(view: ArrayView<'a, A, D>) -> Self
         ensures same { result ≡ view.entry }
+        ensures axes { D.has_axes (length result.lengths) }
         ensures whole { IsGrid result }
     {
+        let _axes = view.ndim();
         let ArrayBase { storage, layout } = view;
         ArrayBase {
             storage: CowRepr::View(storage),
@@ -269,8 +272,10 @@ impl<'a, A: Drop, D: Lengths> From<Array<A, D>> for CowArray<'a, A, D> {
     /// The array with the array's lengths and cells, which it owns.
     fn from(array: Array<A, D>) -> Self
         ensures same { result ≡ array }
+        ensures axes { D.has_axes (length result.lengths) }
         ensures whole { IsGrid result }
     {
+        let _axes = array.ndim();
         let ArrayBase { storage, layout } = array;
         ArrayBase {
             storage: CowRepr::Owned(storage),
