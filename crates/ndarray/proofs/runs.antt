@@ -5,6 +5,5 @@ pub mod OneAxisProducers
 pub mod OverwrittenParts
 pub mod Parts
 pub mod Producers
-pub mod Refinement
 pub mod RunsThrough
 pub mod Turns

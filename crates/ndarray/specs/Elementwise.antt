@@ -1,5 +1,5 @@
 -- Operations on arrays, cell by cell.
-use Rattle.std.specs.Prelude.{◌≡◌, List, ℕ, Some, Result, IfOk, IsOk}
+use Rattle.std.specs.Prelude.{◌≡◌, List, ℕ, Some, Result, IfOk, IsOk, length}
 use Rattle.ndarray.specs.Broadcast.{BroadcastsTo, broadcast_lengths, BroadcastTogether}
 use Rattle.ndarray.specs.Grid.{Grid, IsGrid, cell}
 use Rattle.ndarray.specs.Index.{size}
@@ -48,24 +48,28 @@ pub record Maps {A C : Type 0} (gives : A → C → Type 0) (g : Grid A) (r : Gr
 abbrev pub CanMap : {A : Type 0} → (A → Type 0) → Grid A → Type 0
 CanMap {A} can g = (is : List ℕ) (x : A) → cell g is ≡ Some x → can x
 
--- The answer of an operation on two arrays is the array, or allocation failure; the array where it has no cell.
-pub record MakesCombined {A B C E : Type 0} (gives : A → B → C → Type 0) (g : Grid A) (h : Grid B) (r : Result (Grid C) E) : Type 0 where
+-- The answer of an operation on two arrays is the array, or allocation failure; the array where it has no cell. Its type of dimension has as many axes.
+pub record MakesCombined {A B C E : Type 0} (has_axes : ℕ → Type 0) (gives : A → B → C → Type 0) (g : Grid A) (h : Grid B) (r : Result (Grid C) E) : Type 0 where
   pub made : IfOk r (Combines g h gives)
+  pub axes : IfOk r (λ c. has_axes (length c.lengths))
   pub empty : size (broadcast_lengths g.lengths h.lengths) ≡ 0 → IsOk r
 
 -- The same of an operation that may use the cells of one of them again: the array too where it has the lengths of that one, and no clone of an element needs memory.
-pub record UpdatesCombined {A B C E : Type 0} (gives : A → B → C → Type 0) (left_infallible : A → Type 0) (right_infallible : B → Type 0) (own : List ℕ) (g : Grid A) (h : Grid B) (r : Result (Grid C) E) : Type 0 where
+pub record UpdatesCombined {A B C E : Type 0} (has_axes : ℕ → Type 0) (gives : A → B → C → Type 0) (left_infallible : A → Type 0) (right_infallible : B → Type 0) (own : List ℕ) (g : Grid A) (h : Grid B) (r : Result (Grid C) E) : Type 0 where
   pub made : IfOk r (Combines g h gives)
+  pub axes : IfOk r (λ c. has_axes (length c.lengths))
   pub empty : size (broadcast_lengths g.lengths h.lengths) ≡ 0 → IsOk r
   pub in_place : broadcast_lengths g.lengths h.lengths ≡ own → ((x : A) → left_infallible x) → ((y : B) → right_infallible y) → IsOk r
 
--- The answer of an operation on one array, or on one and a scalar, is the array, or allocation failure; the array where it has no cell.
-pub record MakesMapped {A C E : Type 0} (gives : A → C → Type 0) (g : Grid A) (r : Result (Grid C) E) : Type 0 where
+-- The answer of an operation on one array, or on one and a scalar, is the array, or allocation failure; the array where it has no cell. Its type of dimension has as many axes.
+pub record MakesMapped {A C E : Type 0} (has_axes : ℕ → Type 0) (gives : A → C → Type 0) (g : Grid A) (r : Result (Grid C) E) : Type 0 where
   pub made : IfOk r (Maps gives g)
+  pub axes : IfOk r (λ c. has_axes (length c.lengths))
   pub empty : size g.lengths ≡ 0 → IsOk r
 
 -- The same of an operation that uses the array's cells again: the array too where no clone of an element needs memory.
-pub record UpdatesMapped {A C E : Type 0} (gives : A → C → Type 0) (infallible : A → Type 0) (g : Grid A) (r : Result (Grid C) E) : Type 0 where
+pub record UpdatesMapped {A C E : Type 0} (has_axes : ℕ → Type 0) (gives : A → C → Type 0) (infallible : A → Type 0) (g : Grid A) (r : Result (Grid C) E) : Type 0 where
   pub made : IfOk r (Maps gives g)
+  pub axes : IfOk r (λ c. has_axes (length c.lengths))
   pub empty : size g.lengths ≡ 0 → IsOk r
   pub in_place : ((x : A) → infallible x) → IsOk r

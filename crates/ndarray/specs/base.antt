@@ -9,6 +9,7 @@ pub mod Reborrow
 pub mod Parts
 pub mod PlaceMap
 pub mod Places
+pub mod Ranks
 pub mod Masks
 pub mod Builder
 pub mod Slots

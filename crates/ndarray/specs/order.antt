@@ -1,3 +1,3 @@
 -- Where a walk stands in its box, and along which axis a box is cut.
 pub mod Cuts
-pub mod Ranks
+pub mod Walks

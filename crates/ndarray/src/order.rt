@@ -7,12 +7,14 @@ ghost use Rattle.ndarray.specs.Index.{InBox, size, IsRowOrder};
 ghost use Rattle.ndarray.specs.Limits.{IsWithinLimit};
 ghost use Rattle.ndarray.specs.Orders.{box_in, IsBoxIn};
 ghost use Rattle.ndarray.specs.order.Cuts.{IsCut};
-ghost use Rattle.ndarray.specs.order.Ranks.{rank_in, axis_in, walk_rest, TakesRow, WalkStands};
+ghost use Rattle.ndarray.specs.base.Ranks.{rank_in};
+ghost use Rattle.ndarray.specs.order.Walks.{walk_rest, TakesRow, WalkStands};
 
 use crate::base::axis::Axis;
 use crate::base::dimension::{Dim, Ix1, Lengths};
 use crate::base::layout::{Layout, default_strides};
 pub use crate::base::shape::Order;
+use crate::base::shape::axis_at;
 use std::alloc::AllocError;
 use std::iter::ExactSizeIterator;
 use std::marker::Model;
@@ -33,23 +35,11 @@ impl<D: Lengths> Model for Walk<D> {
 
     ghost Value = { List (List ℕ) };
 
-    ghost use Rattle.ndarray.specs.order.Ranks.{walk_rest, WalkStands};
+    ghost use Rattle.ndarray.specs.order.Walks.{walk_rest, WalkStands};
 
     ghost view = { λ w. walk_rest w.order (D.numbers w.dim) (D.numbers w.index) w.left };
 
     ghost invariant = { λ w. WalkStands w.order (D.numbers w.dim) (D.numbers w.index) w.left };
-}
-
-/// The axis that varies `p`-th fastest, of `ndim`.
-pub(crate) fn axis_at(order: Order, ndim: usize, p: usize) -> usize
-    requires { p < ndim }
-    ensures value { result ≡ axis_in order ndim p }
-    ensures below { result < ndim }
-{
-    match order {
-        Order::RowMajor => ndim - 1 - p,
-        Order::ColumnMajor => p,
-    }
 }
 
 /// The axis along which a box is cut into parts that come one after another in an order, and its length.

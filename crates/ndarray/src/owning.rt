@@ -29,17 +29,20 @@ impl<A: Clone + Drop, S: Data<Elem = A>, D: Lengths> ArrayBase<S, D> {
     }
 
     /// An array of the same lengths and cells: this one, where it owns its cells, else one with clones of
-    /// them.
+    /// them. Of a `CowArray` that owns them, which a contract does not see, it is not promised that it is
+    /// this one.
     ///
     /// The error is allocation failure, for the array or for a clone; this array is then gone.
     pub fn into_owned(self, alloc: Global) -> Result<Array<A, D>, AllocError>
         ensures owned { ((s : S) → S.owns s) → IsOk result × IfOk result (λ a. a ≡ self) }
         ensures lengths { IfOk result (λ a. a.lengths ≡ self.lengths) }
+        ensures axes { IfOk result (λ a. D.has_axes (length a.lengths)) }
         ensures cells { IfOk result (λ a. (a ≡ self) ⊎ AllZip A.is_clone self.cells a.cells) }
         ensures whole { IfOk result IsGrid }
         ensures same { IfOk result (λ a. ((x y : A) → A.is_clone x y → y ≡ x) → a ≡ self) }
         ensures empty { size self.lengths ≡ 0 → IsOk result }
     {
+        let _axes = self.ndim();
         let ArrayBase { storage, layout } = self;
         match storage.try_into_owned() {
             Ok(storage) => Ok(ArrayBase { storage, layout }),

@@ -77,7 +77,7 @@ impl<A: SumElem, S: Data<Elem = A>, D: Dimension> ArrayBase<S, D> {
     pub fn sum_axis(&self, alloc: Global, axis: Axis) -> Result<Array<A, D::Smaller>, AllocError>
         requires axis { axis.0 < length self.now.lengths }
         requires lanes { CanMap (IsSummableArray A.addition A.InRange A.meaning) (lanes_of self.now axis.0) }
-        ensures sums { MakesMapped (IsTotalOf A.addition A.meaning) (lanes_of self.now axis.0) result }
+        ensures sums { MakesMapped D.Smaller.has_axes (IsTotalOf A.addition A.meaning) (lanes_of self.now axis.0) result }
         ensures axes { IfOk result (λ r. D.Smaller.has_axes (length r.lengths)) }
     {
         totals_along::<Sum, A, D>(alloc, &self.view(), axis)
@@ -102,7 +102,7 @@ impl<A: ProductElem, S: Data<Elem = A>, D: Dimension> ArrayBase<S, D> {
     ) -> Result<Array<A, D::Smaller>, AllocError>
         requires axis { axis.0 < length self.now.lengths }
         requires lanes { CanMap (IsSummableArray A.multiplication A.InRange A.meaning) (lanes_of self.now axis.0) }
-        ensures products { MakesMapped (IsTotalOf A.multiplication A.meaning) (lanes_of self.now axis.0) result }
+        ensures products { MakesMapped D.Smaller.has_axes (IsTotalOf A.multiplication A.meaning) (lanes_of self.now axis.0) result }
         ensures axes { IfOk result (λ r. D.Smaller.has_axes (length r.lengths)) }
     {
         totals_along::<Product, A, D>(alloc, &self.view(), axis)

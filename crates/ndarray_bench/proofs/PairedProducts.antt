@@ -8,8 +8,8 @@ use Rattle.ndarray.specs.Index.{size, row_order, column_order}
 use Rattle.ndarray.specs.Orders.{box_in, IsBoxIn, HasInOrder}
 use Rattle.ndarray.specs.declared.base.shape.Order.{Order}
 use Rattle.ndarray.specs.declared.base.shape.Order.TheVariants.{RowMajor, ColumnMajor}
-use Rattle.ndarray.proofs.boxes.Orders.{row_order-is, box_in-is}
-use Rattle.ndarray.proofs.lists.Permutations.{IsBoxIn-rearranges}
+use Rattle.ndarray.proofs.callers.IndexLists.{box_in-is}
+use Rattle.ndarray.proofs.callers.RowOrder.{box_in-rearranges}
 use Rattle.ndarray_bench.specs.PairedProducts.{product_at}
 
 pub product-of_cells : (g h : Grid ℕ) (is : List ℕ) (x y : ℕ) → cell g is ≡ Some x → cell h is ≡ Some y → product_at g h is ≡ x * y
@@ -20,7 +20,7 @@ sum-part f xs x ys = omega (arith, sum_by-append f xs (x ∷ ys), sum_by-cons f 
 
 -- a sum over a box is the same in either order
 pub sum-in_either_order : (f : List ℕ → ℕ) (o : Order) (ns : List ℕ) → sum_by f (box_in o ns) ≡ sum_by f (row_order ns)
-sum-in_either_order f o ns = sum_by-IsPermutation f (row_order ns) (box_in o ns) (IsBoxIn-rearranges o ns (row_order ns) (box_in o ns) (row_order-is ns) (box_in-is o ns))
+sum-in_either_order f o ns = sum_by-IsPermutation f (row_order ns) (box_in o ns) (box_in-rearranges o ns)
 
 -- [[1, 5], [3, 7]] by its columns and [[2, 4], [8, 6]] by its rows, as `from_shape` tells them
 pub products-88 : (g h : Grid ℕ) (o : Order) → g.lengths ≡ 2 ∷ 2 ∷ [] → h.lengths ≡ 2 ∷ 2 ∷ [] → o ≡ ColumnMajor

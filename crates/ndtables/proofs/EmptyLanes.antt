@@ -5,8 +5,7 @@ use Rattle.ndarray.specs.Grid.{Grid, IsGrid}
 use Rattle.ndarray.specs.Integers.{int_sums}
 use Rattle.ndarray.specs.Subviews.{lanes_of}
 use Rattle.ndarray.specs.Sums.{IsSummableBy, select, total_by}
-use Rattle.ndarray.proofs.callers.Lanes.{lanes-summable}
-use Rattle.ndarray.proofs.sums.Selections.{at_front, select-none}
+use Rattle.ndarray.proofs.callers.Lanes.{at_front, lanes-summable, select-none}
 
 module _ {A : Type 0} where
   -- how many elements a list has, as a sum of ones

@@ -6,9 +6,9 @@ use Rattle.ndarray.specs.AlongAxis.{IsDifference, IsDifferenceOf, one_further}
 use Rattle.ndarray.specs.Grid.{Grid, IsGrid, cell}
 use Rattle.ndarray.specs.Index.{InBox}
 use Rattle.ndarray.specs.Views.{axis_part}
-use Rattle.ndarray.proofs.boxes.Boxes.{InBox-get, InBox-length, InBox-set_both}
-use Rattle.ndarray.proofs.cells.Cells.{cell-inside, tabulate-cell}
-use Rattle.ndarray.proofs.cells.Differences.{difference-length, neighbours-at, next-difference}
+use Rattle.ndarray.proofs.callers.Cells.{cell-inside, tabulate-cell}
+use Rattle.ndarray.proofs.callers.Differences.{difference-length, neighbours-at, next-difference}
+use Rattle.ndarray.proofs.callers.IndexLists.{InBox-get, InBox-length, InBox-set_both}
 use Rattle.ndtables.specs.Reducing.{CanDifferAlong, CanSubtractAlong, HasOrder, subtraction_gives}
 
 -- Of an axis of length n, the part behind the first index, and that before the last.

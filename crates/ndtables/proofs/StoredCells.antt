@@ -6,13 +6,12 @@ use Rattle.std.proofs.lemmas.List.{length-map}
 use Rattle.ndarray.specs.Grid.{Grid, IsGrid, cell, beside, grid}
 use Rattle.ndarray.specs.Index.{InBox, IsBefore, IsBeforeFromLast, size, row_order}
 use Rattle.ndarray.specs.Orders.{box_in, cells_in}
-use Rattle.ndarray.specs.order.Ranks.{rank_in}
+use Rattle.ndarray.specs.base.Ranks.{rank_in}
 use Rattle.ndarray.specs.declared.base.shape.Order.{Order}
 use Rattle.ndarray.specs.declared.base.shape.Order.TheVariants.{RowMajor, ColumnMajor}
-use Rattle.ndarray.proofs.lists.CellLookup.{beside-at}
-use Rattle.ndarray.proofs.cells.Cells.{tabulate-is, same_grid, cells_in-HasInOrder}
+use Rattle.ndarray.proofs.callers.Cells.{beside-at, cells_in-HasInOrder, same_grid, tabulate-is}
+use Rattle.ndarray.proofs.callers.IndexLists.{IsBefore-not_itself, box_in-at, box_in-is, length-box_in, rank_in-lt}
 use Rattle.std.proofs.lemmas.Option.{slice_get-map, slice_get-get_or}
-use Rattle.ndarray.proofs.boxes.Orders.{box_in-is, box_in-at, rank_in-lt, length-box_in, IsBefore-not_itself}
 use Rattle.ndtables.specs.Stored.{stored}
 
 module _ {A : Type 0} where

@@ -7,8 +7,8 @@ use Rattle.ndarray.specs.Orders.{box_in}
 use Rattle.ndarray.specs.Elementwise.{CanMap}
 use Rattle.ndarray.specs.Runs.{RunsUntil}
 use Rattle.ndarray.specs.declared.base.shape.Order.{Order}
+use Rattle.ndarray.proofs.callers.Cells.{cell-inside}
 use Rattle.ndarray.proofs.callers.Collecting.{All-middle, box-contains}
-use Rattle.ndarray.proofs.cells.Cells.{cell-inside}
 use Rattle.std.proofs.lemmas.List.Elements.{All-contains, All-from_recursion}
 
 -- Turns that go on, and those that stop, each leave the closure f as it was, and tell whether P holds there.

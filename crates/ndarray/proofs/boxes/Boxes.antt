@@ -38,6 +38,11 @@ InBox-set_both (m ∷ ns) [] k n v h l = absurd h
 InBox-set_both (m ∷ ns) (i ∷ is) zero n v h l = (l, h.1)
 InBox-set_both (m ∷ ns) (i ∷ is) (suc k) n v h l = (h.0, InBox-set_both ns is k n v h.1 l)
 
+-- axes of length 1 have one index list
+pub InBox-ones : (m : ℕ) → InBox (replicate m 1) (replicate m 0)
+InBox-ones zero = tt
+InBox-ones (suc m) = (omega arith, InBox-ones m)
+
 pub InBox-set : (ns is : List ℕ) (k v : ℕ) → InBox ns is → v < get_or ns k 0 → InBox ns (set is k v)
 InBox-set ns is k v h l = subst (λ ms. InBox ms (set is k v)) (set-get_or ns k 0) (InBox-set_both ns is k (get_or ns k 0) v h l)
 

@@ -10,7 +10,7 @@ use Rattle.std.proofs.lemmas.Simd.{map-map}
 use Rattle.ndarray.specs.Index.{InBox, row_order, column_order}
 use Rattle.ndarray.specs.Orders.{box_in}
 use Rattle.ndarray.specs.order.Cuts.{IsSlowest, counted_from}
-use Rattle.ndarray.specs.order.Ranks.{axis_in}
+use Rattle.ndarray.specs.base.Ranks.{axis_in}
 use Rattle.ndarray.specs.declared.base.shape.Order.{Order}
 use Rattle.ndarray.specs.declared.base.shape.Order.TheVariants.{RowMajor, ColumnMajor}
 use Rattle.ndarray.proofs.boxes.Boxes.{InBox-length}

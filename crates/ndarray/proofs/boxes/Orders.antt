@@ -1,5 +1,5 @@
 -- The two orders of a box: their length, what stands at each place, and that they meet their descriptions.
-use Rattle.std.proofs.Common.{◌≡◌, ℕ, ◌+◌, ◌*◌, ◌/◌, ◌%◌, ◌<◌, ◌≤◌, suc, zero, List, [], ◌∷◌, ◌++◌, length, map, reverse, get_or, inl, inr, refl, sym, ◌∙◌, ap, arith, subst}
+use Rattle.std.proofs.Common.{◌≡◌, ℕ, ◌+◌, ◌*◌, ◌/◌, ◌%◌, ◌<◌, ◌≤◌, suc, zero, List, [], ◌∷◌, ◌++◌, length, map, replicate, reverse, get_or, inl, inr, refl, sym, ◌∙◌, ap, arith, subst}
 use Rattle.std.specs.Prelude.{flat_map, All}
 use Rattle.std.specs.List.{range_with_len}
 use Rattle.std.proofs.lemmas.List.{get_or_append_left, get_or-append-add, length-append, length-map, length-reverse, get_or-map, get_or_default, reverse-reverse}
@@ -8,7 +8,7 @@ use Rattle.std.proofs.lemmas.Nat.{div-add-mod'}
 use Rattle.std.proofs.lemmas.Bool.{cases_lt}
 use Rattle.ndarray.specs.Index.{InBox, IsBefore, IsRowOrder, IsColumnOrder, size, row_order, column_order}
 use Rattle.ndarray.specs.Orders.{box_in, IsBoxIn}
-use Rattle.ndarray.specs.order.Ranks.{rank, column_rank, rank_in}
+use Rattle.ndarray.specs.base.Ranks.{rank, column_rank, rank_in}
 use Rattle.ndarray.specs.declared.base.shape.Order.{Order}
 use Rattle.ndarray.specs.declared.base.shape.Order.TheVariants.{RowMajor, ColumnMajor}
 use Rattle.ndarray.proofs.lists.Elements.{reverse-cons}
@@ -16,9 +16,9 @@ use Rattle.ndarray.proofs.boxes.Boxes.{InBox-length, InBox-reverse}
 use Rattle.ndarray.proofs.boxes.Sizes.{size-append, size-reverse}
 
 module _ {X : Type 0} (f : ℕ → List X) (m : ℕ) (each : (k : ℕ) → length (f k) ≡ m) where
-  pub length-blocks : (a n : ℕ) → length (flat_map f (range_with_len a n)) ≡ n * m
-  length-blocks a zero = omega arith
-  length-blocks a (suc n) = let e = each a in let h = length-blocks (a + 1) n in let s = length-append (f a) (flat_map f (range_with_len (a + 1) n)) in grind arith
+  pub length-range_blocks : (a n : ℕ) → length (flat_map f (range_with_len a n)) ≡ n * m
+  length-range_blocks a zero = omega arith
+  length-range_blocks a (suc n) = let e = each a in let h = length-range_blocks (a + 1) n in let s = length-append (f a) (flat_map f (range_with_len (a + 1) n)) in grind arith
 
   -- place r of block i
   pub get_or-blocks : (a n i r : ℕ) (d : X) → i < n → r < m → get_or (flat_map f (range_with_len a n)) (i * m + r) d ≡ get_or (f (a + i)) r d
@@ -40,7 +40,13 @@ pub length-row_order : (ns : List ℕ) → length (row_order ns) ≡ size ns
 unfolding row_order
 length-row_order [] = refl
 length-row_order (n ∷ ns) =
-    length-blocks (λ k. map (λ is. k ∷ is) (row_order ns)) (size ns) (λ k. length-map (row_order ns) (λ is. k ∷ is) ∙ length-row_order ns) 0 n
+    length-range_blocks (λ k. map (λ is. k ∷ is) (row_order ns)) (size ns) (λ k. length-map (row_order ns) (λ is. k ∷ is) ∙ length-row_order ns) 0 n
+
+-- the one index list of axes of length 1
+pub row_order-ones : (m : ℕ) → row_order (replicate m 1) ≡ replicate m 0 ∷ []
+unfolding row_order
+row_order-ones zero = refl
+row_order-ones (suc m) = ap (λ l. map (λ is. 0 ∷ is) l ++ []) (row_order-ones m)
 
 pub rank-lt : (ns is : List ℕ) → InBox ns is → rank ns is < size ns
 unfolding rank

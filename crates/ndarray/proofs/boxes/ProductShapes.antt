@@ -24,9 +24,6 @@ module _ (ns ms : List ℕ) where
   pub inner-two : length ns ≡ 2 → get_or ns (length ns - 1) 0 ≡ get_or ms 0 0 → get_or ns 1 0 ≡ get_or ms 0 0
   inner-two p e = sym (ap (λ n. get_or ns (n - 1) 0) p) ∙ e
 
-  pub inner-one : length ns ≡ 1 → get_or ns (length ns - 1) 0 ≡ get_or ms 0 0 → get_or ns 0 0 ≡ get_or ms 0 0
-  inner-one p e = sym (ap (λ n. get_or ns (n - 1) 0) p) ∙ e
-
   pub limit-two_two : length ns ≡ 2 → length ms ≡ 2 → ShapesMultiply ns ms → IsWithinLimit (get_or ns 0 0 ∷ get_or ms 1 0 ∷ [])
   limit-two_two p q s = subst IsWithinLimit (lengths-two_two p q) s.limit
 
@@ -58,9 +55,6 @@ module _ (ns ms : List ℕ) where
 pub kronecker-rows_fit : (ns ms : List ℕ) → IsWithinLimit (kronecker_lengths ns ms) → get_or ns 0 0 * get_or ms 0 0 < 2 ^ 63
 kronecker-rows_fit ns ms h = length-fits (kronecker_lengths ns ms) 0 (omega arith) h
 
-pub kronecker-columns_fit : (ns ms : List ℕ) → IsWithinLimit (kronecker_lengths ns ms) → get_or ns 1 0 * get_or ms 1 0 < 2 ^ 63
-kronecker-columns_fit ns ms h = length-fits (kronecker_lengths ns ms) 1 (omega arith) h
-
 -- an index among l * m, as quotient and remainder by m
 pub quotient-below : (p l m : ℕ) → p < l * m → (0 < m) × (p / m < l) × (p % m < m)
 quotient-below p l zero h = absurd (let z : l * 0 ≡ 0 = omega arith in omega (arith, h, z))
@@ -68,9 +62,6 @@ quotient-below p l (suc m) h = (omega arith, (div-lt_iff_lt-mul {k = suc m} {x =
 
 pub in-two : (ns : List ℕ) (i j : ℕ) → length ns ≡ 2 → i < get_or ns 0 0 → j < get_or ns 1 0 → InBox ns (i ∷ j ∷ [])
 in-two ns i j p a b = subst (λ l. InBox l (i ∷ j ∷ [])) (sym (two-lengths ns p)) (a, (b, tt))
-
-pub in-one : (ns : List ℕ) (i : ℕ) → length ns ≡ 1 → i < get_or ns 0 0 → InBox ns (i ∷ [])
-in-one ns i p a = subst (λ l. InBox l (i ∷ [])) (sym (one-length ns p)) (a, tt)
 
 -- where the cells of a block lie: by the quotients in the first matrix, and by the remainders in the second
 pub block-in_first : (ns ms : List ℕ) (p q m r : ℕ) (is : List ℕ) → length ns ≡ 2 → p < get_or ns 0 0 * get_or ms 0 0 → q < get_or ns 1 0 * get_or ms 1 0 → m ≡ get_or ms 0 0 → r ≡ get_or ms 1 0 → is ≡ p / m ∷ q / r ∷ [] → InBox ns is

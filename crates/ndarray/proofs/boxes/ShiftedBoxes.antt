@@ -12,11 +12,11 @@ use Rattle.ndarray.proofs.boxes.Boxes.{InBox-get, InBox-set_both}
 use Rattle.ndarray.proofs.cells.Cells.{arranged-cell, arranged-whole, tabulate-is}
 use Rattle.ndarray.proofs.boxes.Sizes.{nonzero-set_le}
 
-pub window_index-zeros : (n : ℕ) (is : List ℕ) → shifted_index (replicate n 0) is ≡ is
+pub shifted_index-zeros : (n : ℕ) (is : List ℕ) → shifted_index (replicate n 0) is ≡ is
 unfolding shifted_index
-window_index-zeros zero is = refl
-window_index-zeros (suc n) [] = refl
-window_index-zeros (suc n) (i ∷ is) = ap (λ k. k ∷ shifted_index (replicate n 0) is) (omega arith) ∙ ap (λ js. i ∷ js) (window_index-zeros n is)
+shifted_index-zeros zero is = refl
+shifted_index-zeros (suc n) [] = refl
+shifted_index-zeros (suc n) (i ∷ is) = ap (λ k. k ∷ shifted_index (replicate n 0) is) (omega arith) ∙ ap (λ js. i ∷ js) (shifted_index-zeros n is)
 
 -- counted from a start on all axes
 pub shifted_index-none : (is : List ℕ) → shifted_index [] is ≡ is

@@ -1,5 +1,5 @@
 -- The size of a box, and the limit on shapes, one axis at a time.
-use Rattle.std.proofs.Common.{◌≡◌, ℕ, ◌+◌, ◌-◌, ◌*◌, ◌<◌, ◌≤◌, ◌⊎◌, inl, inr, ◌^◌, suc, zero, List, [], ◌∷◌, ◌++◌, length, reverse, refl, take, drop, get_or, sym, ◌∙◌, ◌/◌, ◌%◌, ap, arith, set, insert, swap}
+use Rattle.std.proofs.Common.{◌≡◌, ℕ, ◌+◌, ◌-◌, ◌*◌, ◌<◌, ◌≤◌, ◌⊎◌, inl, inr, ◌^◌, suc, zero, List, [], ◌∷◌, ◌++◌, length, replicate, reverse, refl, take, drop, get_or, sym, ◌∙◌, ◌/◌, ◌%◌, ap, arith, set, insert, swap}
 use Rattle.std.proofs.Math.Seq.{take-suc, drop-append_seam}
 use Rattle.std.proofs.Math.Nat.{mul-le-mul_left, mul-lt-mul_of_pos_right, mul-div_cancel, mul_comm, div-lt_iff_lt-mul, zero-mul, one-mul, mul-zero, suc-mul}
 use Rattle.std.proofs.lemmas.Bool.{cases_eq, cases_lt}
@@ -13,6 +13,10 @@ use Rattle.ndarray.proofs.lists.Elements.{reverse-cons, get_or-set_own}
 pub size-append : (ns ms : List ℕ) → size (ns ++ ms) ≡ size ns * size ms
 size-append [] ms = omega arith
 size-append (n ∷ ns) ms = ap (λ x. n * x) (size-append ns ms) ∙ omega arith
+
+pub size-ones : (m : ℕ) → size (replicate m 1) ≡ 1
+size-ones zero = omega arith
+size-ones (suc m) = let e = size-ones m in omega arith
 
 pub size-take_more : (ns : List ℕ) (k : ℕ) → k < length ns → size (take (k + 1) ns) ≡ size (take k ns) * get_or ns k 0
 size-take_more ns k h =

@@ -6,7 +6,8 @@ use Rattle.std.specs.Prelude.{Contains}
 use Rattle.ndarray.specs.Index.{InBox, size}
 use Rattle.ndarray.specs.Limits.{IsWithinLimit}
 use Rattle.ndarray.specs.Orders.{box_in}
-use Rattle.ndarray.specs.order.Ranks.{rank, column_rank, rank_in, axis_in, block_in, walk_rest, WalkStands, row_from}
+use Rattle.ndarray.specs.base.Ranks.{rank, column_rank, rank_in, axis_in, block_in, row_from}
+use Rattle.ndarray.specs.order.Walks.{walk_rest, WalkStands}
 use Rattle.ndarray.specs.declared.base.shape.Order.{Order}
 use Rattle.ndarray.specs.declared.base.shape.Order.TheVariants.{RowMajor, ColumnMajor}
 use Rattle.ndarray.proofs.boxes.Boxes.{InBox-length, InBox-get, InBox-set, InBox-zeros}
@@ -55,10 +56,11 @@ rank_in-set RowMajor ns is p v l h =
     rw (← e) (row_set ns is (length ns - 1 - p) v l (omega arith))
 rank_in-set ColumnMajor ns is p v l h = column_set ns is p v l h
 
-rank-zeros : (ns : List ℕ) → rank ns (replicate (length ns) 0) ≡ 0
+pub rank-zeros : (ns : List ℕ) (m : ℕ) → rank ns (replicate m 0) ≡ 0
 unfolding rank
-rank-zeros [] = refl
-rank-zeros (n ∷ ns) = let ih = rank-zeros ns in omega arith
+rank-zeros [] m = refl
+rank-zeros (n ∷ ns) zero = refl
+rank-zeros (n ∷ ns) (suc m) = let ih = rank-zeros ns m in omega arith
 
 column_rank-zeros : (ns : List ℕ) → column_rank ns (replicate (length ns) 0) ≡ 0
 unfolding column_rank
@@ -66,7 +68,7 @@ column_rank-zeros [] = refl
 column_rank-zeros (n ∷ ns) = let ih = ap (λ x. n * x) (column_rank-zeros ns) in omega arith
 
 pub rank_in-zeros : (o : Order) (ns : List ℕ) → rank_in o ns (replicate (length ns) 0) ≡ 0
-rank_in-zeros RowMajor ns = rank-zeros ns
+rank_in-zeros RowMajor ns = rank-zeros ns (length ns)
 rank_in-zeros ColumnMajor ns = column_rank-zeros ns
 
 module _ (o : Order) (ns is js : List ℕ) (n p k i t : ℕ) (b : InBox ns is) (en : n ≡ length ns) (lt : p < n) (ek : k ≡ axis_in o n p) (ei : i ≡ get_or is k 0) (et : rank_in o ns is + block_in o ns p ≡ t) where

@@ -4,7 +4,9 @@ use Rattle.ndarray.specs.AlongAxis.{CanDiffer, IsDifference, IsDifferenceOf, one
 use Rattle.ndarray.specs.Grid.{Grid, cell}
 use Rattle.ndarray.specs.Index.{size}
 use Rattle.ndarray.proofs.cells.Cells.{cell-inside}
-use Rattle.ndarray.proofs.cells.Differences.{difference-length, no-index, order-at_most}
+use Rattle.ndarray.proofs.cells.Differences.{no-index, order-at_most}
+-- the lengths of a difference of any order, the neighbours in two parts of an array, and the difference of one order more
+pub use Rattle.ndarray.proofs.cells.Differences.{difference-length, neighbours-at, next-difference}
 
 module _ {A : Type 0} (can : A → A → Type 0) (gives : A → A → A → Type 0) (k : ℕ) (g : Grid A) where
   -- that of order 1, where it is defined on each two neighbours

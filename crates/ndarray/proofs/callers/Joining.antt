@@ -1,25 +1,21 @@
 -- Arrays joined along the first axis, and what is known where nothing is refused.
-use Rattle.std.proofs.Common.{◌≡◌, ℕ, suc, zero, List, [], ◌∷◌, ◌++◌, Option, Some, None, length, drop, take, append-nil, refl, sym, ◌∙◌, ap, arith, subst}
-use Rattle.std.specs.Prelude.{◌↔◌, All, Err, IfOk, Result, flat_map, map, replicate}
+use Rattle.std.proofs.Common.{◌≡◌, ℕ, List, [], ◌∷◌, ◌++◌, Option, Some, None, length, drop, take, append-nil, refl, sym, ◌∙◌, ap, arith, subst}
+use Rattle.std.specs.Prelude.{◌↔◌, All, Err, IfOk, Result, flat_map, replicate}
 use Rattle.std.proofs.lemmas.List.{take_all}
 use Rattle.std.proofs.lemmas.List.Elements.{All-head, All-tail}
 use Rattle.ndarray.specs.Grid.{Grid, IsGrid, grid, one_axis}
-use Rattle.ndarray.specs.Index.{row_order, size}
+use Rattle.ndarray.specs.Index.{size}
 use Rattle.ndarray.specs.Joining.{concatenate_error, concatenated, concatenated_lengths, shapes_of}
 use Rattle.ndarray.specs.stacking.Blocks.{JoinsAs, all_blocks, block_at, blocks_at, outer_lengths}
 use Rattle.ndarray.proofs.joining.Joined.{concatenated-is, may-concatenate}
-use Rattle.ndarray.proofs.joining.OuterAxes.{nonzero-ones, rank-zeros}
+use Rattle.ndarray.proofs.joining.OuterAxes.{nonzero-ones}
+use Rattle.ndarray.proofs.boxes.Orders.{row_order-ones}
+use Rattle.ndarray.proofs.boxes.Walks.{rank-zeros}
 
 -- what holds of an `Ok` where there is no error holds of it always, as an error is no `Ok`
 pub if_ok-unless : {X E K : Type 0} (r : Result X E) (error : Option K) (refusal_of : K → E) (P : X → Type 0) → ((k : K) → (r ≡ Err (refusal_of k)) ↔ (error ≡ Some k)) → (error ≡ None → IfOk r P) → IfOk r P
 if_ok-unless r None refusal_of P refused known = known refl
 if_ok-unless r (Some k) refusal_of P refused known = subst (λ q. IfOk q P) (sym ((refused k).1 refl)) tt
-
--- the one index list of axes of length 1
-row_order-ones : (m : ℕ) → row_order (replicate m 1) ≡ replicate m 0 ∷ []
-unfolding row_order
-row_order-ones zero = refl
-row_order-ones (suc m) = ap (λ l. map (λ is. 0 ∷ is) l ++ []) (row_order-ones m)
 
 module _ {A : Type 0} where
   -- the block of an array below the first axis is all of it

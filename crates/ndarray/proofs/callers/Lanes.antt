@@ -11,15 +11,17 @@ use Rattle.ndarray.specs.Grid.{Grid, IsGrid, arranged, cell}
 use Rattle.ndarray.specs.Index.{InBox}
 use Rattle.ndarray.specs.Subviews.{lane, lanes_of}
 use Rattle.ndarray.specs.Sums.{IsSummableBy, select, total_by}
-use Rattle.ndarray.specs.order.Ranks.{block_in, rank}
+use Rattle.ndarray.specs.base.Ranks.{block_in, rank}
 use Rattle.ndarray.specs.declared.base.shape.Order.TheVariants.{RowMajor}
 use Rattle.ndarray.proofs.boxes.Boxes.{InBox-length, InBox-set}
 use Rattle.ndarray.proofs.callers.Collecting.{arranged-at, lanes_of-some}
 use Rattle.ndarray.proofs.cells.Cells.{cell-inside, cell-within}
-use Rattle.ndarray.proofs.cells.LaneCells.{lane-cell, lane-length, no-lane, remove-inserted}
+use Rattle.ndarray.proofs.cells.LaneCells.{lane-cell, lane-length, no-lane}
 use Rattle.ndarray.proofs.cells.RunningProducts.{block-pos, own-blocks, rank-at}
-use Rattle.ndarray.proofs.sums.Selections.{at_front, select-none}
 use Rattle.ndarray.proofs.views.Items.{InBox-insert}
+use Rattle.ndarray.proofs.lists.Elements.{remove-inserted}
+-- the selection of nothing, and one that takes the first element or leaves it out
+pub use Rattle.ndarray.proofs.sums.Selections.{at_front, select-none}
 
 later : {A : Type 0} (y : A) (ys : List A) (n : ℕ) → 1 ≤ n → slice_get (y ∷ ys) n ≡ slice_get ys (n - 1)
 later y ys zero h = absurd (omega arith)

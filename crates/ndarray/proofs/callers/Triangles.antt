@@ -7,6 +7,8 @@ use Rattle.ndarray.specs.Index.{InBox}
 use Rattle.ndarray.specs.Triangles.{column_minus_row, diagonals_kept}
 use Rattle.ndarray.proofs.cells.Cells.{tabulate-cell}
 use Rattle.ndarray.proofs.cells.Diagonals.{kept_at}
+-- what a test of whole numbers answers
+pub use Rattle.ndarray.proofs.cells.Diagonals.{int_le-false, int_le-true}
 
 module _ {A : Type 0} (keeps : ℤ → Bool) (zero_cell : A) (g : Grid A) (axes : 2 ≤ length g.lengths) (whole : IsGrid (diagonals_kept keeps zero_cell g)) (is : List ℕ) (inside : InBox g.lengths is) where
   cell-at : cell (diagonals_kept keeps zero_cell g) is ≡ kept_at keeps zero_cell g is

@@ -6,24 +6,17 @@ use Rattle.ndarray.specs.Index.{InBox, size}
 use Rattle.ndarray.specs.Grid.{Grid, IsGrid, cell}
 use Rattle.ndarray.specs.Views.{axis_part}
 use Rattle.ndarray.specs.base.Pieces.{AreAlong}
-use Rattle.ndarray.specs.order.Ranks.{rank}
-use Rattle.ndarray.proofs.boxes.Boxes.{InBox-set_both}
+use Rattle.ndarray.specs.base.Ranks.{rank}
+use Rattle.ndarray.proofs.boxes.Boxes.{InBox-set_both, InBox-ones}
 use Rattle.ndarray.proofs.cells.Cells.{cell-within, tabulate-cell}
 use Rattle.ndarray.proofs.runs.OneAxisProducers.{slice_get-part}
 use Rattle.ndarray.proofs.lists.Elements.{same_from_slice_get}
-
-size-ones : (m : ℕ) → size (replicate m 1) ≡ 1
-size-ones zero = omega arith
-size-ones (suc m) = let e = size-ones m in omega arith
+use Rattle.ndarray.proofs.boxes.Sizes.{size-ones}
 
 rank-ones : (m : ℕ) → rank (replicate m 1) (replicate m 0) ≡ 0
 unfolding rank
 rank-ones zero = omega arith
 rank-ones (suc m) = let e = rank-ones m in omega arith
-
-InBox-ones : (m : ℕ) → InBox (replicate m 1) (replicate m 0)
-InBox-ones zero = tt
-InBox-ones (suc m) = (omega arith, InBox-ones m)
 
 size-along : (m k n : ℕ) → k < m → size (set (replicate m 1) k n) ≡ n
 size-along zero k n lt = absurd (omega arith)

@@ -7,11 +7,12 @@ use Rattle.std.proofs.lemmas.Option.{slice_get-get_or, slice_get-map, get_or_fro
 use Rattle.std.proofs.lemmas.List.{length-map}
 use Rattle.ndarray.specs.Index.{InBox, row_order, size, IsBefore}
 use Rattle.ndarray.specs.Grid.{Grid, grid, beside, cell, IsGrid, HasCells, tabulate, tabulated, IsKnownByCells, arranged}
-use Rattle.ndarray.specs.order.Ranks.{rank, rank_in}
+use Rattle.ndarray.specs.base.Ranks.{rank, rank_in}
 use Rattle.ndarray.proofs.lists.Elements.{same_from_slice_get, length-filter_map_all, slice_get-filter_map_all, slice_get-Some, filter_map-same, filter_map-full, map-from_filter_map, map-same, filter_map-take_all, filter_map-drop_all, replicate-is}
 use Rattle.ndarray.proofs.boxes.Orders.{length-row_order, row_order-is, row_order-at, row_order-back, rank-lt, rank_in-lt, box_in-at, box_in-is, box_in-within, length-box_in, IsBefore-not_itself}
 use Rattle.ndarray.specs.Orders.{box_in, cells_in, HasInOrder}
 use Rattle.ndarray.specs.declared.base.shape.Order.{Order}
+use Rattle.ndarray.specs.declared.base.shape.Order.TheVariants.{RowMajor}
 use Rattle.ndarray.proofs.boxes.UniqueOrder.{box_in-unique}
 use Rattle.ndarray.proofs.lists.CellLookup.{beside-at, beside-contains, beside-none}
 
@@ -47,6 +48,10 @@ module _ {A : Type 0} (g : Grid A) (whole : IsGrid g) where
       let b = row_order-back g.lengths k [] (omega arith) in
       slice_get-filter_map_all (cell g) (row_order g.lengths) k [] (all-cells (row_order g.lengths) within) (omega arith)
       ∙ (cell-within (get_or (row_order g.lengths) k []) b.0 ∙ ap (slice_get g.cells) b.1))
+
+-- what they are along an order that is row order
+pub cells-row_major : {A : Type 0} (o : Order) (g : Grid A) (xs : List A) → IsGrid g → cells_in o g ≡ xs → o ≡ RowMajor → g.cells ≡ xs
+cells-row_major o g xs whole e rows = sym (along-row_order g whole) ∙ (ap (λ p. cells_in p g) (sym rows) ∙ e)
 
 -- outside the box there is no cell
 pub cell-outside : {A : Type 0} (g : Grid A) (is : List ℕ) → (InBox g.lengths is → ⊥) → cell g is ≡ None

@@ -12,7 +12,7 @@ use Rattle.ndarray.specs.Views.{transposed}
 use Rattle.ndarray.specs.declared.base.shape.Order.{Order}
 use Rattle.ndarray.specs.declared.base.shape.Order.TheVariants.{RowMajor, ColumnMajor}
 use Rattle.ndarray.proofs.boxes.Boxes.{InBox-reverse}
-use Rattle.ndarray.specs.order.Ranks.{rank}
+use Rattle.ndarray.specs.base.Ranks.{rank}
 use Rattle.ndarray.proofs.cells.Cells.{along-row_order, cell-Some, cell-within, cells_in-HasInOrder, length-along, tabulate-cell, tabulate-is}
 use Rattle.ndarray.proofs.boxes.Orders.{box_in-is, box_in-within, length-box_in}
 use Rattle.ndarray.proofs.lists.Permutations.{IsBoxIn-rearranges}

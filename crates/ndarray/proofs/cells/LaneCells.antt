@@ -1,5 +1,5 @@
 -- The cells of a lane.
-use Rattle.std.proofs.Common.{◌≡◌, ◌<◌, ◌≤◌, ℕ, zero, suc, List, [], ◌∷◌, Option, Some, length, get_or, set, refl, ap, sym, ◌∙◌, arith, remove, insert, All}
+use Rattle.std.proofs.Common.{◌≡◌, ◌<◌, ℕ, zero, suc, List, [], ◌∷◌, Option, Some, length, get_or, set, refl, ap, sym, ◌∙◌, arith, remove, insert, All}
 use Rattle.ndarray.specs.Grid.{Grid, IsGrid, cell, tabulated}
 use Rattle.ndarray.specs.Index.{InBox, row_order}
 use Rattle.ndarray.specs.Subviews.{lane, lanes_of}
@@ -16,11 +16,6 @@ pub insert-removed : (is : List ℕ) (k j : ℕ) → k < length is → insert (r
 insert-removed [] k j lt = absurd (omega arith)
 insert-removed (i ∷ is) zero j lt = refl
 insert-removed (i ∷ is) (suc k) j lt = ap (λ l. i ∷ l) (insert-removed is k j (omega arith))
-
-pub remove-inserted : (is : List ℕ) (k j : ℕ) → k ≤ length is → remove (insert is k j) k ≡ is
-remove-inserted is zero j le = refl
-remove-inserted [] (suc k) j le = absurd (omega arith)
-remove-inserted (i ∷ is) (suc k) j le = ap (λ l. i ∷ l) (remove-inserted is k j (omega arith))
 
 -- along an axis of length 0 a lane has no cells
 pub no-lane : {A : Type 0} (g : Grid A) (k : ℕ) (js : List ℕ) → get_or g.lengths k 0 ≡ 0 → (lane g k js).cells ≡ []

@@ -10,7 +10,7 @@ use Rattle.ndarray.specs.Index.{InBox, row_order, size}
 use Rattle.ndarray.specs.Matrices.{values_below}
 use Rattle.ndarray.specs.Products.{value_or}
 use Rattle.ndarray.specs.Views.{axis_item}
-use Rattle.ndarray.specs.order.Ranks.{rank, row_from}
+use Rattle.ndarray.specs.base.Ranks.{rank, row_from}
 use Rattle.ndarray.specs.declared.base.shape.Order.TheVariants.{RowMajor}
 use Rattle.ndarray.proofs.boxes.Orders.{row_order-one}
 use Rattle.ndarray.proofs.boxes.Walks.{rank_in-one}

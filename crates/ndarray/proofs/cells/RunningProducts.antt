@@ -14,7 +14,7 @@ use Rattle.ndarray.specs.Orders.{cells_in}
 use Rattle.ndarray.specs.Subviews.{lane, lanes_of}
 use Rattle.ndarray.specs.declared.base.shape.Order.TheVariants.{RowMajor}
 use Rattle.ndarray.specs.base.Strides.{AreStridesOf}
-use Rattle.ndarray.specs.order.Ranks.{axis_in, block_in, rank}
+use Rattle.ndarray.specs.base.Ranks.{axis_in, block_in, rank}
 use Rattle.ndarray.proofs.boxes.Boxes.{InBox-length, InBox-get, InBox-set, InBox-drop, InBox-some}
 use Rattle.ndarray.proofs.boxes.Orders.{box_in-at, box_in-back, length-box_in, rank_in-lt}
 use Rattle.ndarray.proofs.boxes.Walks.{rank_in-set}

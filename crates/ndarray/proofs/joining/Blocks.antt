@@ -1,5 +1,5 @@
 -- Lists of blocks, and what stands at each place of them.
-use Rattle.std.proofs.Common.{◌≡◌, ℕ, ◌+◌, ◌*◌, ◌<◌, ◌≤◌, suc, zero, List, [], ◌∷◌, ◌++◌, length, take, drop, get_or, refl, sym, ◌∙◌, ap, arith, append-nil, append_assoc}
+use Rattle.std.proofs.Common.{◌≡◌, ℕ, ◌+◌, ◌*◌, ◌<◌, ◌≤◌, suc, zero, List, [], ◌∷◌, ◌++◌, length, take, drop, get_or, refl, sym, ◌∙◌, ap, arith, append_assoc}
 use Rattle.std.specs.Prelude.{flat_map, slice_get, sum_by, All}
 use Rattle.std.proofs.Math.Seq.{drop-cons}
 use Rattle.std.proofs.lemmas.List.{length-append, length-drop, length-take-le}
@@ -8,7 +8,7 @@ use Rattle.std.proofs.lemmas.List.Sums.{sum_by-cons}
 use Rattle.ndarray.specs.Grid.{Grid}
 use Rattle.ndarray.specs.Index.{size}
 use Rattle.ndarray.specs.base.Builder.{BuilderState, pushed_all, pushed_to}
-use Rattle.ndarray.specs.order.Ranks.{rank}
+use Rattle.ndarray.specs.base.Ranks.{rank}
 use Rattle.ndarray.specs.stacking.Blocks.{block_at, blocks_at}
 
 module _ {X : Type 0} where
@@ -69,8 +69,8 @@ module _ {A : Type 0} where
       ∙ part-same count (size (drop a g.lengths)) (rank view.lengths js) (rank g.lengths is) view.cells g.cells (many ∙ ap (λ ms. size (drop a ms)) lengths)
       (ap (λ h. rank h.lengths js) seen ∙ ap (rank g.lengths) index) (ap (λ h. h.cells) seen)
 
-  pub to-come : (a : ℕ) (is : List ℕ) (gs : List (Grid A)) (i : ℕ) (g : Grid A) (cells : List A) → i < length gs → g ≡ get_or gs i g → cells ≡ block_at a is g → blocks_at a is (drop i gs) ≡ cells ++ blocks_at a is (drop (i + 1) gs)
-  to-come a is gs i g cells lt here e =
+  pub blocks-to_come : (a : ℕ) (is : List ℕ) (gs : List (Grid A)) (i : ℕ) (g : Grid A) (cells : List A) → i < length gs → g ≡ get_or gs i g → cells ≡ block_at a is g → blocks_at a is (drop i gs) ≡ cells ++ blocks_at a is (drop (i + 1) gs)
+  blocks-to_come a is gs i g cells lt here e =
       let next : suc i ≡ i + 1 = omega arith in
       ap (blocks_at a is) (drop-cons gs i g lt ∙ (ap (λ x. x ∷ drop (suc i) gs) (sym here) ∙ ap (λ n. g ∷ drop n gs) next))
       ∙ ap (λ xs. xs ++ blocks_at a is (drop (i + 1) gs)) (sym e)
@@ -82,9 +82,6 @@ module _ {A : Type 0} where
 
   pub pushed-more : (p : BuilderState A) (xs ys : List A) → pushed_all (pushed_all p xs) ys ≡ pushed_all p (xs ++ ys)
   pushed-more p xs ys = ap (λ zs. record { lengths = p.lengths; order = p.order; cells = zs }) (append_assoc p.cells xs ys)
-
-  pub pushed-none : (p : BuilderState A) → pushed_all p [] ≡ p
-  pushed-none p = ap (λ zs. record { lengths = p.lengths; order = p.order; cells = zs }) (append-nil p.cells)
 
   -- of two that end alike, as many cells are to come
   pub pushed-length : (p q : BuilderState A) (xs ys : List A) → pushed_all p xs ≡ pushed_all q ys → length p.cells + length xs ≡ length q.cells + length ys

@@ -14,7 +14,7 @@ use Rattle.ndarray.specs.declared.base.error.ErrorKind.TheVariants.{Incompatible
 use Rattle.ndarray.specs.stacking.Blocks.{JoinsAs, outer_lengths}
 use Rattle.ndarray.proofs.boxes.Sizes.{nonzero-one_of, size-le}
 use Rattle.ndarray.proofs.joining.OuterAxes.{nonzero-outer}
-use Rattle.ndarray.proofs.lists.CellLookup.{same_index-refl, same_index-true}
+use Rattle.ndarray.proofs.lists.CellLookup.{same_index-true}
 
 -- the first case that holds
 pub if-none : {E : Type 0} (b : Bool) (e : E) (rest : Option E) → (if b then Some e else rest) ≡ None → (b ≡ false) × (rest ≡ None)
@@ -63,9 +63,6 @@ pub same_but_along-set : (a : ℕ) (ns ms : List ℕ) → is_same_but_along a ns
 same_but_along-set a ns ms h =
     let e : ns ≡ set ms a (get_or ns a 0) = same_index-true ns (set ms a (get_or ns a 0)) h in
     sym (ap (λ l. set l a (get_or ms a 0)) e ∙ (set-set ms a (get_or ns a 0) (get_or ms a 0) ∙ set-get_or ms a 0))
-
-pub same_but_along-refl : (a : ℕ) (ns : List ℕ) → is_same_but_along a ns ns ≡ true
-same_but_along-refl a ns = ap (same_index ns) (set-get_or ns a 0) ∙ same_index-refl ns
 
 module _ {A : Type 0} where
   -- of each array

@@ -15,16 +15,16 @@ use Rattle.ndarray.specs.Index.{InBox, row_order, size}
 use Rattle.ndarray.specs.Joining.{concatenate_error, concatenated, concatenated_cell, concatenated_lengths, is_same_but_along, is_within_limit, shapes_of, stack_error, stacked, stacked_cell, stacked_lengths}
 use Rattle.ndarray.specs.Limits.{nonzero_size}
 use Rattle.ndarray.specs.declared.base.error.ErrorKind.TheVariants.{IncompatibleShape, RangeLimited, OutOfBounds, Overflow}
-use Rattle.ndarray.specs.order.Ranks.{rank}
+use Rattle.ndarray.specs.base.Ranks.{rank}
 use Rattle.ndarray.specs.stacking.Blocks.{HasBlockAt, JoinsAs, MayJoin, all_blocks, block_at, blocks_at, outer_lengths}
 use Rattle.ndarray.proofs.boxes.Boxes.{InBox-drop, InBox-get, InBox-length, InBox-removed, InBox-set_both}
 use Rattle.ndarray.proofs.boxes.Orders.{length-row_order, rank-lt, row_order-at, row_order-is}
 use Rattle.ndarray.proofs.cells.Cells.{cell-within, tabulate-is}
-use Rattle.ndarray.proofs.cells.LaneCells.{remove-inserted}
 use Rattle.ndarray.proofs.joining.Blocks.{length-blocks, length-part, length-same_blocks, slice_get-first, slice_get-rest, slice_get-same_blocks}
 use Rattle.ndarray.proofs.joining.Errors.{each-but_along, each-same, if-none, not-false}
 use Rattle.ndarray.proofs.joining.OuterAxes.{InBox-inner, InBox-other, InBox-outer, block-fits, outer-set, outer_index, outer_index-set, rank-below, rank-insert, rank-set, size-insert, size-set}
 use Rattle.ndarray.proofs.runs.OneAxisProducers.{slice_get-part}
+use Rattle.ndarray.proofs.lists.Elements.{remove-inserted}
 
 parted : (w v i s : ℕ) → w + v ≡ i → i * s ≡ v * s + w * s
 parted w v i s e = let r = ap (λ x. x * s) e in omega arith

@@ -4,10 +4,12 @@ use Rattle.std.proofs.Math.Nat.{mul-le-mul_left}
 use Rattle.std.proofs.lemmas.List.{set-set, set-get_or}
 use Rattle.ndarray.specs.Index.{InBox, size}
 use Rattle.ndarray.specs.Limits.{nonzero_size}
-use Rattle.ndarray.specs.order.Ranks.{rank}
+use Rattle.ndarray.specs.base.Ranks.{rank}
 use Rattle.ndarray.specs.stacking.Blocks.{outer_lengths}
-use Rattle.ndarray.proofs.boxes.Boxes.{InBox-length, InBox-set_both}
+use Rattle.ndarray.proofs.boxes.Boxes.{InBox-length, InBox-set_both, InBox-ones}
 use Rattle.ndarray.proofs.boxes.Orders.{rank-lt}
+use Rattle.ndarray.proofs.boxes.Sizes.{size-ones}
+use Rattle.ndarray.proofs.boxes.Walks.{rank-zeros}
 
 -- the index list on the axes before one, and 0 from there on
 abbrev pub outer_index : ℕ → List ℕ → List ℕ
@@ -64,10 +66,6 @@ nonzero-outer (suc a) [] = omega arith
 nonzero-outer (suc a) (zero ∷ ns) = nonzero-outer a ns
 nonzero-outer (suc a) (suc n ∷ ns) = mul-le-mul_left (suc n) (nonzero-outer a ns)
 
-size-ones : (m : ℕ) → size (replicate m 1) ≡ 1
-size-ones zero = refl
-size-ones (suc m) = let e = size-ones m in omega arith
-
 pub size-outer : (a : ℕ) (ns : List ℕ) → size ns ≡ size (outer_lengths a ns) * size (drop a ns)
 size-outer zero ns = let e = ap (λ x. x * size ns) (size-ones (length ns)) in omega arith
 size-outer (suc a) [] = refl
@@ -85,10 +83,6 @@ outer_index-set zero v [] = refl
 outer_index-set zero v (i ∷ is) = refl
 outer_index-set (suc a) v [] = refl
 outer_index-set (suc a) v (i ∷ is) = ap (λ l. i ∷ l) (outer_index-set a v is)
-
-InBox-ones : (m : ℕ) → InBox (replicate m 1) (replicate m 0)
-InBox-ones zero = tt
-InBox-ones (suc m) = (omega arith, InBox-ones m)
 
 -- the outer index list is in the outer box
 pub InBox-outer : (a : ℕ) (ns is : List ℕ) → InBox ns is → InBox (outer_lengths a ns) (outer_index a is)
@@ -142,12 +136,6 @@ InBox-inner zero (suc n ∷ ns) (p ∷ ps) b some = (omega (arith, b.0), InBox-i
 InBox-inner (suc a) [] ps b some = b
 InBox-inner (suc a) (n ∷ ns) [] b some = absurd b
 InBox-inner (suc a) (n ∷ ns) (p ∷ ps) b some = (b.0, InBox-inner a ns ps b.1 some)
-
-pub rank-zeros : (ns : List ℕ) (m : ℕ) → rank ns (replicate m 0) ≡ 0
-unfolding rank
-rank-zeros [] m = refl
-rank-zeros (n ∷ ns) zero = refl
-rank-zeros (n ∷ ns) (suc m) = let ih = rank-zeros ns m in omega arith
 
 pub size-set : (a v : ℕ) (ns : List ℕ) → a < length ns → size (set ns a v) ≡ size (outer_lengths a ns) * (v * size (drop (suc a) ns))
 size-set a v [] lt = absurd (omega arith)

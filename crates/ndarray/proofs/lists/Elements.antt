@@ -14,6 +14,11 @@ use Rattle.std.proofs.lemmas.List.Elements.{All-nil, All-cons, All-same, All-hea
 pub reverse-cons : {X : Type 0} (x : X) (xs : List X) → reverse (x ∷ xs) ≡ reverse xs ++ x ∷ []
 reverse-cons x xs = reverse-append (x ∷ []) xs
 
+pub remove-inserted : {X : Type 0} (xs : List X) (k : ℕ) (x : X) → k ≤ length xs → remove (insert xs k x) k ≡ xs
+remove-inserted xs zero x le = refl
+remove-inserted [] (suc k) x le = absurd (omega arith)
+remove-inserted (y ∷ xs) (suc k) x le = ap (λ l. y ∷ l) (remove-inserted xs k x (omega arith))
+
 pub same_from_slice_get : {A : Type 0} (xs ys : List A) → length xs ≡ length ys → ((k : ℕ) → k < length xs → slice_get xs k ≡ slice_get ys k) → xs ≡ ys
 same_from_slice_get [] [] l h = refl
 same_from_slice_get [] (y ∷ ys) l h = absurd (omega arith)

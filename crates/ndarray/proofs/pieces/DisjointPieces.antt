@@ -20,6 +20,7 @@ use Rattle.ndarray.proofs.pieces.Pieces.{AreImages, AreOfLane, items-images, lan
 use Rattle.ndarray.proofs.regions.Masks.{Shares-images}
 use Rattle.ndarray.proofs.pieces.Windows.{length-window_counts, window-fits, windows-images}
 use Rattle.ndarray.proofs.strides.SumsOverAxes.{sum_over_axes-one, sum_over_axes-shorter}
+use Rattle.ndarray.proofs.lists.Elements.{remove-inserted}
 
 -- where the piece at each position is the array's image by a function, nested strides stay nested, and pieces at two
 -- positions have no index list of the array in common
@@ -81,11 +82,6 @@ nested-alone ns bs k l lt h =
     first-alone : (xs : List ℕ) (j k : ℕ) → j < 1 → get_or (get_or xs k 0 ∷ []) j 0 ≡ get_or xs k 0
     first-alone xs zero k lj = refl
     first-alone xs (suc j) k lj = absurd (omega arith)
-
-remove-inserted : (xs : List ℕ) (k x : ℕ) → k ≤ length xs → remove (insert xs k x) k ≡ xs
-remove-inserted xs zero x le = refl
-remove-inserted [] (suc k) x le = absurd (omega arith)
-remove-inserted (y ∷ xs) (suc k) x le = ap (λ zs. y ∷ zs) (remove-inserted xs k x (omega arith))
 
 lanes-differ : (ns : List ℕ) (k : ℕ) → k < length ns → (p q is js : List ℕ) → InBox (remove ns k) p → InBox (remove ns k) q → insert p k (get_or is 0 0) ≡ insert q k (get_or js 0 0) → p ≡ q
 lanes-differ ns k lt p q is js bp bq e =

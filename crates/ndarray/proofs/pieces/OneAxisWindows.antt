@@ -17,7 +17,7 @@ use Rattle.ndarray.specs.base.Pieces.{AreWindowsOf}
 use Rattle.ndarray.proofs.boxes.Boxes.{InBox-length}
 use Rattle.ndarray.proofs.cells.Cells.{tabulate-same, arranged-same}
 use Rattle.ndarray.proofs.lists.Elements.{map-same}
-use Rattle.ndarray.proofs.boxes.Orders.{row_order-one}
+use Rattle.ndarray.proofs.boxes.Orders.{row_order-one, row_order-ones}
 use Rattle.ndarray.proofs.pieces.Windows.{none, some}
 
 -- ---- whole chunks are windows that lie side by side
@@ -67,11 +67,6 @@ window_counts-axis (n ∷ ns) (suc k) w s h =
     let a : window_count n n 1 ≡ 1 = some n n 1 (omega arith) ∙ (let z : n - n ≡ 0 = omega arith in ap (λ x. x / 1 + 1) z) in
     let b = window_counts-axis ns k w s (omega arith) in
     cc
-
-row_order-ones : (m : ℕ) → row_order (replicate m 1) ≡ replicate m 0 ∷ []
-unfolding row_order
-row_order-ones zero = refl
-row_order-ones (suc m) = ap (λ xs. map (λ is. 0 ∷ is) xs ++ []) (row_order-ones m)
 
 heads : (zs : List ℕ) (ks : List ℕ) → flat_map (λ k. map (λ is. k ∷ is) (zs ∷ [])) ks ≡ map (λ k. k ∷ zs) ks
 heads zs [] = refl

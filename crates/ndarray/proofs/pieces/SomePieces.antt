@@ -14,7 +14,7 @@ use Rattle.ndarray.specs.base.CellLayouts.{CellLayout, cell_layout}
 use Rattle.ndarray.specs.base.Pieces.{SharePieces, piece_layout, piece_layouts, pieces_at}
 use Rattle.ndarray.specs.declared.base.shape.Order.{Order}
 use Rattle.ndarray.specs.declared.base.shape.Order.TheVariants.{RowMajor, ColumnMajor}
-use Rattle.ndarray.specs.order.Ranks.{rank}
+use Rattle.ndarray.specs.base.Ranks.{rank}
 use Rattle.ndarray.proofs.cells.Cells.{arranged-cell}
 use Rattle.ndarray.proofs.views.Cuts.{rearranges-part}
 use Rattle.ndarray.proofs.lists.Elements.{filter_map-from_map, map-same}

@@ -11,7 +11,7 @@ use Rattle.ndarray.specs.base.Places.{place, Reaches, Rearranges, cells_at, grid
 use Rattle.ndarray.specs.base.Masks.{is_in, is_among, mask_from, mask_of, AreApart, Shares, grids_at}
 use Rattle.ndarray.specs.base.CellLayouts.{CellLayout}
 use Rattle.ndarray.specs.base.Slots.{held_at, slots_in, slots_outside}
-use Rattle.ndarray.specs.order.Ranks.{rank}
+use Rattle.ndarray.specs.base.Ranks.{rank}
 use Rattle.ndarray.proofs.views.Images.{Reaches-rearranged}
 use Rattle.ndarray.proofs.strides.NestedPlaces.{Reaches-apart}
 use Rattle.ndarray.proofs.lists.Elements.{filter_map-same, map-same}
@@ -53,9 +53,9 @@ module _ {X : Type 0} where
       there false = refl
 
   -- the part of the sub-views holds their places, and the other part all other places
-  pub kept_at : (ss : List CellLayout) (cs : List (Option X)) (k : ℕ) → held_at (slots_in (mask_of ss (length cs)) cs) k ≡ cond (is_among ss k) (held_at cs k) None
+  pub held_at-slots_in : (ss : List CellLayout) (cs : List (Option X)) (k : ℕ) → held_at (slots_in (mask_of ss (length cs)) cs) k ≡ cond (is_among ss k) (held_at cs k) None
   unfolding mask_of
-  kept_at ss cs k = kept_from (is_among ss) 0 (length cs) cs k refl ∙ ap (λ (j : ℕ). cond (is_among ss j) (held_at cs k) None) (omega arith)
+  held_at-slots_in ss cs k = kept_from (is_among ss) 0 (length cs) cs k refl ∙ ap (λ (j : ℕ). cond (is_among ss j) (held_at cs k) None) (omega arith)
 
   pub others_at : (ss : List CellLayout) (cs : List (Option X)) (k : ℕ) → held_at (slots_outside (mask_of ss (length cs)) cs) k ≡ cond (is_among ss k) None (held_at cs k)
   unfolding mask_of
@@ -131,7 +131,7 @@ pub record SharesBoth {A : Type 0} (at : ℕ → Option A) (xs ys : List CellLay
 module _ {A : Type 0} (cs : List (Option A)) (xs ys : List CellLayout) (h : SharesBoth (held_at cs) xs ys) where
   -- the places of xs go to xs alone, and the others have all of ys
   slots_in-same : All (IsSameAt (held_at cs) (held_at (slots_in (mask_of xs (length cs)) cs))) xs
-  slots_in-same i d lt is b = let k : ℕ = place (get_or xs i d).start (get_or xs i d).strides is in kept_at xs cs k ∙ ap (λ t. cond t (held_at cs k) None) (is_among-own xs i d is lt b)
+  slots_in-same i d lt is b = let k : ℕ = place (get_or xs i d).start (get_or xs i d).strides is in held_at-slots_in xs cs k ∙ ap (λ t. cond t (held_at cs k) None) (is_among-own xs i d is lt b)
 
   slots_outside-same : All (IsSameAt (held_at cs) (held_at (slots_outside (mask_of xs (length cs)) cs))) ys
   slots_outside-same j d lt js b =

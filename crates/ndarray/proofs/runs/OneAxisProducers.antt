@@ -11,7 +11,7 @@ use Rattle.ndarray.specs.Grid.{Grid, IsGrid, cell, one_axis}
 use Rattle.ndarray.specs.Orders.{box_in, cells_in}
 use Rattle.ndarray.specs.Producers.{YieldsInTurn, IsPart}
 use Rattle.ndarray.specs.Views.{axis_part}
-use Rattle.ndarray.specs.order.Ranks.{rank}
+use Rattle.ndarray.specs.base.Ranks.{rank}
 use Rattle.ndarray.specs.declared.base.shape.Order.{Order}
 use Rattle.ndarray.specs.declared.base.shape.Order.TheVariants.{RowMajor, ColumnMajor}
 use Rattle.ndarray.proofs.cells.Cells.{along-row_order, cell-within, tabulate-is}
@@ -45,13 +45,13 @@ module _ {A : Type 0} where
   pub cells_in-one_axis : (o : Order) (xs : List A) → cells_in o (one_axis xs) ≡ xs
   cells_in-one_axis o xs = ap (filter_map (cell (one_axis xs))) (box_in-one o (length xs)) ∙ along-row_order (one_axis xs) (one_axis-whole xs)
 
-  part-cell : (xs : List A) (n from : ℕ) → from + n ≤ length xs → (is : List ℕ) → InBox (n ∷ []) is → cell (one_axis (take n (drop from xs))) is ≡ cell (one_axis xs) (set is 0 (from + get_or is 0 0))
-  part-cell xs n from le [] b = absurd b
-  part-cell xs n from le (i ∷ []) b =
+  cell-one_axis_part : (xs : List A) (n from : ℕ) → from + n ≤ length xs → (is : List ℕ) → InBox (n ∷ []) is → cell (one_axis (take n (drop from xs))) is ≡ cell (one_axis xs) (set is 0 (from + get_or is 0 0))
+  cell-one_axis_part xs n from le [] b = absurd b
+  cell-one_axis_part xs n from le (i ∷ []) b =
       let ld = length-drop from xs in
       let lt = length-take-le n (drop from xs) (omega arith) in
       one_axis-cell (take n (drop from xs)) i (omega (arith, b.0)) ∙ (slice_get-part xs n from i b.0 le ∙ sym (one_axis-cell xs (from + i) (omega (arith, b.0))))
-  part-cell xs n from le (i ∷ j ∷ is) b = absurd b.1
+  cell-one_axis_part xs n from le (i ∷ j ∷ is) b = absurd b.1
 
   -- a part of the list is a part of the array
   pub one_axis-part : (xs : List A) (from to : ℕ) → from ≤ to → to ≤ length xs → one_axis (take (to - from) (drop from xs)) ≡ axis_part (one_axis xs) 0 from to
@@ -60,7 +60,7 @@ module _ {A : Type 0} where
       let ld = length-drop from xs in
       let l : length (take n (drop from xs)) ≡ n = length-take-le n (drop from xs) (omega arith) in
       tabulate-is (one_axis (take n (drop from xs))) (n ∷ []) (λ is. cell (one_axis xs) (set is 0 (from + get_or is 0 0))) (one_axis-whole (take n (drop from xs))) (ap (λ m. m ∷ []) l)
-      (λ is b. part-cell xs n from (omega arith) is (rw (sym l) b))
+      (λ is b. cell-one_axis_part xs n from (omega arith) is (rw (sym l) b))
 
   -- a number that is at most the length of the one axis
   pub at-most_line : (g : Grid A) (xs : List A) (axis n : ℕ) → one_axis xs ≡ g → axis < length g.lengths → n ≤ get_or g.lengths axis 0 → n ≤ length xs

@@ -87,14 +87,6 @@ module _ {A X : Type 0} (o : Order) {ns ks ms ls : List ℕ} {yields_at shown fi
   first-many : length (map at-first (box_in o ms)) ≡ size ms
   first-many = length-map (box_in o ms) at-first ∙ length-box_in o ms
 
-  pub fits-first : size ms ≤ length xs
-  fits-first =
-      let e = ap (length {A = Option A}) halves in
-      let a = length-append (map at-first (box_in o ms)) (map at-rest (box_in o ls)) in
-      let b = length-map xs (λ x. Some x) in
-      let c = first-many in
-      omega arith
-
   pub along-first : map at-first (box_in o ms) ≡ map Some (take (size ms) xs)
   along-first =
       sym (take-append_seam (map at-first (box_in o ms)) (map at-rest (box_in o ls)))

@@ -5,7 +5,7 @@ use Rattle.std.specs.Option.{option_map}
 use Rattle.std.proofs.lemmas.List.{length-map, length-take-le, length-drop, get_or-drop}
 use Rattle.std.proofs.lemmas.Option.{slice_get-get_or, slice_get-map}
 use Rattle.ndarray.specs.Index.{InBox, size, row_order}
-use Rattle.ndarray.specs.order.Ranks.{rank}
+use Rattle.ndarray.specs.base.Ranks.{rank}
 use Rattle.ndarray.specs.base.Places.{place, cells_at, Reaches}
 use Rattle.ndarray.specs.base.Slots.{held_at, IsRun}
 use Rattle.ndarray.proofs.lists.Elements.{same_from_slice_get, slice_get-take}

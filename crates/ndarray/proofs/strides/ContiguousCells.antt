@@ -8,7 +8,7 @@ use Rattle.ndarray.specs.Grid.{Grid, IsGrid, cell, tabulated}
 use Rattle.ndarray.specs.Orders.{cells_in}
 use Rattle.ndarray.specs.Views.{transposed}
 use Rattle.ndarray.specs.declared.base.shape.Order.TheVariants.{RowMajor, ColumnMajor}
-use Rattle.ndarray.specs.order.Ranks.{rank}
+use Rattle.ndarray.specs.base.Ranks.{rank}
 use Rattle.ndarray.specs.base.Places.{place, cells_at, Reaches}
 use Rattle.ndarray.specs.base.Slots.{held_at, IsRun}
 use Rattle.ndarray.proofs.lists.Elements.{same_from_slice_get, some-of, slice_get-take}

@@ -71,14 +71,14 @@ others-below ns bs k l lt big h long =
     omega (arith, e, t)
 
 -- index lists of no axes
-none-same : (is js : List ℕ) → length is ≡ 0 → length js ≡ 0 → is ≡ js
-none-same [] [] li lj = refl
-none-same [] (j ∷ js) li lj = absurd (omega arith)
-none-same (i ∷ is) js li lj = absurd (omega arith)
+no_axes-same : (is js : List ℕ) → length is ≡ 0 → length js ≡ 0 → is ≡ js
+no_axes-same [] [] li lj = refl
+no_axes-same [] (j ∷ js) li lj = absurd (omega arith)
+no_axes-same (i ∷ is) js li lj = absurd (omega arith)
 
 -- index lists that lie equally far are equal: of the axis of the largest stride the index is known, and then of the others
 pub lift-apart : (count : ℕ) (ns bs is js : List ℕ) → length ns ≡ count → length bs ≡ length ns → AreNested ns bs → InBox ns is → InBox ns js → lift is bs ≡ lift js bs → is ≡ js
-lift-apart zero ns bs is js ec l h bi bj e = none-same is js (let a = InBox-length ns is bi in omega arith) (let a = InBox-length ns js bj in omega arith)
+lift-apart zero ns bs is js ec l h bi bj e = no_axes-same is js (let a = InBox-length ns is bi in omega arith) (let a = InBox-length ns js bj in omega arith)
 lift-apart (suc count) ns bs is js ec l h bi bj e =
     let big = largest bs (omega arith) in
     let k : ℕ = big.0 in

@@ -6,15 +6,15 @@ use Rattle.ndarray.specs.Grid.{Grid, grid, one_axis}
 use Rattle.ndarray.specs.Limits.{nonzero_size}
 use Rattle.ndarray.specs.base.Places.{Reaches, grid_at}
 use Rattle.ndarray.specs.base.Strides.{AreStridesOf}
-use Rattle.ndarray.specs.order.Ranks.{block_in}
+use Rattle.ndarray.specs.base.Ranks.{block_in}
 use Rattle.ndarray.specs.declared.base.shape.Order.TheVariants.{RowMajor}
 use Rattle.ndarray.proofs.cells.Cells.{along-row_order}
 use Rattle.ndarray.proofs.strides.Reach.{length-cells_at}
 use Rattle.ndarray.proofs.strides.Strides.{Reaches-slice, cells_in-slice}
 
-nonzero-one : (n : ℕ) → n < 2 ^ 63 → nonzero_size (n ∷ []) < 2 ^ 63
-nonzero-one zero h = omega arith
-nonzero-one (suc n) h = omega arith
+one_axis-fits : (n : ℕ) → n < 2 ^ 63 → nonzero_size (n ∷ []) < 2 ^ 63
+one_axis-fits zero h = omega arith
+one_axis-fits (suc n) h = omega arith
 
 strides-one : (n : ℕ) → AreStridesOf RowMajor (n ∷ []) (1 ∷ [])
 strides-one n = record {
@@ -24,11 +24,11 @@ strides-one n = record {
 
 module _ {A : Type 0} (at : ℕ → Option A) (xs : List A) (e : (p : ℕ) → at p ≡ slice_get xs p) (n : ℕ) (room : n ≤ length xs) (limit : n < 2 ^ 63) where
   pub Reaches-one_axis : (one : Type 0) → Reaches one at (n ∷ []) 0 (1 ∷ [])
-  Reaches-one_axis one = Reaches-slice RowMajor (n ∷ []) (1 ∷ []) (strides-one n) (nonzero-one n limit) one at xs e (omega arith)
+  Reaches-one_axis one = Reaches-slice RowMajor (n ∷ []) (1 ∷ []) (strides-one n) (one_axis-fits n limit) one at xs e (omega arith)
 
   pub grid-one_axis : grid_at at (n ∷ []) 0 (1 ∷ []) ≡ one_axis (take n xs)
   grid-one_axis =
       let g : Grid A = grid_at at (n ∷ []) 0 (1 ∷ []) in
       let cells = sym (along-row_order g (length-cells_at at (n ∷ []) 0 (1 ∷ []) (Reaches-one_axis ⊥)))
-      ∙ (cells_in-slice RowMajor (n ∷ []) (1 ∷ []) (strides-one n) (nonzero-one n limit) at xs e (omega arith) ∙ ap (λ m. take m xs) (let o : n * 1 ≡ n = omega arith in o)) in
+      ∙ (cells_in-slice RowMajor (n ∷ []) (1 ∷ []) (strides-one n) (one_axis-fits n limit) at xs e (omega arith) ∙ ap (λ m. take m xs) (let o : n * 1 ≡ n = omega arith in o)) in
       ap (grid (n ∷ [])) cells ∙ ap (λ m. grid (m ∷ []) (take n xs)) (sym (length-take-le n xs room))

@@ -7,7 +7,7 @@ use Rattle.std.proofs.Math.Nat.{mod-add-mod, add-mod-mod}
 use Rattle.ndarray.specs.Index.{InBox, size, row_order}
 use Rattle.ndarray.specs.Grid.{Grid, grid, cell}
 use Rattle.ndarray.specs.base.Places.{dot, place, Reaches, cells_at, grid_at}
-use Rattle.ndarray.specs.order.Ranks.{rank}
+use Rattle.ndarray.specs.base.Ranks.{rank}
 use Rattle.ndarray.proofs.lists.Elements.{length-filter_map_all, slice_get-filter_map_all, some-of, filter_map-same}
 use Rattle.ndarray.proofs.boxes.Orders.{length-row_order, row_order-is, row_order-at, rank-lt}
 use Rattle.ndarray.proofs.cells.Cells.{cell-within, cell-outside}

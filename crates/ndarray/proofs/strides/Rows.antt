@@ -9,7 +9,8 @@ use Rattle.std.proofs.Math.Nat.{mod-add-mod, add-mod-mod}
 use Rattle.std.proofs.lemmas.Bool.{cases_lt}
 use Rattle.ndarray.specs.Index.{InBox}
 use Rattle.ndarray.specs.Grid.{Grid, HasCells, cell}
-use Rattle.ndarray.specs.order.Ranks.{row_from, TakesRow}
+use Rattle.ndarray.specs.base.Ranks.{row_from}
+use Rattle.ndarray.specs.order.Walks.{TakesRow}
 use Rattle.ndarray.specs.base.Places.{dot, place, Reaches, grid_at}
 use Rattle.ndarray.specs.base.Strided.{places_from, HaveElements}
 use Rattle.ndarray.specs.places.Lent.{places_along, with_places}

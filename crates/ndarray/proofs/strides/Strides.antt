@@ -9,7 +9,7 @@ use Rattle.ndarray.specs.Index.{InBox, size, row_order}
 use Rattle.ndarray.specs.Limits.{nonzero_size}
 use Rattle.ndarray.specs.Grid.{Grid, cell}
 use Rattle.ndarray.specs.Orders.{box_in, cells_in}
-use Rattle.ndarray.specs.order.Ranks.{rank, column_rank, rank_in, axis_in, block_in}
+use Rattle.ndarray.specs.base.Ranks.{rank, column_rank, rank_in, axis_in, block_in}
 use Rattle.ndarray.specs.base.Places.{dot, place, Reaches, grid_at}
 use Rattle.ndarray.specs.base.Strides.{AreStridesOf}
 use Rattle.ndarray.specs.declared.base.shape.Order.{Order}

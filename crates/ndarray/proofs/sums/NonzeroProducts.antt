@@ -111,8 +111,8 @@ module _ (fits : ℤ → Type 0) (whole now rest : List ℤ) (z product : ℤ) (
     each = each-next;
   }
 
-  magnitude-is : z ≢ pos 0 → h.number * nonzero_magnitude z ≡ h.number * unsigned_abs z
-  magnitude-is nz = ap (λ m. h.number * m) (magnitude-nonzero z nz)
+  times-nonzero_magnitude : z ≢ pos 0 → h.number * nonzero_magnitude z ≡ h.number * unsigned_abs z
+  times-nonzero_magnitude nz = ap (λ m. h.number * m) (magnitude-nonzero z nz)
 
   times-is : (factor : ℤ) → factor ≡ pos (unsigned_abs z) → product *ℤ factor ≡ pos (h.number * unsigned_abs z)
   times-is factor e = ap (λ t. t *ℤ factor) h.is_number ∙ ap (λ t. pos h.number *ℤ t) e
@@ -122,7 +122,7 @@ module _ (fits : ℤ → Type 0) (whole now rest : List ℤ) (z product : ℤ) (
     number = h.number * unsigned_abs z;
     is_number = f ∙ times-is factor e;
     in_range = subst fits (sym f) g;
-    total_is = ap (λ m. m * magnitude_product rest) (sym (magnitude-is nz)) ∙ total-next;
+    total_is = ap (λ m. m * magnitude_product rest) (sym (times-nonzero_magnitude nz)) ∙ total-next;
     each = each-next;
   }
 
@@ -136,7 +136,7 @@ module _ (fits : ℤ → Type 0) (whole now rest : List ℤ) (z product : ℤ) (
         let s = product-some rest in
         let t = total-next in
         let k : (h.number * nonzero_magnitude z) * 1 ≤ (h.number * nonzero_magnitude z) * magnitude_product rest = mul-le (h.number * nonzero_magnitude z) 1 (h.number * nonzero_magnitude z) (magnitude_product rest) (omega arith) s in
-        let m = magnitude-is nz in
+        let m = times-nonzero_magnitude nz in
         excess (subst fits (sym (times-is factor e)) (below (h.number * unsigned_abs z) (magnitude_product whole) (omega (arith, k, t, m)) f))
 
     -- the number has no absolute value in the type

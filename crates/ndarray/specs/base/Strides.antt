@@ -1,6 +1,6 @@
 -- Inside `base`: the strides that `layout` computes.
 use Rattle.std.specs.Prelude.{◌≡◌, ℕ, ◌+◌, ◌-◌, ◌<◌, ◌≤◌, ◌⊎◌, List, length, slice_index}
-use Rattle.ndarray.specs.order.Ranks.{axis_in, block_in}
+use Rattle.ndarray.specs.base.Ranks.{axis_in, block_in}
 use Rattle.ndarray.specs.declared.base.shape.Order.{Order}
 
 -- cells side by side: the stride of an axis is the size of the box of the axes that vary faster

@@ -1,6 +1,6 @@
 -- Inside `order`: along which axis a box is cut.
 use Rattle.std.specs.Prelude.{◌≡◌, ℕ, ◌+◌, ◌<◌, ◌≤◌, List, length, slice_set, slice_index}
-use Rattle.ndarray.specs.order.Ranks.{axis_in}
+use Rattle.ndarray.specs.base.Ranks.{axis_in}
 use Rattle.ndarray.specs.declared.base.shape.Order.{Order}
 
 -- each axis that varies slower than this one has length at most 1

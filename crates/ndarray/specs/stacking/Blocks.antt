@@ -5,7 +5,7 @@ use Rattle.ndarray.specs.Index.{InBox, row_order, size}
 use Rattle.ndarray.specs.Joining.{shapes_of}
 use Rattle.ndarray.specs.Limits.{IsWithinLimit}
 use Rattle.ndarray.specs.declared.base.error.ErrorKind.{ErrorKind}
-use Rattle.ndarray.specs.order.Ranks.{rank}
+use Rattle.ndarray.specs.base.Ranks.{rank}
 
 -- the lengths of the axes before one, and 1 on each axis from there on
 abbrev pub outer_lengths : ℕ → List ℕ → List ℕ

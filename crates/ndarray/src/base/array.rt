@@ -91,13 +91,16 @@ impl<S: Data, D: Lengths> ArrayBase<S, D> {
         self.layout.dim.size()
     }
 
-    /// The length of an axis. Requires it to be below the number of axes.
+    /// The length of an axis.
+    ///
+    /// Requires an axis below the number of axes; check with `axis_ok`.
     pub fn len_of(&self, axis: Axis) -> usize
         requires { axis.0 < length self.now.lengths }
         ensures value { result ≡ slice_index self.now.lengths axis.0 }
+        ensures axes { D.has_axes (length self.now.lengths) }
         ensures fits { result < 2 ^ 63 }
     {
-        self.layout.dim.axis(axis.0)
+        self.layout.dim.slice()[axis.0]
     }
 
     /// The cell at an index list, or `None` outside the box.

@@ -23,7 +23,9 @@ impl<S: Data, D: Lengths> ArrayBase<S, D> {
         axis.0 < self.ndim()
     }
 
-    /// Exchanges two axes. Requires both to be below the number of axes.
+    /// Exchanges two axes.
+    ///
+    /// Requires both to be below the number of axes; compare with `ndim`.
     pub fn swap_axes(&mut self, ax: usize, bx: usize)
         requires first { ax < length self.old.lengths }
         requires second { bx < length self.old.lengths }
@@ -49,6 +51,7 @@ impl<S: Data, D: Lengths> ArrayBase<S, D> {
         requires axis { axis.0 < length self.now.lengths }
         requires within { IsSliceOf (slice_index self.now.lengths axis.0) slice }
         ensures value { result ≡ sliced self.now axis.0 slice }
+        ensures axes { D.has_axes (length result.lengths) }
         ensures whole { IsGrid result }
     {
         let mut view = self.view();
@@ -73,6 +76,7 @@ impl<S: Data, D: Lengths> ArrayBase<S, D> {
     pub fn into_dimensionality<E: Lengths>(self) -> Result<ArrayBase<S, E>, ShapeError>
         ensures accepts { IsOk result ↔ E.has_axes (length self.lengths) }
         ensures value { IfOk result (λ a. a ≡ self) }
+        ensures axes { IfOk result (λ a. E.has_axes (length a.lengths)) }
         ensures whole { IfOk result IsGrid }
         ensures kind { IfErr result (λ e. e ≡ refusal IncompatibleShape) }
     {
@@ -93,11 +97,12 @@ impl<S: Data, D: RemoveAxis> ArrayBase<S, D> {
     /// axis.
     ///
     /// Requires an axis below the number of axes (check with `axis_ok`) and an index below its
-    /// length.
+    /// length (compare with `len_of`).
     pub fn index_axis(&self, axis: Axis, index: usize) -> ArrayView<'_, S::Elem, D::Smaller>
         requires axis { axis.0 < length self.now.lengths }
         requires within { index < slice_index self.now.lengths axis.0 }
         ensures value { result ≡ axis_item self.now axis.0 index }
+        ensures axes { D.Smaller.has_axes (length result.lengths) }
         ensures whole { IsGrid result }
     {
         self.view().index_axis_move(axis, index)
@@ -108,8 +113,10 @@ impl<S: Data, D: RemoveAxis> ArrayBase<S, D> {
         requires axis { axis.0 < length self.lengths }
         requires within { index < slice_index self.lengths axis.0 }
         ensures value { result ≡ axis_item self axis.0 index }
+        ensures axes { D.Smaller.has_axes (length result.lengths) }
         ensures whole { IsGrid result }
     {
+        let _axes = self.ndim();
         let ArrayBase { storage, layout } = self;
         ArrayBase {
             storage,
@@ -126,6 +133,7 @@ impl<S: DataMut, D: Lengths> ArrayBase<S, D> {
         requires axis { axis.0 < length self.old.lengths }
         requires within { IsSliceOf (slice_index self.old.lengths axis.0) slice }
         ensures value { result ≡ sliced self.old axis.0 slice }
+        ensures axes { D.has_axes (length result.lengths) }
         ensures whole { IsGrid result }
     {
         let mut view = self.view_mut();
@@ -146,6 +154,7 @@ impl<S: DataMut, D: RemoveAxis> ArrayBase<S, D> {
         requires axis { axis.0 < length self.old.lengths }
         requires within { index < slice_index self.old.lengths axis.0 }
         ensures value { result ≡ axis_item self.old axis.0 index }
+        ensures axes { D.Smaller.has_axes (length result.lengths) }
         ensures whole { IsGrid result }
     {
         self.view_mut().index_axis_move(axis, index)
@@ -155,13 +164,15 @@ impl<S: DataMut, D: RemoveAxis> ArrayBase<S, D> {
 impl<S: Data, D: Dimension> ArrayBase<S, D> {
     /// The array with an axis of length 1 put in.
     ///
-    /// Requires an axis that is at most the number of axes, which is below 32.
+    /// Requires an axis that is at most the number of axes, which is below 32; compare with `ndim`.
     pub fn insert_axis(self, axis: Axis) -> ArrayBase<S, D::Larger>
         requires axis { axis.0 ≤ length self.lengths }
         requires room { length self.lengths < 32 }
         ensures value { result ≡ axis_inserted self axis.0 }
+        ensures axes { D.Larger.has_axes (length result.lengths) }
         ensures whole { IsGrid result }
     {
+        let _axes = self.ndim();
         let ArrayBase { storage, layout } = self;
         ArrayBase {
             storage,
@@ -174,7 +185,7 @@ impl<'a, A, D: Lengths> ArrayView<'a, A, D> {
     /// The first `index` places of an axis, and the rest.
     ///
     /// Requires an axis below the number of axes (check with `axis_ok`) and an index that is at most
-    /// its length.
+    /// its length (compare with `len_of`).
     pub fn split_at(self, axis: Axis, index: usize) -> (Self, Self)
         requires axis { axis.0 < length self.lengths }
         requires within { index ≤ slice_index self.lengths axis.0 }
@@ -207,7 +218,7 @@ impl<'a, A, D: Lengths> ArrayViewMut<'a, A, D> {
     /// The first `index` places of an axis, and the rest. No cell is in both.
     ///
     /// Requires an axis below the number of axes (check with `axis_ok`) and an index that is at most
-    /// its length.
+    /// its length (compare with `len_of`).
     pub fn split_at(self, axis: Axis, index: usize) -> (Self, Self)
         requires axis { axis.0 < length self.lengths }
         requires within { index ≤ slice_index self.lengths axis.0 }

@@ -5,6 +5,7 @@ ghost use Rattle.std.specs.List.{AllClonesOf};
 ghost use Rattle.ndarray.specs.Errors.{refusal};
 ghost use Rattle.ndarray.specs.Grid.{IsGrid, IsKnownByCells, one_axis};
 ghost use Rattle.ndarray.specs.declared.base.error.ErrorKind.TheVariants.{OutOfBounds, Overflow};
+ghost use Rattle.ndarray.specs.declared.base.shape.Order.TheVariants.{RowMajor};
 ghost use Rattle.ndarray.specs.Index.{size};
 ghost use Rattle.ndarray.specs.Limits.{IsWithinLimit};
 ghost use Rattle.ndarray.specs.Orders.{HasInOrder, cells_in};
@@ -42,6 +43,7 @@ impl<'a, A, D: Dimension> ArrayView<'a, A, D> {
         ensures axes { IfOk result (λ v. D.has_axes (length v.lengths)) }
         ensures cells { IfOk result (λ v. HasInOrder (Sh.shape_order shape) v (take (size v.lengths) slice.now)) }
         ensures list { IfOk result (λ v. cells_in (Sh.shape_order shape) v ≡ take (size v.lengths) slice.now) }
+        ensures row_major { Sh.shape_order shape ≡ RowMajor → IfOk result (λ v. v.cells ≡ take (size v.lengths) slice.now) }
         ensures whole { IfOk result IsGrid }
     {
         let Shape { dim, order } = shape.into_shape_with_order();
@@ -109,6 +111,7 @@ impl<'a, S: Data, D: Lengths> From<&'a ArrayBase<S, D>> for ArrayView<'a, S::Ele
     /// The view of an array, as `view` gives it.
     fn from(array: &'a ArrayBase<S, D>) -> Self
         ensures same { result ≡ array.now }
+        ensures axes { D.has_axes (length result.lengths) }
         ensures whole { IsGrid result }
         ensures known { IsKnownByCells result }
     {
@@ -167,6 +170,7 @@ impl<A: Drop, S: DataOwned<Elem = A>, D: Dimension> ArrayBase<S, D> {
         ensures axes { IfOk result (λ a. D.has_axes (length a.lengths)) }
         ensures cells { IfOk result (λ a. HasInOrder (Sh.shape_order shape) a v.items) }
         ensures list { IfOk result (λ a. cells_in (Sh.shape_order shape) a ≡ v.items) }
+        ensures row_major { Sh.shape_order shape ≡ RowMajor → IfOk result (λ a. a.cells ≡ v.items) }
         ensures whole { IfOk result IsGrid }
     {
         let Shape { dim, order } = shape.into_shape_with_order();
@@ -252,8 +256,10 @@ impl<'a, A: Drop, D: Lengths> From<ArrayView<'a, A, D>> for CowArray<'a, A, D> {
     /// The array with the view's lengths and cells, which it borrows.
     fn from(view: ArrayView<'a, A, D>) -> Self
         ensures same { result ≡ view.entry }
+        ensures axes { D.has_axes (length result.lengths) }
         ensures whole { IsGrid result }
     {
+        let _axes = view.ndim();
         let ArrayBase { storage, layout } = view;
         ArrayBase {
             storage: CowRepr::View(storage),
@@ -266,8 +272,10 @@ impl<'a, A: Drop, D: Lengths> From<Array<A, D>> for CowArray<'a, A, D> {
     /// The array with the array's lengths and cells, which it owns.
     fn from(array: Array<A, D>) -> Self
         ensures same { result ≡ array }
+        ensures axes { D.has_axes (length result.lengths) }
         ensures whole { IsGrid result }
     {
+        let _axes = array.ndim();
         let ArrayBase { storage, layout } = array;
         ArrayBase {
             storage: CowRepr::Owned(storage),

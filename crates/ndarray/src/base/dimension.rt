@@ -57,7 +57,7 @@ pub trait Lengths: Drop + Sized {
         ensures value { numbers result ≡ numbers self.now }
         ensures has { has_axes (length (numbers self.now)) };
 
-    /// The number of an axis. Requires it to be below the number of axes.
+    /// The number of an axis. Requires it to be below the number of axes; compare with `ndim`.
     fn axis(&self, axis: usize) -> usize
         requires { axis < length (numbers self.now) }
         ensures { result ≡ slice_index (numbers self.now) axis }
@@ -65,7 +65,7 @@ pub trait Lengths: Drop + Sized {
         self.slice()[axis]
     }
 
-    /// Sets the number of an axis. Requires it to be below the number of axes.
+    /// Sets the number of an axis. Requires it to be below the number of axes; compare with `ndim`.
     fn set_axis(&mut self, axis: usize, number: usize)
         requires { axis < length (numbers self.old) }
         ensures { numbers self.new ≡ slice_set (numbers self.old) axis number }
@@ -130,7 +130,7 @@ pub trait Dimension: Lengths {
 
     /// The list with an axis of length 1 put in.
     ///
-    /// Requires an axis that is at most the number of axes, which is below 32.
+    /// Requires an axis that is at most the number of axes, which is below 32; compare with `ndim`.
     fn insert_axis(&self, axis: Axis) -> Self::Larger
         requires axis_at_most { axis.0 ≤ length (Self.numbers self.now) }
         requires room { length (Self.numbers self.now) < 32 }
@@ -150,7 +150,7 @@ pub trait Dimension: Lengths {
 
     /// The list without the number of an axis; a list of no axes stays as it is.
     ///
-    /// Requires an axis that is below the number of axes, or no axes at all.
+    /// Requires an axis that is below the number of axes, or no axes at all; compare with `ndim`.
     fn try_remove_axis(&self, axis: Axis) -> Self::Smaller
         requires { (Self.numbers self.now ≡ []) ⊎ (axis.0 < length (Self.numbers self.now)) }
         ensures { Self.Smaller.numbers result ≡ remove (Self.numbers self.now) axis.0 }
@@ -182,7 +182,7 @@ pub trait Dimension: Lengths {
 
 /// A dimension that may lose an axis: all but `Ix0`.
 pub trait RemoveAxis: Dimension {
-    /// The list without the number of an axis. Requires it to be below the number of axes.
+    /// The list without the number of an axis. Requires it to be below the number of axes; compare with `ndim`.
     fn remove_axis(&self, axis: Axis) -> Self::Smaller
         requires { axis.0 < length (Self.numbers self.now) }
         ensures { Self.Smaller.numbers result ≡ remove (Self.numbers self.now) axis.0 }

@@ -92,7 +92,8 @@ impl<D: Lengths> Indices<D> {
 
     /// The first `index` places of an axis, and the rest.
     ///
-    /// Requires an axis below the number of axes and an index that is at most its length.
+    /// Requires an axis below the number of axes and an index that is at most its length; compare with
+    /// `raw_dim`.
     pub fn split_at(self, axis: Axis, index: usize) -> (Self, Self)
         requires axis { axis.0 < length self.lengths }
         requires within { index ≤ slice_index self.lengths axis.0 }

@@ -6,12 +6,11 @@ ghost use Rattle.ndarray.specs.Limits.{IsWithinLimit};
 ghost use Rattle.ndarray.specs.Broadcast.{BroadcastsTo};
 ghost use Rattle.ndarray.specs.base.Places.{place};
 ghost use Rattle.ndarray.specs.base.Strides.{AreStridesOf, StretchedBy};
-ghost use Rattle.ndarray.specs.order.Ranks.{rank};
+ghost use Rattle.ndarray.specs.base.Ranks.{rank};
 
 use crate::base::axis::Axis;
 use crate::base::dimension::{Dimension, Lengths, RemoveAxis};
-use crate::base::shape::Order;
-use crate::order::axis_at;
+use crate::base::shape::{Order, axis_at};
 
 /// The lengths of an array, the place of its first index list, and how far the next place lies on
 /// each axis. Strides are the bits of signed numbers, so places are counted modulo 2^64.

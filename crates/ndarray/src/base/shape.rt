@@ -1,7 +1,8 @@
 //! Orders of a box, and shapes: lengths with the order in which their cells are stored.
 
-ghost use Rattle.std.specs.Prelude.{◌≡◌, List, ℕ};
+ghost use Rattle.std.specs.Prelude.{◌≡◌, ◌<◌, List, ℕ};
 ghost use Rattle.ndarray.specs.Dimensions.{shape_dim, stored_in};
+ghost use Rattle.ndarray.specs.base.Ranks.{axis_in};
 ghost use Rattle.ndarray.specs.declared.base.shape.Order.{Order};
 ghost use Rattle.ndarray.specs.declared.base.shape.Order.TheVariants.{ColumnMajor, RowMajor};
 
@@ -25,6 +26,18 @@ impl Order {
         } else {
             Order::RowMajor
         }
+    }
+}
+
+/// The axis that varies `p`-th fastest, of `ndim`.
+pub(crate) fn axis_at(order: Order, ndim: usize, p: usize) -> usize
+    requires { p < ndim }
+    ensures value { result ≡ axis_in order ndim p }
+    ensures below { result < ndim }
+{
+    match order {
+        Order::RowMajor => ndim - 1 - p,
+        Order::ColumnMajor => p,
     }
 }
 

@@ -4,7 +4,7 @@ ghost use Rattle.std.specs.Prelude.{◌≡◌, [], ◌<◌, All, length, filter_
 ghost use Rattle.std.specs.Iterator.{YieldsFirstRef, YieldsLastRef};
 ghost use Rattle.ndarray.specs.Grid.{cell};
 ghost use Rattle.ndarray.specs.Index.{InBox};
-ghost use Rattle.ndarray.specs.order.Ranks.{row_from};
+ghost use Rattle.ndarray.specs.base.Ranks.{row_from};
 
 use crate::base::array::ArrayView;
 use crate::base::dimension::Lengths;

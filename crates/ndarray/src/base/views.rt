@@ -18,6 +18,7 @@ impl<S: Data, D: Lengths> ArrayBase<S, D> {
     /// reversed one.
     pub fn t(&self) -> ArrayView<'_, S::Elem, D>
         ensures value { result ≡ transposed self.now }
+        ensures axes { D.has_axes (length result.lengths) }
         ensures whole { IsGrid result }
     {
         self.view().reversed_axes()
@@ -26,8 +27,10 @@ impl<S: Data, D: Lengths> ArrayBase<S, D> {
     /// The same of the array itself: a view to write in stays one.
     pub fn reversed_axes(self) -> ArrayBase<S, D>
         ensures value { result ≡ transposed self }
+        ensures axes { D.has_axes (length result.lengths) }
         ensures whole { IsGrid result }
     {
+        let _axes = self.ndim();
         let ArrayBase { storage, layout } = self;
         ArrayBase {
             storage,
@@ -41,7 +44,7 @@ impl<S: Data, D: Lengths> ArrayBase<S, D> {
 
     /// Turns an axis round: the cell at an index is then that at length - 1 - index.
     ///
-    /// Requires an axis below the number of axes.
+    /// Requires an axis below the number of axes; check with `axis_ok`.
     pub fn invert_axis(&mut self, axis: Axis)
         requires { axis.0 < length self.old.lengths }
         ensures value { self.new ≡ inverted self.old axis.0 }
@@ -64,6 +67,7 @@ impl<S: Data, D: Lengths> ArrayBase<S, D> {
     pub fn broadcast<E: IntoDimension>(&self, dim: E) -> Option<ArrayView<'_, S::Elem, E::Dim>>
         ensures answers { IsSome result ↔ (BroadcastsTo self.now.lengths (E.written_numbers dim) × IsWithinLimit (E.written_numbers dim)) }
         ensures value { IfSome result (λ v. v ≡ broadcast_to self.now (E.written_numbers dim)) }
+        ensures axes { IfSome result (λ v. E.Dim.has_axes (length v.lengths)) }
         ensures whole { IfSome result IsGrid }
     {
         self.view().broadcast_to(dim.into_dimension())
@@ -75,8 +79,10 @@ impl<'a, A, D: Lengths> ArrayView<'a, A, D> {
     pub(crate) fn broadcast_to<E: Lengths>(&self, dim: E) -> Option<ArrayView<'a, A, E>>
         ensures answers { IsSome result ↔ (BroadcastsTo self.now.lengths (E.numbers dim) × IsWithinLimit (E.numbers dim)) }
         ensures value { IfSome result (λ v. v ≡ broadcast_to self.now (E.numbers dim)) }
+        ensures axes { IfSome result (λ v. E.has_axes (length v.lengths)) }
         ensures whole { IfSome result IsGrid }
     {
+        let _axes = dim.ndim();
         if !dim.size_ok() {
             return None;
         }

@@ -118,8 +118,10 @@ impl<S: DataMut, D: Lengths> ArrayBase<S, D> {
     /// What is written through it is what the array holds when the view has ended.
     pub fn view_mut(&mut self) -> ArrayViewMut<'_, S::Elem, D>
         ensures same { result ≡ self.old }
+        ensures axes { D.has_axes (length self.old.lengths) }
         ensures whole { IsGrid result }
     {
+        let _axes = self.ndim();
         S::lend(self)
     }
 }

@@ -6,7 +6,7 @@ ghost use Rattle.std.specs.Iterator.SizeHint.{IsExactHint, IsWithinCount};
 ghost use Rattle.ndarray.specs.Grid.{IsGrid, HasCells};
 ghost use Rattle.ndarray.specs.Index.{InBox, size};
 ghost use Rattle.ndarray.specs.base.Strided.{SplitsOffRow};
-ghost use Rattle.ndarray.specs.order.Ranks.{rank};
+ghost use Rattle.ndarray.specs.base.Ranks.{rank};
 ghost use Rattle.ndarray.specs.Orders.{HasInOrder, cells_in};
 ghost use Rattle.ndarray.specs.declared.base.shape.Order.TheVariants.{RowMajor};
 

@@ -29,7 +29,7 @@ where
 
     ghost can_bitand = { λ a b. CanCombine a.now b.now A.can_bitand × ClonesAreEqual A.is_clone × ClonesAreEqual B.is_clone };
 
-    ghost bitand_gives = { λ a b r. MakesCombined A.bitand_gives a.now b.now r };
+    ghost bitand_gives = { λ a b r. MakesCombined D.Output.has_axes A.bitand_gives a.now b.now r };
 
     fn bitand(self, rhs: &'b ArrayBase<S2, E>) -> Self::Output {
         combine::<Conjunction, A, B, _, D, E>(self, rhs)
@@ -48,7 +48,7 @@ where
 
     ghost can_bitand = { λ a b. CanCombine a b.now A.can_bitand × ClonesAreEqual A.is_clone × ClonesAreEqual B.is_clone };
 
-    ghost bitand_gives = { λ a b r. UpdatesCombined A.bitand_gives A.is_infallible B.is_infallible a.lengths a b.now r };
+    ghost bitand_gives = { λ a b r. UpdatesCombined D.Output.has_axes A.bitand_gives A.is_infallible B.is_infallible a.lengths a b.now r };
 
     fn bitand(self, rhs: &'b ArrayBase<S2, E>) -> Self::Output {
         combine_into_left::<Conjunction, A, B, _, D, E>(self, rhs)
@@ -66,7 +66,7 @@ where
 
     ghost can_bitand = { λ a b. CanCombine a b A.can_bitand × ClonesAreEqual A.is_clone × ClonesAreEqual B.is_clone };
 
-    ghost bitand_gives = { λ a b r. UpdatesCombined A.bitand_gives A.is_infallible B.is_infallible a.lengths a b r };
+    ghost bitand_gives = { λ a b r. UpdatesCombined D.Output.has_axes A.bitand_gives A.is_infallible B.is_infallible a.lengths a b r };
 
     fn bitand(self, rhs: Array<B, E>) -> Self::Output {
         combine_into_left_by_value::<Conjunction, A, B, _, D, E>(self, rhs)
@@ -84,7 +84,7 @@ where
 
     ghost can_bitand = { λ a b. CanCombine a b A.can_bitand × ClonesAreEqual A.is_clone × ClonesAreEqual B.is_clone };
 
-    ghost bitand_gives = { λ a b r. UpdatesCombined A.bitand_gives A.is_infallible B.is_infallible a.lengths a b r };
+    ghost bitand_gives = { λ a b r. UpdatesCombined D.Output.has_axes A.bitand_gives A.is_infallible B.is_infallible a.lengths a b r };
 
     fn bitand(self, rhs: ArrayView<'b, B, E>) -> Self::Output {
         combine_into_left_by_value::<Conjunction, A, B, _, D, E>(self, rhs)
@@ -103,7 +103,7 @@ where
 
     ghost can_bitand = { λ a b. CanCombine a.now b A.can_bitand × ClonesAreEqual A.is_clone × ClonesAreEqual B.is_clone };
 
-    ghost bitand_gives = { λ a b r. UpdatesCombined A.bitand_gives A.is_infallible B.is_infallible b.lengths a.now b r };
+    ghost bitand_gives = { λ a b r. UpdatesCombined E.Output.has_axes A.bitand_gives A.is_infallible B.is_infallible b.lengths a.now b r };
 
     fn bitand(self, rhs: Array<B, E>) -> Self::Output {
         combine_into_right::<Conjunction, A, B, _, D, E>(self, rhs)
@@ -120,7 +120,7 @@ where
 
     ghost can_bitand = { λ a b. CanMap (λ x. A.can_bitand x b) a × ClonesAreEqual A.is_clone × ClonesAreEqual B.is_clone };
 
-    ghost bitand_gives = { λ a b r. UpdatesMapped (λ x z. A.bitand_gives x b z) (λ x. A.is_infallible x × B.is_infallible b) a r };
+    ghost bitand_gives = { λ a b r. UpdatesMapped D.has_axes (λ x z. A.bitand_gives x b z) (λ x. A.is_infallible x × B.is_infallible b) a r };
 
     fn bitand(self, rhs: B) -> Self::Output {
         combine_scalar_in_place::<Conjunction, A, B, D>(self, rhs)
@@ -137,7 +137,7 @@ where
 
     ghost can_bitand = { λ a b. CanMap (λ x. A.can_bitand x b) a.now × ClonesAreEqual A.is_clone × ClonesAreEqual B.is_clone };
 
-    ghost bitand_gives = { λ a b r. MakesMapped (λ x z. A.bitand_gives x b z) a.now r };
+    ghost bitand_gives = { λ a b r. MakesMapped D.has_axes (λ x z. A.bitand_gives x b z) a.now r };
 
     fn bitand(self, rhs: B) -> Self::Output {
         combine_scalar::<Conjunction, A, B, D>(self, rhs)
@@ -182,7 +182,7 @@ impl<D: Lengths> BitAnd<Array<u8, D>> for u8 {
 
     ghost can_bitand = { λ a b. CanMap (λ x. ⟦<u8 as BitAnd<u8>>⟧.can_bitand a x) b };
 
-    ghost bitand_gives = { λ a b r. UpdatesMapped (λ x z. ⟦<u8 as BitAnd<u8>>⟧.bitand_gives a x z) (λ _. ⊤) b r };
+    ghost bitand_gives = { λ a b r. UpdatesMapped D.has_axes (λ x z. ⟦<u8 as BitAnd<u8>>⟧.bitand_gives a x z) (λ _. ⊤) b r };
 
     fn bitand(self, rhs: Array<u8, D>) -> Self::Output {
         combine_left_scalar_in_place::<Conjunction, u8, u8, D>(self, rhs)
@@ -194,7 +194,7 @@ impl<'b, D: Lengths> BitAnd<&'b Array<u8, D>> for u8 {
 
     ghost can_bitand = { λ a b. CanMap (λ x. ⟦<u8 as BitAnd<u8>>⟧.can_bitand a x) b.now };
 
-    ghost bitand_gives = { λ a b r. MakesMapped (λ x z. ⟦<u8 as BitAnd<u8>>⟧.bitand_gives a x z) b.now r };
+    ghost bitand_gives = { λ a b r. MakesMapped D.has_axes (λ x z. ⟦<u8 as BitAnd<u8>>⟧.bitand_gives a x z) b.now r };
 
     fn bitand(self, rhs: &'b Array<u8, D>) -> Self::Output {
         combine_left_scalar::<Conjunction, u8, u8, D>(self, rhs)
@@ -206,7 +206,7 @@ impl<D: Lengths> BitAnd<Array<i32, D>> for i32 {
 
     ghost can_bitand = { λ a b. CanMap (λ x. ⟦<i32 as BitAnd<i32>>⟧.can_bitand a x) b };
 
-    ghost bitand_gives = { λ a b r. UpdatesMapped (λ x z. ⟦<i32 as BitAnd<i32>>⟧.bitand_gives a x z) (λ _. ⊤) b r };
+    ghost bitand_gives = { λ a b r. UpdatesMapped D.has_axes (λ x z. ⟦<i32 as BitAnd<i32>>⟧.bitand_gives a x z) (λ _. ⊤) b r };
 
     fn bitand(self, rhs: Array<i32, D>) -> Self::Output {
         combine_left_scalar_in_place::<Conjunction, i32, i32, D>(self, rhs)
@@ -218,7 +218,7 @@ impl<'b, D: Lengths> BitAnd<&'b Array<i32, D>> for i32 {
 
     ghost can_bitand = { λ a b. CanMap (λ x. ⟦<i32 as BitAnd<i32>>⟧.can_bitand a x) b.now };
 
-    ghost bitand_gives = { λ a b r. MakesMapped (λ x z. ⟦<i32 as BitAnd<i32>>⟧.bitand_gives a x z) b.now r };
+    ghost bitand_gives = { λ a b r. MakesMapped D.has_axes (λ x z. ⟦<i32 as BitAnd<i32>>⟧.bitand_gives a x z) b.now r };
 
     fn bitand(self, rhs: &'b Array<i32, D>) -> Self::Output {
         combine_left_scalar::<Conjunction, i32, i32, D>(self, rhs)
@@ -230,7 +230,7 @@ impl<D: Lengths> BitAnd<Array<i64, D>> for i64 {
 
     ghost can_bitand = { λ a b. CanMap (λ x. ⟦<i64 as BitAnd<i64>>⟧.can_bitand a x) b };
 
-    ghost bitand_gives = { λ a b r. UpdatesMapped (λ x z. ⟦<i64 as BitAnd<i64>>⟧.bitand_gives a x z) (λ _. ⊤) b r };
+    ghost bitand_gives = { λ a b r. UpdatesMapped D.has_axes (λ x z. ⟦<i64 as BitAnd<i64>>⟧.bitand_gives a x z) (λ _. ⊤) b r };
 
     fn bitand(self, rhs: Array<i64, D>) -> Self::Output {
         combine_left_scalar_in_place::<Conjunction, i64, i64, D>(self, rhs)
@@ -242,7 +242,7 @@ impl<'b, D: Lengths> BitAnd<&'b Array<i64, D>> for i64 {
 
     ghost can_bitand = { λ a b. CanMap (λ x. ⟦<i64 as BitAnd<i64>>⟧.can_bitand a x) b.now };
 
-    ghost bitand_gives = { λ a b r. MakesMapped (λ x z. ⟦<i64 as BitAnd<i64>>⟧.bitand_gives a x z) b.now r };
+    ghost bitand_gives = { λ a b r. MakesMapped D.has_axes (λ x z. ⟦<i64 as BitAnd<i64>>⟧.bitand_gives a x z) b.now r };
 
     fn bitand(self, rhs: &'b Array<i64, D>) -> Self::Output {
         combine_left_scalar::<Conjunction, i64, i64, D>(self, rhs)
@@ -254,7 +254,7 @@ impl<D: Lengths> BitAnd<Array<usize, D>> for usize {
 
     ghost can_bitand = { λ a b. CanMap (λ x. ⟦<usize as BitAnd<usize>>⟧.can_bitand a x) b };
 
-    ghost bitand_gives = { λ a b r. UpdatesMapped (λ x z. ⟦<usize as BitAnd<usize>>⟧.bitand_gives a x z) (λ _. ⊤) b r };
+    ghost bitand_gives = { λ a b r. UpdatesMapped D.has_axes (λ x z. ⟦<usize as BitAnd<usize>>⟧.bitand_gives a x z) (λ _. ⊤) b r };
 
     fn bitand(self, rhs: Array<usize, D>) -> Self::Output {
         combine_left_scalar_in_place::<Conjunction, usize, usize, D>(self, rhs)
@@ -266,7 +266,7 @@ impl<'b, D: Lengths> BitAnd<&'b Array<usize, D>> for usize {
 
     ghost can_bitand = { λ a b. CanMap (λ x. ⟦<usize as BitAnd<usize>>⟧.can_bitand a x) b.now };
 
-    ghost bitand_gives = { λ a b r. MakesMapped (λ x z. ⟦<usize as BitAnd<usize>>⟧.bitand_gives a x z) b.now r };
+    ghost bitand_gives = { λ a b r. MakesMapped D.has_axes (λ x z. ⟦<usize as BitAnd<usize>>⟧.bitand_gives a x z) b.now r };
 
     fn bitand(self, rhs: &'b Array<usize, D>) -> Self::Output {
         combine_left_scalar::<Conjunction, usize, usize, D>(self, rhs)
@@ -278,7 +278,7 @@ impl<D: Lengths> BitAnd<Array<bool, D>> for bool {
 
     ghost can_bitand = { λ a b. CanMap (λ x. ⟦<bool as BitAnd<bool>>⟧.can_bitand a x) b };
 
-    ghost bitand_gives = { λ a b r. UpdatesMapped (λ x z. ⟦<bool as BitAnd<bool>>⟧.bitand_gives a x z) (λ _. ⊤) b r };
+    ghost bitand_gives = { λ a b r. UpdatesMapped D.has_axes (λ x z. ⟦<bool as BitAnd<bool>>⟧.bitand_gives a x z) (λ _. ⊤) b r };
 
     fn bitand(self, rhs: Array<bool, D>) -> Self::Output {
         combine_left_scalar_in_place::<Conjunction, bool, bool, D>(self, rhs)
@@ -290,7 +290,7 @@ impl<'b, D: Lengths> BitAnd<&'b Array<bool, D>> for bool {
 
     ghost can_bitand = { λ a b. CanMap (λ x. ⟦<bool as BitAnd<bool>>⟧.can_bitand a x) b.now };
 
-    ghost bitand_gives = { λ a b r. MakesMapped (λ x z. ⟦<bool as BitAnd<bool>>⟧.bitand_gives a x z) b.now r };
+    ghost bitand_gives = { λ a b r. MakesMapped D.has_axes (λ x z. ⟦<bool as BitAnd<bool>>⟧.bitand_gives a x z) b.now r };
 
     fn bitand(self, rhs: &'b Array<bool, D>) -> Self::Output {
         combine_left_scalar::<Conjunction, bool, bool, D>(self, rhs)

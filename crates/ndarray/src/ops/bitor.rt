@@ -29,7 +29,7 @@ where
 
     ghost can_bitor = { λ a b. CanCombine a.now b.now A.can_bitor × ClonesAreEqual A.is_clone × ClonesAreEqual B.is_clone };
 
-    ghost bitor_gives = { λ a b r. MakesCombined A.bitor_gives a.now b.now r };
+    ghost bitor_gives = { λ a b r. MakesCombined D.Output.has_axes A.bitor_gives a.now b.now r };
 
     fn bitor(self, rhs: &'b ArrayBase<S2, E>) -> Self::Output {
         combine::<Disjunction, A, B, _, D, E>(self, rhs)
@@ -48,7 +48,7 @@ where
 
     ghost can_bitor = { λ a b. CanCombine a b.now A.can_bitor × ClonesAreEqual A.is_clone × ClonesAreEqual B.is_clone };
 
-    ghost bitor_gives = { λ a b r. UpdatesCombined A.bitor_gives A.is_infallible B.is_infallible a.lengths a b.now r };
+    ghost bitor_gives = { λ a b r. UpdatesCombined D.Output.has_axes A.bitor_gives A.is_infallible B.is_infallible a.lengths a b.now r };
 
     fn bitor(self, rhs: &'b ArrayBase<S2, E>) -> Self::Output {
         combine_into_left::<Disjunction, A, B, _, D, E>(self, rhs)
@@ -66,7 +66,7 @@ where
 
     ghost can_bitor = { λ a b. CanCombine a b A.can_bitor × ClonesAreEqual A.is_clone × ClonesAreEqual B.is_clone };
 
-    ghost bitor_gives = { λ a b r. UpdatesCombined A.bitor_gives A.is_infallible B.is_infallible a.lengths a b r };
+    ghost bitor_gives = { λ a b r. UpdatesCombined D.Output.has_axes A.bitor_gives A.is_infallible B.is_infallible a.lengths a b r };
 
     fn bitor(self, rhs: Array<B, E>) -> Self::Output {
         combine_into_left_by_value::<Disjunction, A, B, _, D, E>(self, rhs)
@@ -84,7 +84,7 @@ where
 
     ghost can_bitor = { λ a b. CanCombine a b A.can_bitor × ClonesAreEqual A.is_clone × ClonesAreEqual B.is_clone };
 
-    ghost bitor_gives = { λ a b r. UpdatesCombined A.bitor_gives A.is_infallible B.is_infallible a.lengths a b r };
+    ghost bitor_gives = { λ a b r. UpdatesCombined D.Output.has_axes A.bitor_gives A.is_infallible B.is_infallible a.lengths a b r };
 
     fn bitor(self, rhs: ArrayView<'b, B, E>) -> Self::Output {
         combine_into_left_by_value::<Disjunction, A, B, _, D, E>(self, rhs)
@@ -103,7 +103,7 @@ where
 
     ghost can_bitor = { λ a b. CanCombine a.now b A.can_bitor × ClonesAreEqual A.is_clone × ClonesAreEqual B.is_clone };
 
-    ghost bitor_gives = { λ a b r. UpdatesCombined A.bitor_gives A.is_infallible B.is_infallible b.lengths a.now b r };
+    ghost bitor_gives = { λ a b r. UpdatesCombined E.Output.has_axes A.bitor_gives A.is_infallible B.is_infallible b.lengths a.now b r };
 
     fn bitor(self, rhs: Array<B, E>) -> Self::Output {
         combine_into_right::<Disjunction, A, B, _, D, E>(self, rhs)
@@ -120,7 +120,7 @@ where
 
     ghost can_bitor = { λ a b. CanMap (λ x. A.can_bitor x b) a × ClonesAreEqual A.is_clone × ClonesAreEqual B.is_clone };
 
-    ghost bitor_gives = { λ a b r. UpdatesMapped (λ x z. A.bitor_gives x b z) (λ x. A.is_infallible x × B.is_infallible b) a r };
+    ghost bitor_gives = { λ a b r. UpdatesMapped D.has_axes (λ x z. A.bitor_gives x b z) (λ x. A.is_infallible x × B.is_infallible b) a r };
 
     fn bitor(self, rhs: B) -> Self::Output {
         combine_scalar_in_place::<Disjunction, A, B, D>(self, rhs)
@@ -137,7 +137,7 @@ where
 
     ghost can_bitor = { λ a b. CanMap (λ x. A.can_bitor x b) a.now × ClonesAreEqual A.is_clone × ClonesAreEqual B.is_clone };
 
-    ghost bitor_gives = { λ a b r. MakesMapped (λ x z. A.bitor_gives x b z) a.now r };
+    ghost bitor_gives = { λ a b r. MakesMapped D.has_axes (λ x z. A.bitor_gives x b z) a.now r };
 
     fn bitor(self, rhs: B) -> Self::Output {
         combine_scalar::<Disjunction, A, B, D>(self, rhs)
@@ -182,7 +182,7 @@ impl<D: Lengths> BitOr<Array<u8, D>> for u8 {
 
     ghost can_bitor = { λ a b. CanMap (λ x. ⟦<u8 as BitOr<u8>>⟧.can_bitor a x) b };
 
-    ghost bitor_gives = { λ a b r. UpdatesMapped (λ x z. ⟦<u8 as BitOr<u8>>⟧.bitor_gives a x z) (λ _. ⊤) b r };
+    ghost bitor_gives = { λ a b r. UpdatesMapped D.has_axes (λ x z. ⟦<u8 as BitOr<u8>>⟧.bitor_gives a x z) (λ _. ⊤) b r };
 
     fn bitor(self, rhs: Array<u8, D>) -> Self::Output {
         combine_left_scalar_in_place::<Disjunction, u8, u8, D>(self, rhs)
@@ -194,7 +194,7 @@ impl<'b, D: Lengths> BitOr<&'b Array<u8, D>> for u8 {
 
     ghost can_bitor = { λ a b. CanMap (λ x. ⟦<u8 as BitOr<u8>>⟧.can_bitor a x) b.now };
 
-    ghost bitor_gives = { λ a b r. MakesMapped (λ x z. ⟦<u8 as BitOr<u8>>⟧.bitor_gives a x z) b.now r };
+    ghost bitor_gives = { λ a b r. MakesMapped D.has_axes (λ x z. ⟦<u8 as BitOr<u8>>⟧.bitor_gives a x z) b.now r };
 
     fn bitor(self, rhs: &'b Array<u8, D>) -> Self::Output {
         combine_left_scalar::<Disjunction, u8, u8, D>(self, rhs)
@@ -206,7 +206,7 @@ impl<D: Lengths> BitOr<Array<i32, D>> for i32 {
 
     ghost can_bitor = { λ a b. CanMap (λ x. ⟦<i32 as BitOr<i32>>⟧.can_bitor a x) b };
 
-    ghost bitor_gives = { λ a b r. UpdatesMapped (λ x z. ⟦<i32 as BitOr<i32>>⟧.bitor_gives a x z) (λ _. ⊤) b r };
+    ghost bitor_gives = { λ a b r. UpdatesMapped D.has_axes (λ x z. ⟦<i32 as BitOr<i32>>⟧.bitor_gives a x z) (λ _. ⊤) b r };
 
     fn bitor(self, rhs: Array<i32, D>) -> Self::Output {
         combine_left_scalar_in_place::<Disjunction, i32, i32, D>(self, rhs)
@@ -218,7 +218,7 @@ impl<'b, D: Lengths> BitOr<&'b Array<i32, D>> for i32 {
 
     ghost can_bitor = { λ a b. CanMap (λ x. ⟦<i32 as BitOr<i32>>⟧.can_bitor a x) b.now };
 
-    ghost bitor_gives = { λ a b r. MakesMapped (λ x z. ⟦<i32 as BitOr<i32>>⟧.bitor_gives a x z) b.now r };
+    ghost bitor_gives = { λ a b r. MakesMapped D.has_axes (λ x z. ⟦<i32 as BitOr<i32>>⟧.bitor_gives a x z) b.now r };
 
     fn bitor(self, rhs: &'b Array<i32, D>) -> Self::Output {
         combine_left_scalar::<Disjunction, i32, i32, D>(self, rhs)
@@ -230,7 +230,7 @@ impl<D: Lengths> BitOr<Array<i64, D>> for i64 {
 
     ghost can_bitor = { λ a b. CanMap (λ x. ⟦<i64 as BitOr<i64>>⟧.can_bitor a x) b };
 
-    ghost bitor_gives = { λ a b r. UpdatesMapped (λ x z. ⟦<i64 as BitOr<i64>>⟧.bitor_gives a x z) (λ _. ⊤) b r };
+    ghost bitor_gives = { λ a b r. UpdatesMapped D.has_axes (λ x z. ⟦<i64 as BitOr<i64>>⟧.bitor_gives a x z) (λ _. ⊤) b r };
 
     fn bitor(self, rhs: Array<i64, D>) -> Self::Output {
         combine_left_scalar_in_place::<Disjunction, i64, i64, D>(self, rhs)
@@ -242,7 +242,7 @@ impl<'b, D: Lengths> BitOr<&'b Array<i64, D>> for i64 {
 
     ghost can_bitor = { λ a b. CanMap (λ x. ⟦<i64 as BitOr<i64>>⟧.can_bitor a x) b.now };
 
-    ghost bitor_gives = { λ a b r. MakesMapped (λ x z. ⟦<i64 as BitOr<i64>>⟧.bitor_gives a x z) b.now r };
+    ghost bitor_gives = { λ a b r. MakesMapped D.has_axes (λ x z. ⟦<i64 as BitOr<i64>>⟧.bitor_gives a x z) b.now r };
 
     fn bitor(self, rhs: &'b Array<i64, D>) -> Self::Output {
         combine_left_scalar::<Disjunction, i64, i64, D>(self, rhs)
@@ -254,7 +254,7 @@ impl<D: Lengths> BitOr<Array<usize, D>> for usize {
 
     ghost can_bitor = { λ a b. CanMap (λ x. ⟦<usize as BitOr<usize>>⟧.can_bitor a x) b };
 
-    ghost bitor_gives = { λ a b r. UpdatesMapped (λ x z. ⟦<usize as BitOr<usize>>⟧.bitor_gives a x z) (λ _. ⊤) b r };
+    ghost bitor_gives = { λ a b r. UpdatesMapped D.has_axes (λ x z. ⟦<usize as BitOr<usize>>⟧.bitor_gives a x z) (λ _. ⊤) b r };
 
     fn bitor(self, rhs: Array<usize, D>) -> Self::Output {
         combine_left_scalar_in_place::<Disjunction, usize, usize, D>(self, rhs)
@@ -266,7 +266,7 @@ impl<'b, D: Lengths> BitOr<&'b Array<usize, D>> for usize {
 
     ghost can_bitor = { λ a b. CanMap (λ x. ⟦<usize as BitOr<usize>>⟧.can_bitor a x) b.now };
 
-    ghost bitor_gives = { λ a b r. MakesMapped (λ x z. ⟦<usize as BitOr<usize>>⟧.bitor_gives a x z) b.now r };
+    ghost bitor_gives = { λ a b r. MakesMapped D.has_axes (λ x z. ⟦<usize as BitOr<usize>>⟧.bitor_gives a x z) b.now r };
 
     fn bitor(self, rhs: &'b Array<usize, D>) -> Self::Output {
         combine_left_scalar::<Disjunction, usize, usize, D>(self, rhs)
@@ -278,7 +278,7 @@ impl<D: Lengths> BitOr<Array<bool, D>> for bool {
 
     ghost can_bitor = { λ a b. CanMap (λ x. ⟦<bool as BitOr<bool>>⟧.can_bitor a x) b };
 
-    ghost bitor_gives = { λ a b r. UpdatesMapped (λ x z. ⟦<bool as BitOr<bool>>⟧.bitor_gives a x z) (λ _. ⊤) b r };
+    ghost bitor_gives = { λ a b r. UpdatesMapped D.has_axes (λ x z. ⟦<bool as BitOr<bool>>⟧.bitor_gives a x z) (λ _. ⊤) b r };
 
     fn bitor(self, rhs: Array<bool, D>) -> Self::Output {
         combine_left_scalar_in_place::<Disjunction, bool, bool, D>(self, rhs)
@@ -290,7 +290,7 @@ impl<'b, D: Lengths> BitOr<&'b Array<bool, D>> for bool {
 
     ghost can_bitor = { λ a b. CanMap (λ x. ⟦<bool as BitOr<bool>>⟧.can_bitor a x) b.now };
 
-    ghost bitor_gives = { λ a b r. MakesMapped (λ x z. ⟦<bool as BitOr<bool>>⟧.bitor_gives a x z) b.now r };
+    ghost bitor_gives = { λ a b r. MakesMapped D.has_axes (λ x z. ⟦<bool as BitOr<bool>>⟧.bitor_gives a x z) b.now r };
 
     fn bitor(self, rhs: &'b Array<bool, D>) -> Self::Output {
         combine_left_scalar::<Disjunction, bool, bool, D>(self, rhs)

@@ -29,7 +29,7 @@ where
 
     ghost can_bitxor = { λ a b. CanCombine a.now b.now A.can_bitxor × ClonesAreEqual A.is_clone × ClonesAreEqual B.is_clone };
 
-    ghost bitxor_gives = { λ a b r. MakesCombined A.bitxor_gives a.now b.now r };
+    ghost bitxor_gives = { λ a b r. MakesCombined D.Output.has_axes A.bitxor_gives a.now b.now r };
 
     fn bitxor(self, rhs: &'b ArrayBase<S2, E>) -> Self::Output {
         combine::<ExclusiveDisjunction, A, B, _, D, E>(self, rhs)
@@ -48,7 +48,7 @@ where
 
     ghost can_bitxor = { λ a b. CanCombine a b.now A.can_bitxor × ClonesAreEqual A.is_clone × ClonesAreEqual B.is_clone };
 
-    ghost bitxor_gives = { λ a b r. UpdatesCombined A.bitxor_gives A.is_infallible B.is_infallible a.lengths a b.now r };
+    ghost bitxor_gives = { λ a b r. UpdatesCombined D.Output.has_axes A.bitxor_gives A.is_infallible B.is_infallible a.lengths a b.now r };
 
     fn bitxor(self, rhs: &'b ArrayBase<S2, E>) -> Self::Output {
         combine_into_left::<ExclusiveDisjunction, A, B, _, D, E>(self, rhs)
@@ -66,7 +66,7 @@ where
 
     ghost can_bitxor = { λ a b. CanCombine a b A.can_bitxor × ClonesAreEqual A.is_clone × ClonesAreEqual B.is_clone };
 
-    ghost bitxor_gives = { λ a b r. UpdatesCombined A.bitxor_gives A.is_infallible B.is_infallible a.lengths a b r };
+    ghost bitxor_gives = { λ a b r. UpdatesCombined D.Output.has_axes A.bitxor_gives A.is_infallible B.is_infallible a.lengths a b r };
 
     fn bitxor(self, rhs: Array<B, E>) -> Self::Output {
         combine_into_left_by_value::<ExclusiveDisjunction, A, B, _, D, E>(self, rhs)
@@ -84,7 +84,7 @@ where
 
     ghost can_bitxor = { λ a b. CanCombine a b A.can_bitxor × ClonesAreEqual A.is_clone × ClonesAreEqual B.is_clone };
 
-    ghost bitxor_gives = { λ a b r. UpdatesCombined A.bitxor_gives A.is_infallible B.is_infallible a.lengths a b r };
+    ghost bitxor_gives = { λ a b r. UpdatesCombined D.Output.has_axes A.bitxor_gives A.is_infallible B.is_infallible a.lengths a b r };
 
     fn bitxor(self, rhs: ArrayView<'b, B, E>) -> Self::Output {
         combine_into_left_by_value::<ExclusiveDisjunction, A, B, _, D, E>(self, rhs)
@@ -103,7 +103,7 @@ where
 
     ghost can_bitxor = { λ a b. CanCombine a.now b A.can_bitxor × ClonesAreEqual A.is_clone × ClonesAreEqual B.is_clone };
 
-    ghost bitxor_gives = { λ a b r. UpdatesCombined A.bitxor_gives A.is_infallible B.is_infallible b.lengths a.now b r };
+    ghost bitxor_gives = { λ a b r. UpdatesCombined E.Output.has_axes A.bitxor_gives A.is_infallible B.is_infallible b.lengths a.now b r };
 
     fn bitxor(self, rhs: Array<B, E>) -> Self::Output {
         combine_into_right::<ExclusiveDisjunction, A, B, _, D, E>(self, rhs)
@@ -120,7 +120,7 @@ where
 
     ghost can_bitxor = { λ a b. CanMap (λ x. A.can_bitxor x b) a × ClonesAreEqual A.is_clone × ClonesAreEqual B.is_clone };
 
-    ghost bitxor_gives = { λ a b r. UpdatesMapped (λ x z. A.bitxor_gives x b z) (λ x. A.is_infallible x × B.is_infallible b) a r };
+    ghost bitxor_gives = { λ a b r. UpdatesMapped D.has_axes (λ x z. A.bitxor_gives x b z) (λ x. A.is_infallible x × B.is_infallible b) a r };
 
     fn bitxor(self, rhs: B) -> Self::Output {
         combine_scalar_in_place::<ExclusiveDisjunction, A, B, D>(self, rhs)
@@ -137,7 +137,7 @@ where
 
     ghost can_bitxor = { λ a b. CanMap (λ x. A.can_bitxor x b) a.now × ClonesAreEqual A.is_clone × ClonesAreEqual B.is_clone };
 
-    ghost bitxor_gives = { λ a b r. MakesMapped (λ x z. A.bitxor_gives x b z) a.now r };
+    ghost bitxor_gives = { λ a b r. MakesMapped D.has_axes (λ x z. A.bitxor_gives x b z) a.now r };
 
     fn bitxor(self, rhs: B) -> Self::Output {
         combine_scalar::<ExclusiveDisjunction, A, B, D>(self, rhs)
@@ -182,7 +182,7 @@ impl<D: Lengths> BitXor<Array<u8, D>> for u8 {
 
     ghost can_bitxor = { λ a b. CanMap (λ x. ⟦<u8 as BitXor<u8>>⟧.can_bitxor a x) b };
 
-    ghost bitxor_gives = { λ a b r. UpdatesMapped (λ x z. ⟦<u8 as BitXor<u8>>⟧.bitxor_gives a x z) (λ _. ⊤) b r };
+    ghost bitxor_gives = { λ a b r. UpdatesMapped D.has_axes (λ x z. ⟦<u8 as BitXor<u8>>⟧.bitxor_gives a x z) (λ _. ⊤) b r };
 
     fn bitxor(self, rhs: Array<u8, D>) -> Self::Output {
         combine_left_scalar_in_place::<ExclusiveDisjunction, u8, u8, D>(self, rhs)
@@ -194,7 +194,7 @@ impl<'b, D: Lengths> BitXor<&'b Array<u8, D>> for u8 {
 
     ghost can_bitxor = { λ a b. CanMap (λ x. ⟦<u8 as BitXor<u8>>⟧.can_bitxor a x) b.now };
 
-    ghost bitxor_gives = { λ a b r. MakesMapped (λ x z. ⟦<u8 as BitXor<u8>>⟧.bitxor_gives a x z) b.now r };
+    ghost bitxor_gives = { λ a b r. MakesMapped D.has_axes (λ x z. ⟦<u8 as BitXor<u8>>⟧.bitxor_gives a x z) b.now r };
 
     fn bitxor(self, rhs: &'b Array<u8, D>) -> Self::Output {
         combine_left_scalar::<ExclusiveDisjunction, u8, u8, D>(self, rhs)
@@ -206,7 +206,7 @@ impl<D: Lengths> BitXor<Array<i32, D>> for i32 {
 
     ghost can_bitxor = { λ a b. CanMap (λ x. ⟦<i32 as BitXor<i32>>⟧.can_bitxor a x) b };
 
-    ghost bitxor_gives = { λ a b r. UpdatesMapped (λ x z. ⟦<i32 as BitXor<i32>>⟧.bitxor_gives a x z) (λ _. ⊤) b r };
+    ghost bitxor_gives = { λ a b r. UpdatesMapped D.has_axes (λ x z. ⟦<i32 as BitXor<i32>>⟧.bitxor_gives a x z) (λ _. ⊤) b r };
 
     fn bitxor(self, rhs: Array<i32, D>) -> Self::Output {
         combine_left_scalar_in_place::<ExclusiveDisjunction, i32, i32, D>(self, rhs)
@@ -218,7 +218,7 @@ impl<'b, D: Lengths> BitXor<&'b Array<i32, D>> for i32 {
 
     ghost can_bitxor = { λ a b. CanMap (λ x. ⟦<i32 as BitXor<i32>>⟧.can_bitxor a x) b.now };
 
-    ghost bitxor_gives = { λ a b r. MakesMapped (λ x z. ⟦<i32 as BitXor<i32>>⟧.bitxor_gives a x z) b.now r };
+    ghost bitxor_gives = { λ a b r. MakesMapped D.has_axes (λ x z. ⟦<i32 as BitXor<i32>>⟧.bitxor_gives a x z) b.now r };
 
     fn bitxor(self, rhs: &'b Array<i32, D>) -> Self::Output {
         combine_left_scalar::<ExclusiveDisjunction, i32, i32, D>(self, rhs)
@@ -230,7 +230,7 @@ impl<D: Lengths> BitXor<Array<i64, D>> for i64 {
 
     ghost can_bitxor = { λ a b. CanMap (λ x. ⟦<i64 as BitXor<i64>>⟧.can_bitxor a x) b };
 
-    ghost bitxor_gives = { λ a b r. UpdatesMapped (λ x z. ⟦<i64 as BitXor<i64>>⟧.bitxor_gives a x z) (λ _. ⊤) b r };
+    ghost bitxor_gives = { λ a b r. UpdatesMapped D.has_axes (λ x z. ⟦<i64 as BitXor<i64>>⟧.bitxor_gives a x z) (λ _. ⊤) b r };
 
     fn bitxor(self, rhs: Array<i64, D>) -> Self::Output {
         combine_left_scalar_in_place::<ExclusiveDisjunction, i64, i64, D>(self, rhs)
@@ -242,7 +242,7 @@ impl<'b, D: Lengths> BitXor<&'b Array<i64, D>> for i64 {
 
     ghost can_bitxor = { λ a b. CanMap (λ x. ⟦<i64 as BitXor<i64>>⟧.can_bitxor a x) b.now };
 
-    ghost bitxor_gives = { λ a b r. MakesMapped (λ x z. ⟦<i64 as BitXor<i64>>⟧.bitxor_gives a x z) b.now r };
+    ghost bitxor_gives = { λ a b r. MakesMapped D.has_axes (λ x z. ⟦<i64 as BitXor<i64>>⟧.bitxor_gives a x z) b.now r };
 
     fn bitxor(self, rhs: &'b Array<i64, D>) -> Self::Output {
         combine_left_scalar::<ExclusiveDisjunction, i64, i64, D>(self, rhs)
@@ -254,7 +254,7 @@ impl<D: Lengths> BitXor<Array<usize, D>> for usize {
 
     ghost can_bitxor = { λ a b. CanMap (λ x. ⟦<usize as BitXor<usize>>⟧.can_bitxor a x) b };
 
-    ghost bitxor_gives = { λ a b r. UpdatesMapped (λ x z. ⟦<usize as BitXor<usize>>⟧.bitxor_gives a x z) (λ _. ⊤) b r };
+    ghost bitxor_gives = { λ a b r. UpdatesMapped D.has_axes (λ x z. ⟦<usize as BitXor<usize>>⟧.bitxor_gives a x z) (λ _. ⊤) b r };
 
     fn bitxor(self, rhs: Array<usize, D>) -> Self::Output {
         combine_left_scalar_in_place::<ExclusiveDisjunction, usize, usize, D>(self, rhs)
@@ -266,7 +266,7 @@ impl<'b, D: Lengths> BitXor<&'b Array<usize, D>> for usize {
 
     ghost can_bitxor = { λ a b. CanMap (λ x. ⟦<usize as BitXor<usize>>⟧.can_bitxor a x) b.now };
 
-    ghost bitxor_gives = { λ a b r. MakesMapped (λ x z. ⟦<usize as BitXor<usize>>⟧.bitxor_gives a x z) b.now r };
+    ghost bitxor_gives = { λ a b r. MakesMapped D.has_axes (λ x z. ⟦<usize as BitXor<usize>>⟧.bitxor_gives a x z) b.now r };
 
     fn bitxor(self, rhs: &'b Array<usize, D>) -> Self::Output {
         combine_left_scalar::<ExclusiveDisjunction, usize, usize, D>(self, rhs)
@@ -278,7 +278,7 @@ impl<D: Lengths> BitXor<Array<bool, D>> for bool {
 
     ghost can_bitxor = { λ a b. CanMap (λ x. ⟦<bool as BitXor<bool>>⟧.can_bitxor a x) b };
 
-    ghost bitxor_gives = { λ a b r. UpdatesMapped (λ x z. ⟦<bool as BitXor<bool>>⟧.bitxor_gives a x z) (λ _. ⊤) b r };
+    ghost bitxor_gives = { λ a b r. UpdatesMapped D.has_axes (λ x z. ⟦<bool as BitXor<bool>>⟧.bitxor_gives a x z) (λ _. ⊤) b r };
 
     fn bitxor(self, rhs: Array<bool, D>) -> Self::Output {
         combine_left_scalar_in_place::<ExclusiveDisjunction, bool, bool, D>(self, rhs)
@@ -290,7 +290,7 @@ impl<'b, D: Lengths> BitXor<&'b Array<bool, D>> for bool {
 
     ghost can_bitxor = { λ a b. CanMap (λ x. ⟦<bool as BitXor<bool>>⟧.can_bitxor a x) b.now };
 
-    ghost bitxor_gives = { λ a b r. MakesMapped (λ x z. ⟦<bool as BitXor<bool>>⟧.bitxor_gives a x z) b.now r };
+    ghost bitxor_gives = { λ a b r. MakesMapped D.has_axes (λ x z. ⟦<bool as BitXor<bool>>⟧.bitxor_gives a x z) b.now r };
 
     fn bitxor(self, rhs: &'b Array<bool, D>) -> Self::Output {
         combine_left_scalar::<ExclusiveDisjunction, bool, bool, D>(self, rhs)

@@ -40,7 +40,7 @@ where
     requires can { CanCombine left.now right.now O.can_apply }
     requires left_clones { ClonesAreEqual A.is_clone }
     requires right_clones { ClonesAreEqual B.is_clone }
-    ensures { MakesCombined O.apply_gives left.now right.now result }
+    ensures { MakesCombined D.Output.has_axes O.apply_gives left.now right.now result }
 {
     let dim = broadcast_dim(left, right);
     combine_at::<O, A, B, D, E, _>(left.allocator(), left.view(), right.view(), dim)
@@ -61,7 +61,7 @@ where
     requires can { CanCombine left right.now O.can_apply }
     requires left_clones { ClonesAreEqual A.is_clone }
     requires right_clones { ClonesAreEqual B.is_clone }
-    ensures { UpdatesCombined O.apply_gives A.is_infallible B.is_infallible left.lengths left right.now result }
+    ensures { UpdatesCombined D.Output.has_axes O.apply_gives A.is_infallible B.is_infallible left.lengths left right.now result }
 {
     let dim = broadcast_dim(&left, right);
     combine_into_left_at::<O, A, B, D, E, _>(left, right.view(), dim)
@@ -82,7 +82,7 @@ where
     requires can { CanCombine left right O.can_apply }
     requires left_clones { ClonesAreEqual A.is_clone }
     requires right_clones { ClonesAreEqual B.is_clone }
-    ensures { UpdatesCombined O.apply_gives A.is_infallible B.is_infallible left.lengths left right result }
+    ensures { UpdatesCombined D.Output.has_axes O.apply_gives A.is_infallible B.is_infallible left.lengths left right result }
 {
     combine_into_left::<O, A, B, _, D, E>(left, &right)
 }
@@ -104,7 +104,7 @@ where
     requires can { CanCombine left right O.can_apply }
     requires left_clones { ClonesAreEqual A.is_clone }
     requires right_clones { ClonesAreEqual B.is_clone }
-    ensures { UpdatesCombined O.apply_gives A.is_infallible B.is_infallible left.lengths left right.entry result }
+    ensures { UpdatesCombined R.has_axes O.apply_gives A.is_infallible B.is_infallible left.lengths left right.entry result }
 {
     if dim.slice() != left.shape() {
         return combine_at::<O, A, B, D, E, _>(left.allocator(), left.view(), right, dim);
@@ -131,7 +131,7 @@ where
     requires can { CanCombine left.now right O.can_apply }
     requires left_clones { ClonesAreEqual A.is_clone }
     requires right_clones { ClonesAreEqual B.is_clone }
-    ensures { UpdatesCombined O.apply_gives A.is_infallible B.is_infallible right.lengths left.now right result }
+    ensures { UpdatesCombined E.Output.has_axes O.apply_gives A.is_infallible B.is_infallible right.lengths left.now right result }
 {
     combine_into_left::<Exchanged<O>, B, A, _, E, D>(right, left)
 }
@@ -174,7 +174,7 @@ where
     requires can { CanCombine left right O.can_apply }
     requires left_clones { ClonesAreEqual A.is_clone }
     requires right_clones { ClonesAreEqual B.is_clone }
-    ensures { MakesCombined O.apply_gives left.entry right.entry result }
+    ensures { MakesCombined R.has_axes O.apply_gives left.entry right.entry result }
 {
     let call: OnBoth<O> = OnBoth(PhantomData);
     try_collect_of_both(
@@ -196,7 +196,7 @@ where
     C: CellOperation<A>,
     C::Output: Drop,
     requires { CanMap (C.can_apply operation) array.now }
-    ensures { MakesMapped (C.apply_gives operation) array.now result }
+    ensures { MakesMapped D.has_axes (C.apply_gives operation) array.now result }
 {
     try_collect_in_either_order(array.allocator(), array.view(), OnEach(operation))
 }
@@ -211,7 +211,7 @@ where
     D: Lengths,
     C: CellOperation<A, Output = A>,
     requires { CanMap (C.can_apply operation) array }
-    ensures { UpdatesMapped (C.apply_gives operation) (C.is_infallible operation) array result }
+    ensures { UpdatesMapped D.has_axes (C.apply_gives operation) (C.is_infallible operation) array result }
 {
     let each = Units::of(array.raw_dim());
     update_cells(array, each, OnEach(operation))
@@ -230,11 +230,15 @@ where
     requires same { P.lengths items ≡ cells.lengths }
     requires callable { (o : Order) → MayGather (is_cell_beside cells (P.yields_at items)) (answers C.call_gives) C.can_call (box_in o cells.lengths) call }
     ensures ran { IfOk result (λ r. (o : Order) × Collects (is_cell_beside cells (P.yields_at items)) (answers C.call_gives) o cells.lengths call r) }
+    ensures axes { IfOk result (λ r. P.Dim.has_axes (length r.lengths)) }
     ensures whole { IfOk result IsGrid }
     ensures stopped { IfErr result (λ e. (o : Order) × (new : Grid A) × UpdatesUntil (is_cell_beside cells (P.yields_at items)) C.call_gives o call cells (Err e) new) }
 {
     match try_update(&mut cells, items, call) {
-        Ok(()) => Ok(cells),
+        Ok(()) => {
+            let _axes = cells.ndim();
+            Ok(cells)
+        }
         Err(refused) => Err(refused),
     }
 }
@@ -253,7 +257,7 @@ where
     requires can { CanMap (λ x. O.can_apply x scalar) array.now }
     requires cell_clones { ClonesAreEqual A.is_clone }
     requires scalar_clones { ClonesAreEqual B.is_clone }
-    ensures { MakesMapped (λ x z. O.apply_gives x scalar z) array.now result }
+    ensures { MakesMapped D.has_axes (λ x z. O.apply_gives x scalar z) array.now result }
 {
     let operation: WithRight<O, B> = WithRight {
         scalar,
@@ -275,7 +279,7 @@ where
     requires can { CanMap (λ x. O.can_apply x scalar) array }
     requires cell_clones { ClonesAreEqual A.is_clone }
     requires scalar_clones { ClonesAreEqual B.is_clone }
-    ensures { UpdatesMapped (λ x z. O.apply_gives x scalar z) (λ x. A.is_infallible x × B.is_infallible scalar) array result }
+    ensures { UpdatesMapped D.has_axes (λ x z. O.apply_gives x scalar z) (λ x. A.is_infallible x × B.is_infallible scalar) array result }
 {
     let operation: WithRight<O, B> = WithRight {
         scalar,
@@ -296,7 +300,7 @@ where
     A: Copy + Drop,
     D: Lengths,
     requires { CanMap (λ x. O.can_apply scalar x) array.now }
-    ensures { MakesMapped (λ x z. O.apply_gives scalar x z) array.now result }
+    ensures { MakesMapped D.has_axes (λ x z. O.apply_gives scalar x z) array.now result }
 {
     let operation: WithLeft<O, X> = WithLeft {
         scalar,
@@ -316,7 +320,7 @@ where
     A: Copy + Drop,
     D: Lengths,
     requires { CanMap (λ x. O.can_apply scalar x) array }
-    ensures { UpdatesMapped (λ x z. O.apply_gives scalar x z) (λ _. ⊤) array result }
+    ensures { UpdatesMapped D.has_axes (λ x z. O.apply_gives scalar x z) (λ _. ⊤) array result }
 {
     let operation: WithLeft<O, X> = WithLeft {
         scalar,

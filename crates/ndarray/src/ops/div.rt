@@ -29,7 +29,7 @@ where
 
     ghost can_div = { λ a b. CanCombine a.now b.now A.can_div × ClonesAreEqual A.is_clone × ClonesAreEqual B.is_clone };
 
-    ghost div_gives = { λ a b r. MakesCombined A.div_gives a.now b.now r };
+    ghost div_gives = { λ a b r. MakesCombined D.Output.has_axes A.div_gives a.now b.now r };
 
     fn div(self, rhs: &'b ArrayBase<S2, E>) -> Self::Output {
         combine::<Division, A, B, _, D, E>(self, rhs)
@@ -48,7 +48,7 @@ where
 
     ghost can_div = { λ a b. CanCombine a b.now A.can_div × ClonesAreEqual A.is_clone × ClonesAreEqual B.is_clone };
 
-    ghost div_gives = { λ a b r. UpdatesCombined A.div_gives A.is_infallible B.is_infallible a.lengths a b.now r };
+    ghost div_gives = { λ a b r. UpdatesCombined D.Output.has_axes A.div_gives A.is_infallible B.is_infallible a.lengths a b.now r };
 
     fn div(self, rhs: &'b ArrayBase<S2, E>) -> Self::Output {
         combine_into_left::<Division, A, B, _, D, E>(self, rhs)
@@ -66,7 +66,7 @@ where
 
     ghost can_div = { λ a b. CanCombine a b A.can_div × ClonesAreEqual A.is_clone × ClonesAreEqual B.is_clone };
 
-    ghost div_gives = { λ a b r. UpdatesCombined A.div_gives A.is_infallible B.is_infallible a.lengths a b r };
+    ghost div_gives = { λ a b r. UpdatesCombined D.Output.has_axes A.div_gives A.is_infallible B.is_infallible a.lengths a b r };
 
     fn div(self, rhs: Array<B, E>) -> Self::Output {
         combine_into_left_by_value::<Division, A, B, _, D, E>(self, rhs)
@@ -84,7 +84,7 @@ where
 
     ghost can_div = { λ a b. CanCombine a b A.can_div × ClonesAreEqual A.is_clone × ClonesAreEqual B.is_clone };
 
-    ghost div_gives = { λ a b r. UpdatesCombined A.div_gives A.is_infallible B.is_infallible a.lengths a b r };
+    ghost div_gives = { λ a b r. UpdatesCombined D.Output.has_axes A.div_gives A.is_infallible B.is_infallible a.lengths a b r };
 
     fn div(self, rhs: ArrayView<'b, B, E>) -> Self::Output {
         combine_into_left_by_value::<Division, A, B, _, D, E>(self, rhs)
@@ -103,7 +103,7 @@ where
 
     ghost can_div = { λ a b. CanCombine a.now b A.can_div × ClonesAreEqual A.is_clone × ClonesAreEqual B.is_clone };
 
-    ghost div_gives = { λ a b r. UpdatesCombined A.div_gives A.is_infallible B.is_infallible b.lengths a.now b r };
+    ghost div_gives = { λ a b r. UpdatesCombined E.Output.has_axes A.div_gives A.is_infallible B.is_infallible b.lengths a.now b r };
 
     fn div(self, rhs: Array<B, E>) -> Self::Output {
         combine_into_right::<Division, A, B, _, D, E>(self, rhs)
@@ -120,7 +120,7 @@ where
 
     ghost can_div = { λ a b. CanMap (λ x. A.can_div x b) a × ClonesAreEqual A.is_clone × ClonesAreEqual B.is_clone };
 
-    ghost div_gives = { λ a b r. UpdatesMapped (λ x z. A.div_gives x b z) (λ x. A.is_infallible x × B.is_infallible b) a r };
+    ghost div_gives = { λ a b r. UpdatesMapped D.has_axes (λ x z. A.div_gives x b z) (λ x. A.is_infallible x × B.is_infallible b) a r };
 
     fn div(self, rhs: B) -> Self::Output {
         combine_scalar_in_place::<Division, A, B, D>(self, rhs)
@@ -137,7 +137,7 @@ where
 
     ghost can_div = { λ a b. CanMap (λ x. A.can_div x b) a.now × ClonesAreEqual A.is_clone × ClonesAreEqual B.is_clone };
 
-    ghost div_gives = { λ a b r. MakesMapped (λ x z. A.div_gives x b z) a.now r };
+    ghost div_gives = { λ a b r. MakesMapped D.has_axes (λ x z. A.div_gives x b z) a.now r };
 
     fn div(self, rhs: B) -> Self::Output {
         combine_scalar::<Division, A, B, D>(self, rhs)
@@ -182,7 +182,7 @@ impl<D: Lengths> Div<Array<u8, D>> for u8 {
 
     ghost can_div = { λ a b. CanMap (λ x. ⟦<u8 as Div<u8>>⟧.can_div a x) b };
 
-    ghost div_gives = { λ a b r. UpdatesMapped (λ x z. ⟦<u8 as Div<u8>>⟧.div_gives a x z) (λ _. ⊤) b r };
+    ghost div_gives = { λ a b r. UpdatesMapped D.has_axes (λ x z. ⟦<u8 as Div<u8>>⟧.div_gives a x z) (λ _. ⊤) b r };
 
     fn div(self, rhs: Array<u8, D>) -> Self::Output {
         combine_left_scalar_in_place::<Division, u8, u8, D>(self, rhs)
@@ -194,7 +194,7 @@ impl<'b, D: Lengths> Div<&'b Array<u8, D>> for u8 {
 
     ghost can_div = { λ a b. CanMap (λ x. ⟦<u8 as Div<u8>>⟧.can_div a x) b.now };
 
-    ghost div_gives = { λ a b r. MakesMapped (λ x z. ⟦<u8 as Div<u8>>⟧.div_gives a x z) b.now r };
+    ghost div_gives = { λ a b r. MakesMapped D.has_axes (λ x z. ⟦<u8 as Div<u8>>⟧.div_gives a x z) b.now r };
 
     fn div(self, rhs: &'b Array<u8, D>) -> Self::Output {
         combine_left_scalar::<Division, u8, u8, D>(self, rhs)
@@ -206,7 +206,7 @@ impl<D: Lengths> Div<Array<i32, D>> for i32 {
 
     ghost can_div = { λ a b. CanMap (λ x. ⟦<i32 as Div<i32>>⟧.can_div a x) b };
 
-    ghost div_gives = { λ a b r. UpdatesMapped (λ x z. ⟦<i32 as Div<i32>>⟧.div_gives a x z) (λ _. ⊤) b r };
+    ghost div_gives = { λ a b r. UpdatesMapped D.has_axes (λ x z. ⟦<i32 as Div<i32>>⟧.div_gives a x z) (λ _. ⊤) b r };
 
     fn div(self, rhs: Array<i32, D>) -> Self::Output {
         combine_left_scalar_in_place::<Division, i32, i32, D>(self, rhs)
@@ -218,7 +218,7 @@ impl<'b, D: Lengths> Div<&'b Array<i32, D>> for i32 {
 
     ghost can_div = { λ a b. CanMap (λ x. ⟦<i32 as Div<i32>>⟧.can_div a x) b.now };
 
-    ghost div_gives = { λ a b r. MakesMapped (λ x z. ⟦<i32 as Div<i32>>⟧.div_gives a x z) b.now r };
+    ghost div_gives = { λ a b r. MakesMapped D.has_axes (λ x z. ⟦<i32 as Div<i32>>⟧.div_gives a x z) b.now r };
 
     fn div(self, rhs: &'b Array<i32, D>) -> Self::Output {
         combine_left_scalar::<Division, i32, i32, D>(self, rhs)
@@ -230,7 +230,7 @@ impl<D: Lengths> Div<Array<i64, D>> for i64 {
 
     ghost can_div = { λ a b. CanMap (λ x. ⟦<i64 as Div<i64>>⟧.can_div a x) b };
 
-    ghost div_gives = { λ a b r. UpdatesMapped (λ x z. ⟦<i64 as Div<i64>>⟧.div_gives a x z) (λ _. ⊤) b r };
+    ghost div_gives = { λ a b r. UpdatesMapped D.has_axes (λ x z. ⟦<i64 as Div<i64>>⟧.div_gives a x z) (λ _. ⊤) b r };
 
     fn div(self, rhs: Array<i64, D>) -> Self::Output {
         combine_left_scalar_in_place::<Division, i64, i64, D>(self, rhs)
@@ -242,7 +242,7 @@ impl<'b, D: Lengths> Div<&'b Array<i64, D>> for i64 {
 
     ghost can_div = { λ a b. CanMap (λ x. ⟦<i64 as Div<i64>>⟧.can_div a x) b.now };
 
-    ghost div_gives = { λ a b r. MakesMapped (λ x z. ⟦<i64 as Div<i64>>⟧.div_gives a x z) b.now r };
+    ghost div_gives = { λ a b r. MakesMapped D.has_axes (λ x z. ⟦<i64 as Div<i64>>⟧.div_gives a x z) b.now r };
 
     fn div(self, rhs: &'b Array<i64, D>) -> Self::Output {
         combine_left_scalar::<Division, i64, i64, D>(self, rhs)
@@ -254,7 +254,7 @@ impl<D: Lengths> Div<Array<usize, D>> for usize {
 
     ghost can_div = { λ a b. CanMap (λ x. ⟦<usize as Div<usize>>⟧.can_div a x) b };
 
-    ghost div_gives = { λ a b r. UpdatesMapped (λ x z. ⟦<usize as Div<usize>>⟧.div_gives a x z) (λ _. ⊤) b r };
+    ghost div_gives = { λ a b r. UpdatesMapped D.has_axes (λ x z. ⟦<usize as Div<usize>>⟧.div_gives a x z) (λ _. ⊤) b r };
 
     fn div(self, rhs: Array<usize, D>) -> Self::Output {
         combine_left_scalar_in_place::<Division, usize, usize, D>(self, rhs)
@@ -266,7 +266,7 @@ impl<'b, D: Lengths> Div<&'b Array<usize, D>> for usize {
 
     ghost can_div = { λ a b. CanMap (λ x. ⟦<usize as Div<usize>>⟧.can_div a x) b.now };
 
-    ghost div_gives = { λ a b r. MakesMapped (λ x z. ⟦<usize as Div<usize>>⟧.div_gives a x z) b.now r };
+    ghost div_gives = { λ a b r. MakesMapped D.has_axes (λ x z. ⟦<usize as Div<usize>>⟧.div_gives a x z) b.now r };
 
     fn div(self, rhs: &'b Array<usize, D>) -> Self::Output {
         combine_left_scalar::<Division, usize, usize, D>(self, rhs)

@@ -29,7 +29,7 @@ where
 
     ghost can_sub = { λ a b. CanCombine a.now b.now A.can_sub × ClonesAreEqual A.is_clone × ClonesAreEqual B.is_clone };
 
-    ghost sub_gives = { λ a b r. MakesCombined A.sub_gives a.now b.now r };
+    ghost sub_gives = { λ a b r. MakesCombined D.Output.has_axes A.sub_gives a.now b.now r };
 
     fn sub(self, rhs: &'b ArrayBase<S2, E>) -> Self::Output {
         combine::<Subtraction, A, B, _, D, E>(self, rhs)
@@ -48,7 +48,7 @@ where
 
     ghost can_sub = { λ a b. CanCombine a b.now A.can_sub × ClonesAreEqual A.is_clone × ClonesAreEqual B.is_clone };
 
-    ghost sub_gives = { λ a b r. UpdatesCombined A.sub_gives A.is_infallible B.is_infallible a.lengths a b.now r };
+    ghost sub_gives = { λ a b r. UpdatesCombined D.Output.has_axes A.sub_gives A.is_infallible B.is_infallible a.lengths a b.now r };
 
     fn sub(self, rhs: &'b ArrayBase<S2, E>) -> Self::Output {
         combine_into_left::<Subtraction, A, B, _, D, E>(self, rhs)
@@ -66,7 +66,7 @@ where
 
     ghost can_sub = { λ a b. CanCombine a b A.can_sub × ClonesAreEqual A.is_clone × ClonesAreEqual B.is_clone };
 
-    ghost sub_gives = { λ a b r. UpdatesCombined A.sub_gives A.is_infallible B.is_infallible a.lengths a b r };
+    ghost sub_gives = { λ a b r. UpdatesCombined D.Output.has_axes A.sub_gives A.is_infallible B.is_infallible a.lengths a b r };
 
     fn sub(self, rhs: Array<B, E>) -> Self::Output {
         combine_into_left_by_value::<Subtraction, A, B, _, D, E>(self, rhs)
@@ -84,7 +84,7 @@ where
 
     ghost can_sub = { λ a b. CanCombine a b A.can_sub × ClonesAreEqual A.is_clone × ClonesAreEqual B.is_clone };
 
-    ghost sub_gives = { λ a b r. UpdatesCombined A.sub_gives A.is_infallible B.is_infallible a.lengths a b r };
+    ghost sub_gives = { λ a b r. UpdatesCombined D.Output.has_axes A.sub_gives A.is_infallible B.is_infallible a.lengths a b r };
 
     fn sub(self, rhs: ArrayView<'b, B, E>) -> Self::Output {
         combine_into_left_by_value::<Subtraction, A, B, _, D, E>(self, rhs)
@@ -103,7 +103,7 @@ where
 
     ghost can_sub = { λ a b. CanCombine a.now b A.can_sub × ClonesAreEqual A.is_clone × ClonesAreEqual B.is_clone };
 
-    ghost sub_gives = { λ a b r. UpdatesCombined A.sub_gives A.is_infallible B.is_infallible b.lengths a.now b r };
+    ghost sub_gives = { λ a b r. UpdatesCombined E.Output.has_axes A.sub_gives A.is_infallible B.is_infallible b.lengths a.now b r };
 
     fn sub(self, rhs: Array<B, E>) -> Self::Output {
         combine_into_right::<Subtraction, A, B, _, D, E>(self, rhs)
@@ -120,7 +120,7 @@ where
 
     ghost can_sub = { λ a b. CanMap (λ x. A.can_sub x b) a × ClonesAreEqual A.is_clone × ClonesAreEqual B.is_clone };
 
-    ghost sub_gives = { λ a b r. UpdatesMapped (λ x z. A.sub_gives x b z) (λ x. A.is_infallible x × B.is_infallible b) a r };
+    ghost sub_gives = { λ a b r. UpdatesMapped D.has_axes (λ x z. A.sub_gives x b z) (λ x. A.is_infallible x × B.is_infallible b) a r };
 
     fn sub(self, rhs: B) -> Self::Output {
         combine_scalar_in_place::<Subtraction, A, B, D>(self, rhs)
@@ -137,7 +137,7 @@ where
 
     ghost can_sub = { λ a b. CanMap (λ x. A.can_sub x b) a.now × ClonesAreEqual A.is_clone × ClonesAreEqual B.is_clone };
 
-    ghost sub_gives = { λ a b r. MakesMapped (λ x z. A.sub_gives x b z) a.now r };
+    ghost sub_gives = { λ a b r. MakesMapped D.has_axes (λ x z. A.sub_gives x b z) a.now r };
 
     fn sub(self, rhs: B) -> Self::Output {
         combine_scalar::<Subtraction, A, B, D>(self, rhs)
@@ -182,7 +182,7 @@ impl<D: Lengths> Sub<Array<u8, D>> for u8 {
 
     ghost can_sub = { λ a b. CanMap (λ x. ⟦<u8 as Sub<u8>>⟧.can_sub a x) b };
 
-    ghost sub_gives = { λ a b r. UpdatesMapped (λ x z. ⟦<u8 as Sub<u8>>⟧.sub_gives a x z) (λ _. ⊤) b r };
+    ghost sub_gives = { λ a b r. UpdatesMapped D.has_axes (λ x z. ⟦<u8 as Sub<u8>>⟧.sub_gives a x z) (λ _. ⊤) b r };
 
     fn sub(self, rhs: Array<u8, D>) -> Self::Output {
         combine_left_scalar_in_place::<Subtraction, u8, u8, D>(self, rhs)
@@ -194,7 +194,7 @@ impl<'b, D: Lengths> Sub<&'b Array<u8, D>> for u8 {
 
     ghost can_sub = { λ a b. CanMap (λ x. ⟦<u8 as Sub<u8>>⟧.can_sub a x) b.now };
 
-    ghost sub_gives = { λ a b r. MakesMapped (λ x z. ⟦<u8 as Sub<u8>>⟧.sub_gives a x z) b.now r };
+    ghost sub_gives = { λ a b r. MakesMapped D.has_axes (λ x z. ⟦<u8 as Sub<u8>>⟧.sub_gives a x z) b.now r };
 
     fn sub(self, rhs: &'b Array<u8, D>) -> Self::Output {
         combine_left_scalar::<Subtraction, u8, u8, D>(self, rhs)
@@ -206,7 +206,7 @@ impl<D: Lengths> Sub<Array<i32, D>> for i32 {
 
     ghost can_sub = { λ a b. CanMap (λ x. ⟦<i32 as Sub<i32>>⟧.can_sub a x) b };
 
-    ghost sub_gives = { λ a b r. UpdatesMapped (λ x z. ⟦<i32 as Sub<i32>>⟧.sub_gives a x z) (λ _. ⊤) b r };
+    ghost sub_gives = { λ a b r. UpdatesMapped D.has_axes (λ x z. ⟦<i32 as Sub<i32>>⟧.sub_gives a x z) (λ _. ⊤) b r };
 
     fn sub(self, rhs: Array<i32, D>) -> Self::Output {
         combine_left_scalar_in_place::<Subtraction, i32, i32, D>(self, rhs)
@@ -218,7 +218,7 @@ impl<'b, D: Lengths> Sub<&'b Array<i32, D>> for i32 {
 
     ghost can_sub = { λ a b. CanMap (λ x. ⟦<i32 as Sub<i32>>⟧.can_sub a x) b.now };
 
-    ghost sub_gives = { λ a b r. MakesMapped (λ x z. ⟦<i32 as Sub<i32>>⟧.sub_gives a x z) b.now r };
+    ghost sub_gives = { λ a b r. MakesMapped D.has_axes (λ x z. ⟦<i32 as Sub<i32>>⟧.sub_gives a x z) b.now r };
 
     fn sub(self, rhs: &'b Array<i32, D>) -> Self::Output {
         combine_left_scalar::<Subtraction, i32, i32, D>(self, rhs)
@@ -230,7 +230,7 @@ impl<D: Lengths> Sub<Array<i64, D>> for i64 {
 
     ghost can_sub = { λ a b. CanMap (λ x. ⟦<i64 as Sub<i64>>⟧.can_sub a x) b };
 
-    ghost sub_gives = { λ a b r. UpdatesMapped (λ x z. ⟦<i64 as Sub<i64>>⟧.sub_gives a x z) (λ _. ⊤) b r };
+    ghost sub_gives = { λ a b r. UpdatesMapped D.has_axes (λ x z. ⟦<i64 as Sub<i64>>⟧.sub_gives a x z) (λ _. ⊤) b r };
 
     fn sub(self, rhs: Array<i64, D>) -> Self::Output {
         combine_left_scalar_in_place::<Subtraction, i64, i64, D>(self, rhs)
@@ -242,7 +242,7 @@ impl<'b, D: Lengths> Sub<&'b Array<i64, D>> for i64 {
 
     ghost can_sub = { λ a b. CanMap (λ x. ⟦<i64 as Sub<i64>>⟧.can_sub a x) b.now };
 
-    ghost sub_gives = { λ a b r. MakesMapped (λ x z. ⟦<i64 as Sub<i64>>⟧.sub_gives a x z) b.now r };
+    ghost sub_gives = { λ a b r. MakesMapped D.has_axes (λ x z. ⟦<i64 as Sub<i64>>⟧.sub_gives a x z) b.now r };
 
     fn sub(self, rhs: &'b Array<i64, D>) -> Self::Output {
         combine_left_scalar::<Subtraction, i64, i64, D>(self, rhs)
@@ -254,7 +254,7 @@ impl<D: Lengths> Sub<Array<usize, D>> for usize {
 
     ghost can_sub = { λ a b. CanMap (λ x. ⟦<usize as Sub<usize>>⟧.can_sub a x) b };
 
-    ghost sub_gives = { λ a b r. UpdatesMapped (λ x z. ⟦<usize as Sub<usize>>⟧.sub_gives a x z) (λ _. ⊤) b r };
+    ghost sub_gives = { λ a b r. UpdatesMapped D.has_axes (λ x z. ⟦<usize as Sub<usize>>⟧.sub_gives a x z) (λ _. ⊤) b r };
 
     fn sub(self, rhs: Array<usize, D>) -> Self::Output {
         combine_left_scalar_in_place::<Subtraction, usize, usize, D>(self, rhs)
@@ -266,7 +266,7 @@ impl<'b, D: Lengths> Sub<&'b Array<usize, D>> for usize {
 
     ghost can_sub = { λ a b. CanMap (λ x. ⟦<usize as Sub<usize>>⟧.can_sub a x) b.now };
 
-    ghost sub_gives = { λ a b r. MakesMapped (λ x z. ⟦<usize as Sub<usize>>⟧.sub_gives a x z) b.now r };
+    ghost sub_gives = { λ a b r. MakesMapped D.has_axes (λ x z. ⟦<usize as Sub<usize>>⟧.sub_gives a x z) b.now r };
 
     fn sub(self, rhs: &'b Array<usize, D>) -> Self::Output {
         combine_left_scalar::<Subtraction, usize, usize, D>(self, rhs)

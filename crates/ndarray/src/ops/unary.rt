@@ -20,7 +20,7 @@ where
 
     ghost can_neg = { λ a. CanMap A.can_neg a × ClonesAreEqual A.is_clone };
 
-    ghost neg_gives = { λ a r. UpdatesMapped A.neg_gives A.is_infallible a r };
+    ghost neg_gives = { λ a r. UpdatesMapped D.has_axes A.neg_gives A.is_infallible a r };
 
     fn neg(self) -> Self::Output {
         let operation: OnOne<Negation> = OnOne(PhantomData);
@@ -37,7 +37,7 @@ where
 
     ghost can_neg = { λ a. CanMap A.can_neg a.now × ClonesAreEqual A.is_clone };
 
-    ghost neg_gives = { λ a r. MakesMapped A.neg_gives a.now r };
+    ghost neg_gives = { λ a r. MakesMapped D.has_axes A.neg_gives a.now r };
 
     fn neg(self) -> Self::Output {
         let operation: OnOne<Negation> = OnOne(PhantomData);
@@ -54,7 +54,7 @@ where
 
     ghost can_not = { λ a. CanMap A.can_not a × ClonesAreEqual A.is_clone };
 
-    ghost not_gives = { λ a r. UpdatesMapped A.not_gives A.is_infallible a r };
+    ghost not_gives = { λ a r. UpdatesMapped D.has_axes A.not_gives A.is_infallible a r };
 
     fn not(self) -> Self::Output {
         let operation: OnOne<Complement> = OnOne(PhantomData);
@@ -71,7 +71,7 @@ where
 
     ghost can_not = { λ a. CanMap A.can_not a.now × ClonesAreEqual A.is_clone };
 
-    ghost not_gives = { λ a r. MakesMapped A.not_gives a.now r };
+    ghost not_gives = { λ a r. MakesMapped D.has_axes A.not_gives a.now r };
 
     fn not(self) -> Self::Output {
         let operation: OnOne<Complement> = OnOne(PhantomData);

@@ -6,12 +6,14 @@ ghost use Rattle.std.specs.Iterator.{YieldsFirstBy};
 ghost use Rattle.ndarray.specs.Limits.{IsWithinLimit};
 ghost use Rattle.ndarray.specs.Orders.{box_in};
 ghost use Rattle.ndarray.specs.base.Strided.{places_from};
-ghost use Rattle.ndarray.specs.order.Ranks.{row_from, FitsOnAxis};
+ghost use Rattle.ndarray.specs.base.Ranks.{row_from};
+ghost use Rattle.ndarray.specs.order.Walks.{FitsOnAxis};
 ghost use Rattle.ndarray.specs.places.Lent.{with_places};
 
 use crate::base::dimension::Lengths;
 use crate::base::layout::Layout;
-use crate::order::{Order, Row, Walk, axis_at};
+use crate::base::shape::axis_at;
+use crate::order::{Order, Row, Walk};
 use std::marker::Model;
 
 /// The index lists of one row that are still to come, each beside its place: `left` of them, from `next` on along the
@@ -30,7 +32,7 @@ struct IndexedRow<D: Lengths> {
 impl<D: Lengths> Model for IndexedRow<D> {
     ghost use Rattle.std.specs.Prelude.{List, ℕ, ◌<◌, ◌+◌, ◌^◌, slice_set, zip};
     ghost use Rattle.ndarray.specs.base.Strided.{places_from};
-    ghost use Rattle.ndarray.specs.order.Ranks.{row_from};
+    ghost use Rattle.ndarray.specs.base.Ranks.{row_from};
 
     ghost Value = { List (List ℕ × ℕ) };
 

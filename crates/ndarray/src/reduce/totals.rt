@@ -117,7 +117,7 @@ pub(crate) fn totals_along<T: TotalOperation<A>, A: Copy, D: Dimension>(
 ) -> Result<Array<A, D::Smaller>, AllocError>
     requires axis { axis.0 < length array.now.lengths }
     requires lanes { CanMap (IsSummableArray T.operation T.InRange T.meaning) (lanes_of array.now axis.0) }
-    ensures made { MakesMapped (IsTotalOf T.operation T.meaning) (lanes_of array.now axis.0) result }
+    ensures made { MakesMapped D.Smaller.has_axes (IsTotalOf T.operation T.meaning) (lanes_of array.now axis.0) result }
     ensures axes { IfOk result (λ r. D.Smaller.has_axes (length r.lengths)) }
 {
     let call: LaneTotal<T> = LaneTotal(PhantomData);

@@ -131,7 +131,7 @@ impl<'a, A, T: PieceLayoutsFromEnds> DoubleEndedIterator for PiecesIterMut<'a, A
 impl<'a, A, T: PieceLayoutsFromEnds> PiecesIterMut<'a, A, T> {
     /// The first `index` sub-views still to come, and the rest. O(1).
     ///
-    /// Requires an index that is at most `len()`.
+    /// Requires an index that is at most the number of those still to come; compare with `len`.
     pub fn split_at(self, index: usize) -> (Self, Self)
         requires { index ≤ length self }
         ensures first { result.0 ≡ take index self.entry }

@@ -7,7 +7,7 @@
 ///   index pattern.
 /// - `azip!(expr, ..)` makes the `Zip` alone.
 ///
-/// A last comma is allowed. Requires equal shapes, as for `and`.
+/// A last comma is allowed. Requires equal shapes, as for `and`; check with `fits` of a `Zip`.
 ///
 /// ```
 /// azip!((x in &mut a, &y in &b) *x += y);

@@ -40,7 +40,8 @@ pub trait NdProducer: Shaped + Drop + Sized {
     /// The items whose index on the axis is below `index`, and the rest with that index counted from
     /// `index`.
     ///
-    /// Requires an axis below the number of axes, and an index that is at most its length.
+    /// Requires an axis below the number of axes, and an index that is at most its length; compare with
+    /// `raw_dim`.
     fn split_at(self, axis: Axis, index: usize) -> (Self, Self)
         requires axis_below { axis.0 < length (Self.lengths self) }
         requires index_at_most { index ≤ slice_index (Self.lengths self) axis.0 }

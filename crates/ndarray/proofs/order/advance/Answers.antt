@@ -1,6 +1,6 @@
 use Rattle.std.proofs.Common.{arith, ap, subst, sym, ◌∙◌, ◌+◌}
 use Rattle.ndarray.specs.Index.{InBox}
-use Rattle.ndarray.specs.order.Ranks.{rank_in, block_in}
+use Rattle.ndarray.specs.base.Ranks.{rank_in, block_in}
 use Rattle.ndarray.proofs.boxes.Boxes.{InBox-length, InBox-get}
 use Rattle.ndarray.proofs.boxes.Walks.{step-ends, step-on}
 use Rattle.ndarray.proofs.order.advance.Goals as goal

@@ -1,6 +1,6 @@
 use Rattle.std.proofs.Common.{◌≡◌, ◌+◌, ◌≤◌}
 use Rattle.ndarray.specs.Index.{InBox}
-use Rattle.ndarray.specs.order.Ranks.{rank_in, block_in}
+use Rattle.ndarray.specs.base.Ranks.{rank_in, block_in}
 use Rattle.ndarray.proofs.order.advance.Given as goal
 
 abbrev pub invariant-loop-p : goal.invariant-loop-p

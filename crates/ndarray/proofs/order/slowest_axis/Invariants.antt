@@ -1,6 +1,6 @@
 use Rattle.std.proofs.Common.{ℕ, ◌+◌, ◌<◌, ◌≤◌}
 use Rattle.std.specs.Prelude.{slice_index}
-use Rattle.ndarray.specs.order.Ranks.{axis_in}
+use Rattle.ndarray.specs.base.Ranks.{axis_in}
 use Rattle.ndarray.proofs.order.slowest_axis.Given as goal
 
 abbrev pub invariant-loop-turn : goal.invariant-loop-turn

@@ -3,10 +3,9 @@ use Rattle.std.specs.Prelude.{pos, int_le}
 use Rattle.std.proofs.lemmas.Int.{ints}
 use Rattle.ndarray.specs.Grid.{IsGrid, cell}
 use Rattle.ndarray.specs.Triangles.{column_minus_row}
-use Rattle.ndarray.proofs.boxes.Boxes.{InBox-length}
 use Rattle.ndarray.proofs.callers.Collecting.{if_ok-both}
-use Rattle.ndarray.proofs.callers.Triangles.{cleared-cell, kept-cell}
-use Rattle.ndarray.proofs.cells.Diagonals.{int_le-false, int_le-true}
+use Rattle.ndarray.proofs.callers.IndexLists.{InBox-length}
+use Rattle.ndarray.proofs.callers.Triangles.{cleared-cell, int_le-false, int_le-true, kept-cell}
 use Rattle.ndarray_bench.proofs.callers.lower_part.Goals as goal
 
 pub returns-clause-kept : goal.returns-clause-kept

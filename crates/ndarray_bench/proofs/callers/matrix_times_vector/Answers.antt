@@ -6,8 +6,8 @@ use Rattle.ndarray.specs.Products.{ShapesMultiply, products_of}
 use Rattle.ndarray.specs.Sums.{total}
 use Rattle.ndarray.specs.Views.{axis_item}
 use Rattle.ndarray.specs.contracts.elements.integers.I64Valued.TheImpl.{ghosts}
+use Rattle.ndarray.proofs.callers.Cells.{cell-inside}
 use Rattle.ndarray.proofs.callers.Products.{row-product, rows-summable}
-use Rattle.ndarray.proofs.cells.Cells.{cell-inside}
 use Rattle.ndarray_bench.proofs.callers.matrix_times_vector.Goals as goal
 
 -- the inner lengths of a matrix and a vector that multiply

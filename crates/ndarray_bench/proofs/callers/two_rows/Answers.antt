@@ -3,8 +3,8 @@ use Rattle.std.specs.Prelude.{IfOk}
 use Rattle.ndarray.specs.Grid.{IsGrid, cell}
 use Rattle.ndarray.specs.Index.{InBox}
 use Rattle.ndarray.specs.Joining.{stacked}
+use Rattle.ndarray.proofs.callers.Cells.{tabulate-cell}
 use Rattle.ndarray.proofs.callers.Collecting.{if_ok-both}
-use Rattle.ndarray.proofs.cells.Cells.{tabulate-cell}
 use Rattle.ndarray_bench.proofs.callers.two_rows.Goals as goal
 
 pub returns-clause-table : goal.returns-clause-table

@@ -5,8 +5,8 @@ use Rattle.std.specs.Option.{option_copied}
 use Rattle.ndarray.specs.Grid.{cell}
 use Rattle.ndarray.specs.Index.{InBox, column_order}
 use Rattle.ndarray.specs.declared.base.shape.Order.TheVariants.{ColumnMajor}
-use Rattle.ndarray.proofs.cells.Cells.{along-first, HasCells-first}
-use Rattle.ndarray.proofs.boxes.Orders.{box_in-within}
+use Rattle.ndarray.proofs.callers.Cells.{HasCells-first, along-first}
+use Rattle.ndarray.proofs.callers.IndexLists.{box_in-within}
 use Rattle.ndtables.proofs.table.in_column_order.Goals as goal
 
 pub loop-index-init : goal.loop-index-init

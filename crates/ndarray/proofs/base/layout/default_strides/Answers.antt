@@ -1,5 +1,5 @@
 use Rattle.std.proofs.Common.{arith, ◌≡◌, ◌*◌, ◌+◌, ap, length, length-set}
-use Rattle.ndarray.specs.order.Ranks.{block_in}
+use Rattle.ndarray.specs.base.Ranks.{block_in}
 use Rattle.ndarray.proofs.strides.Strides.{block_in-fits, block-step, strides-more}
 use Rattle.ndarray.proofs.base.layout.default_strides.Goals as goal
 

@@ -1,5 +1,5 @@
 use Rattle.std.proofs.Common.{◌≡◌, ℕ, ◌<◌, get_or, length}
-use Rattle.ndarray.specs.order.Ranks.{axis_in, block_in}
+use Rattle.ndarray.specs.base.Ranks.{axis_in, block_in}
 use Rattle.ndarray.proofs.base.layout.default_strides.Given as goal
 
 abbrev pub invariant-loop-p : goal.invariant-loop-p

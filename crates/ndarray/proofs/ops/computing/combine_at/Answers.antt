@@ -37,5 +37,6 @@ returns g c =
           (λ r ran whole. combines-of _ _ (λ _. ⊤) (λ f x z h n k. tt) ran.0 _ tt r whole c.args.left c.args.right (λ x. x.0.now) (λ x. x.1.now) _
           (λ i x s. cells-at g here i x.0.now x.1.now s.0 s.1) (λ f x z h n k. k) _ (ap (λ v. v.lengths) (left g here)) ran.1)
           c.try_collect_of_both.ensures.ran c.try_collect_of_both.ensures.whole;
+      axes = c.try_collect_of_both.ensures.axes;
       empty = λ none. c.try_collect_of_both.ensures.empty (ap (λ v. size v.lengths) (left g here) ∙ none);
     }

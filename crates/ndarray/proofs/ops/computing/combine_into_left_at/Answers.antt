@@ -44,6 +44,7 @@ returns-then-ne g c =
     let same = c.view.ensures.same in
     record {
       made = subst (λ v. IfOk c.combine_at.result (Combines v c.args.right g.O.Operation.apply_gives)) same c.combine_at.ensures.made;
+      axes = c.combine_at.ensures.axes;
       empty = λ none. c.combine_at.ensures.empty (ap (λ v. size (broadcast_lengths v.lengths c.args.right.lengths)) same ∙ none);
       in_place = λ own left_ok right_ok. let equal : c.slice.result.now ≡ c.shape.result.now = c.slice.ensures.value ∙ (c.requires.lengths ∙ (own ∙ sym c.shape.ensures.value)) in absurd (search (rules, equal));
     }
@@ -57,6 +58,7 @@ returns g c =
           (λ r ran whole. combines-of _ _ (λ _. ⊤) (λ f x z h n k. tt) ran.0 _ tt r whole c.args.left c.args.right (λ x. x.0) (λ x. x.1.now) _
           (λ i x s. cells-at g here i x.0 x.1.now s.0 s.1) (λ f x z h n k. k.0) _ (ap (λ v. v.lengths) (left g here)) ran.1)
           e.ran e.whole;
+      axes = e.axes;
       empty = λ none. stopped-none _ _ _ _ c.update_cells.result (ap (λ v. size v.lengths) (left g here) ∙ none) e.stopped;
       in_place = λ lengths left_ok right_ok. stopped-never _ _ _ _ (λ _. ⊤) (λ f x a h n k. tt) tt
           (λ i f x e h n y k. let ok = k.1 (left_ok x.0) (right_ok x.1.now) in absurd (cc)) c.update_cells.result e.stopped;

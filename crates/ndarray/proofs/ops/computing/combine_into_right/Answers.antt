@@ -15,6 +15,7 @@ returns g c =
     let r = c.combine_into_left.ensures in
     record {
       made = IfOk-weaker _ _ _ (combines-exchanged c.args.left.now c.args.right t _) r.made;
+      axes = r.axes;
       empty = λ none. r.empty (sym (ap size e) ∙ none);
       in_place = λ own left_ok right_ok. r.in_place (sym e ∙ own) right_ok left_ok;
     }

@@ -20,5 +20,6 @@ returns g c =
           (λ r ran whole. maps-of _ _ (λ f. f.0 ≡ c.args.operation) (λ f x z h n k. ap (λ f. f.0) k.1 ∙ n) ran.0 _ refl r whole c.args.array.now (λ x. x.now) _
           (λ i x s. ap (λ v. cell v i) (sym same) ∙ s) (λ f x z h n k. subst (λ f. g.C.CellOperation.apply_gives f x.now z) n k.0) _ (ap (λ v. v.lengths) same) ran.1)
           c.try_collect_in_either_order.ensures.ran c.try_collect_in_either_order.ensures.whole;
+      axes = c.try_collect_in_either_order.ensures.axes;
       empty = λ none. c.try_collect_in_either_order.ensures.empty (ap (λ v. size v.lengths) same ∙ none);
     }

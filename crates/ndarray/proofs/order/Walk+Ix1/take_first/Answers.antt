@@ -1,6 +1,6 @@
 use Rattle.std.proofs.Common.{◌≡◌, ◌+◌, ◌-◌, ◌∷◌, [], ap, ◌∙◌, arith, rules, length, drop, inl, inr}
 use Rattle.std.proofs.lemmas.Bool.{cases_lt}
-use Rattle.ndarray.specs.order.Ranks.{WalkStands, walk_rest}
+use Rattle.ndarray.specs.order.Walks.{WalkStands, walk_rest}
 use Rattle.ndarray.proofs.boxes.Walks.{walk-later, length-walk_rest, one-fits}
 use Rattle.ndarray.proofs.order.Walk+Ix1.take_first.Goals as goal
 

@@ -2,7 +2,7 @@ use Rattle.std.proofs.Common.{rules, arith, ◌≡◌, ℕ, ◌-◌, ◌<◌, �
 use Rattle.std.proofs.lemmas.Bool.Decides.{nat_tests}
 use Rattle.std.specs.Prelude.{Contains, IsTrue}
 use Rattle.ndarray.specs.Index.{InBox}
-use Rattle.ndarray.specs.order.Ranks.{rank_in}
+use Rattle.ndarray.specs.base.Ranks.{rank_in}
 use Rattle.ndarray.proofs.boxes.Boxes.{InBox-length}
 use Rattle.ndarray.proofs.strides.Strides.{place-strides}
 use Rattle.ndarray.proofs.boxes.Walks.{to-come, to-come_back}

@@ -1,6 +1,6 @@
 use Rattle.std.proofs.Common.{ap, sym, ◌∙◌, length, ◌≡◌, replicate, subst, List, ℕ}
 use Rattle.ndarray.specs.Orders.{IsBoxIn}
-use Rattle.ndarray.specs.order.Ranks.{WalkStands, walk_rest}
+use Rattle.ndarray.specs.order.Walks.{WalkStands, walk_rest}
 use Rattle.ndarray.proofs.boxes.Walks.{walk-new, walk-stands_new}
 use Rattle.ndarray.proofs.boxes.Orders.{box_in-is}
 use Rattle.ndarray.proofs.lists.Permutations.{IsBoxIn-rearranges}

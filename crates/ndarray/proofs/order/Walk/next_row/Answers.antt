@@ -1,6 +1,6 @@
 use Rattle.std.proofs.Common.{arith, refl, ◌≡◌, ◌+◌, ◌-◌, ◌<◌, ◌∷◌, [], ap, sym, ◌∙◌, length, take, drop, get_or, subst}
 use Rattle.std.proofs.lemmas.List.{get_or_past}
-use Rattle.ndarray.specs.order.Ranks.{axis_in, row_from, rank_in}
+use Rattle.ndarray.specs.base.Ranks.{axis_in, row_from, rank_in}
 use Rattle.ndarray.specs.Index.{InBox, size}
 use Rattle.ndarray.proofs.boxes.Boxes.{InBox-length}
 use Rattle.ndarray.proofs.boxes.Walks.{walk-skip, walk-no_axes, row-inside, row-taken, row-last, length-walk_rest, walk_rest-next}

@@ -16,5 +16,6 @@ returns-clause-made g c =
           (λ r ran whole. maps-of _ _ (λ _. ⊤) (λ f x z h n k. tt) RowMajor _ tt r whole (lanes_of c.args.array.now c.args.axis.0) (λ x. x) _
           (λ i x s. ap (λ v. cell v i) (sym same) ∙ s) (λ f x z h n k. k) _ (ap (λ v. v.lengths) same) ran)
           c.collect_items.ensures.ran c.collect_items.ensures.whole;
+      axes = c.collect_items.ensures.axes;
       empty = λ none. c.collect_items.ensures.empty (ap (λ v. size v.lengths) same ∙ none);
     }

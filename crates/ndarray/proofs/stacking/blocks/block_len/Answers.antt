@@ -1,6 +1,6 @@
 use Rattle.std.proofs.Common.{◌≡◌, ◌+◌, ◌*◌, arith, refl}
 use Rattle.ndarray.specs.declared.base.shape.Order.TheVariants.{RowMajor}
-use Rattle.ndarray.specs.order.Ranks.{block_in}
+use Rattle.ndarray.specs.base.Ranks.{block_in}
 use Rattle.ndarray.proofs.strides.Strides.{block_in-fits, block-step}
 use Rattle.ndarray.proofs.stacking.blocks.block_len.Goals as goal
 

@@ -4,9 +4,9 @@ use Rattle.std.proofs.lemmas.List.{length-append}
 use Rattle.std.proofs.lemmas.List.Elements.{All-get_or}
 use Rattle.ndarray.specs.Index.{InBox, size}
 use Rattle.ndarray.specs.base.Builder.{pushed_all}
-use Rattle.ndarray.specs.order.Ranks.{rank}
+use Rattle.ndarray.specs.base.Ranks.{rank}
 use Rattle.ndarray.specs.stacking.Blocks.{HasBlockAt, blocks_at}
-use Rattle.ndarray.proofs.joining.Blocks.{block-is, pushed-length, pushed-more, to-come}
+use Rattle.ndarray.proofs.joining.Blocks.{block-is, pushed-length, pushed-more, blocks-to_come}
 use Rattle.ndarray.proofs.stacking.blocks.push_blocks.Goals as goal
 use Rattle.ndarray.proofs.stacking.blocks.push_blocks.Goals.{After-copied}
 
@@ -38,7 +38,7 @@ starting_at-cells-requires-clause-fits g c = λ some.
 pub push_clones-requires-clause-room : goal.push_clones-requires-clause-room
 push_clones-requires-clause-room g c =
     let block = block-is c.args.axis _ _ _ c.array-item.result _ _ c.starting_at-cells.result c.starting_at-cells.ensures c.block_len-count.ensures c.raw_dim.ensures.lengths c.again.ensures.same c.copied.ensures.value in
-    let come = to-come c.args.axis (g.D.Lengths.numbers c.args.index.now) c.args.arrays.now c.loop-array.array-index c.array-item.result c.starting_at-cells.result c.loop-array-test.true c.array-item.is block in
+    let come = blocks-to_come c.args.axis (g.D.Lengths.numbers c.args.index.now) c.args.arrays.now c.loop-array.array-index c.array-item.result c.starting_at-cells.result c.loop-array-test.true c.array-item.is block in
     let i = c.loop-array.invariant in
     let all : length c.loop-array.builder.cells + length (blocks_at c.args.axis (g.D.Lengths.numbers c.args.index.now) (drop c.loop-array.array-index c.args.arrays.now)) ≡ length c.args.builder.now.cells + length (blocks_at c.args.axis (g.D.Lengths.numbers c.args.index.now) c.args.arrays.now) = pushed-length _ _ _ _ i.pushed in
     let one = ap length come ∙ length-append c.starting_at-cells.result _ in
@@ -49,7 +49,7 @@ push_clones-requires-clause-room g c =
 pub returns-in_err-push_clones-clause-none : goal.returns-in_err-push_clones-clause-none
 returns-in_err-push_clones-clause-none g c = λ none.
     let block = block-is c.args.axis _ _ _ c.array-item.result _ _ c.starting_at-cells.result c.starting_at-cells.ensures c.block_len-count.ensures c.raw_dim.ensures.lengths c.again.ensures.same c.copied.ensures.value in
-    let come = to-come c.args.axis (g.D.Lengths.numbers c.args.index.now) c.args.arrays.now c.loop-array.array-index c.array-item.result c.starting_at-cells.result c.loop-array-test.true c.array-item.is block in
+    let come = blocks-to_come c.args.axis (g.D.Lengths.numbers c.args.index.now) c.args.arrays.now c.loop-array.array-index c.array-item.result c.starting_at-cells.result c.loop-array-test.true c.array-item.is block in
     let i = c.loop-array.invariant in
     let all : length c.loop-array.builder.cells + length (blocks_at c.args.axis (g.D.Lengths.numbers c.args.index.now) (drop c.loop-array.array-index c.args.arrays.now)) ≡ length c.args.builder.now.cells + length (blocks_at c.args.axis (g.D.Lengths.numbers c.args.index.now) c.args.arrays.now) = pushed-length _ _ _ _ i.pushed in
     let one = ap length come ∙ length-append c.starting_at-cells.result _ in
@@ -59,7 +59,7 @@ returns-in_err-push_clones-clause-none g c = λ none.
 pub loop-array-preserved : goal.loop-array-preserved
 loop-array-preserved g c =
     let block = block-is c.args.axis _ _ _ c.array-item.result _ _ c.starting_at-cells.result c.starting_at-cells.ensures c.block_len-count.ensures c.raw_dim.ensures.lengths c.again.ensures.same c.copied.ensures.value in
-    let come = to-come c.args.axis (g.D.Lengths.numbers c.args.index.now) c.args.arrays.now c.loop-array.array-index c.array-item.result c.starting_at-cells.result c.loop-array-test.true c.array-item.is block in
+    let come = blocks-to_come c.args.axis (g.D.Lengths.numbers c.args.index.now) c.args.arrays.now c.loop-array.array-index c.array-item.result c.starting_at-cells.result c.loop-array-test.true c.array-item.is block in
     let i = c.loop-array.invariant in
     let p = c.loop-array.builder in
     let pushed = c.in_ok-push_clones.ensures.pushed in

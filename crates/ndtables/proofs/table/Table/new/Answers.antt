@@ -4,7 +4,7 @@ use Rattle.ndarray.specs.Grid.{IsGrid, cell}
 use Rattle.ndarray.specs.Index.{size, row_order}
 use Rattle.ndarray.specs.Orders.{cells_in, HasInOrder}
 use Rattle.ndarray.specs.declared.base.shape.Order.TheVariants.{RowMajor, ColumnMajor}
-use Rattle.ndarray.proofs.boxes.Orders.{box_in-is}
+use Rattle.ndarray.proofs.callers.IndexLists.{box_in-is}
 use Rattle.ndtables.specs.Stored.{stored}
 use Rattle.ndtables.proofs.StoredCells.{stored-is, stored-rows, grid-is, cells_in-list, length-cells_in}
 use Rattle.ndtables.proofs.table.Table.new.Goals as goal

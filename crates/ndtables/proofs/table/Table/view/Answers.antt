@@ -3,7 +3,7 @@ use Rattle.std.proofs.lemmas.List.{take_all}
 use Rattle.ndarray.specs.Grid.{IsGrid, cell}
 use Rattle.ndarray.specs.Index.{size}
 use Rattle.ndarray.specs.Orders.{box_in, HasInOrder}
-use Rattle.ndarray.proofs.boxes.Orders.{box_in-is}
+use Rattle.ndarray.proofs.callers.IndexLists.{box_in-is}
 use Rattle.ndtables.specs.Stored.{stored}
 use Rattle.ndtables.proofs.StoredCells.{stored-is}
 use Rattle.ndtables.proofs.table.Table.view.Goals.{in-RowMajor, in-ColumnMajor}

@@ -1,5 +1,6 @@
-use Rattle.std.proofs.Common.{◌<◌, get_or, arith, length, ap, refl, ◌∙◌}
+use Rattle.std.proofs.Common.{◌<◌, get_or, arith, length, ap, refl, subst, sym, ◌∙◌}
 use Rattle.std.specs.Prelude.{insert, remove}
+use Rattle.std.proofs.lemmas.List.Edits.{length-remove}
 use Rattle.ndarray.specs.base.Places.{Rearranges}
 use Rattle.ndarray.proofs.strides.Reach.{length-cells_at}
 use Rattle.ndarray.proofs.views.Images.{Reaches-rearranged, grid-seen}
@@ -20,6 +21,12 @@ invariant_of-result g c = Reaches-rearranged (item g c) _ (λ x. x) c.self.invar
 pub returns-clause-value : goal.returns-clause-value
 returns-clause-value g c =
     grid-seen (item g c) (g.S.Data.at c.self.inside.storage) _ _ _ (λ p. refl) c.self.invariant c.self.view_is (c.item.ensures.dim ∙ ap (λ v. remove v.lengths c.args.axis.0) c.self.view_is)
+
+pub returns-clause-axes : goal.returns-clause-axes
+returns-clause-axes g c =
+    let less = length-remove c.args.self.lengths c.args.axis.0 c.requires.axis in
+    subst (λ v. g.D.Smaller.Lengths.has_axes (length v.lengths)) (sym (returns-clause-value g c))
+    (g.met.D.Dimension.smaller_has (length (remove c.args.self.lengths c.args.axis.0)) (subst g.D.Lengths.has_axes (sym less) c.ndim-axes.ensures.axes))
 
 pub returns-clause-whole : goal.returns-clause-whole
 returns-clause-whole g c = length-cells_at _ _ _ _ (invariant_of-result g c)

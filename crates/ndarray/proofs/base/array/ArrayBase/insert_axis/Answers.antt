@@ -1,5 +1,6 @@
-use Rattle.std.proofs.Common.{◌≤◌, arith, length, ap, refl, ◌∙◌}
+use Rattle.std.proofs.Common.{◌≡◌, ◌≤◌, ◌+◌, arith, length, ap, refl, subst, sym, ◌∙◌}
 use Rattle.std.specs.Prelude.{insert, remove}
+use Rattle.std.proofs.lemmas.List.Edits.{length-insert}
 use Rattle.ndarray.specs.base.Places.{Rearranges}
 use Rattle.ndarray.proofs.strides.Reach.{length-cells_at}
 use Rattle.ndarray.proofs.views.Images.{Reaches-rearranged, grid-seen}
@@ -18,6 +19,13 @@ invariant_of-result g c = Reaches-rearranged (inserted g c) _ (λ x. x) c.self.i
 pub returns-clause-value : goal.returns-clause-value
 returns-clause-value g c =
     grid-seen (inserted g c) (g.S.Data.at c.self.inside.storage) _ _ _ (λ p. refl) c.self.invariant c.self.view_is (c.insert_axis.ensures.dim ∙ ap (λ v. insert v.lengths c.args.axis.0 1) c.self.view_is)
+
+pub returns-clause-axes : goal.returns-clause-axes
+returns-clause-axes g c =
+    let ns = c.args.self.lengths in
+    let more : length ns + 1 ≡ length (insert ns c.args.axis.0 1) = omega (arith, length-insert ns c.args.axis.0 1 c.requires.axis) in
+    subst (λ v. g.D.Larger.Lengths.has_axes (length v.lengths)) (sym (returns-clause-value g c))
+    (subst g.D.Larger.Lengths.has_axes more (g.met.D.Dimension.larger_has (length ns) c.requires.room c.ndim-axes.ensures.axes))
 
 pub returns-clause-whole : goal.returns-clause-whole
 returns-clause-whole g c = length-cells_at _ _ _ _ (invariant_of-result g c)

@@ -1,5 +1,5 @@
 use Rattle.std.proofs.Common.{◌≡◌, ℕ, ◌<◌}
-use Rattle.ndarray.specs.order.Ranks.{block_in}
+use Rattle.ndarray.specs.base.Ranks.{block_in}
 use Rattle.ndarray.specs.declared.base.shape.Order.TheVariants.{RowMajor}
 use Rattle.ndarray.proofs.strides.Strides.{Follows}
 use Rattle.ndarray.proofs.base.layout.Layout.is_row_major.Given as goal

@@ -2,7 +2,7 @@ use Rattle.std.proofs.Common.{◌≡◌, sym, ◌∙◌, ap, subst, arith, lengt
 use Rattle.std.specs.Prelude.{filter_map, All}
 use Rattle.ndarray.specs.Index.{InBox}
 use Rattle.ndarray.specs.Grid.{cell}
-use Rattle.ndarray.specs.order.Ranks.{row_from}
+use Rattle.ndarray.specs.base.Ranks.{row_from}
 use Rattle.ndarray.specs.base.Storage.{seen_at}
 use Rattle.ndarray.specs.base.Strided.{places_from, HaveElements}
 use Rattle.ndarray.proofs.boxes.Boxes.{InBox-length}

@@ -4,7 +4,7 @@ use Rattle.std.proofs.lemmas.List.{length-take-le, length-drop}
 use Rattle.std.proofs.lemmas.Option.{slice_get-get_or}
 use Rattle.ndarray.specs.Index.{InBox, size}
 use Rattle.ndarray.specs.base.Places.{place, cells_at, Reaches}
-use Rattle.ndarray.specs.order.Ranks.{rank}
+use Rattle.ndarray.specs.base.Ranks.{rank}
 use Rattle.ndarray.proofs.lists.Elements.{some-of}
 use Rattle.ndarray.proofs.strides.Reach.{length-cells_at}
 use Rattle.ndarray.proofs.strides.OtherElements.{refilled-at, Reaches-refilled}

@@ -3,7 +3,8 @@ use Rattle.std.proofs.lemmas.List.{length-drop, length-take}
 use Rattle.std.proofs.lemmas.List.Elements.{All-take, All-drop}
 use Rattle.ndarray.specs.Grid.{HasCells, cell}
 use Rattle.ndarray.specs.Index.{InBox, row_order}
-use Rattle.ndarray.specs.order.Ranks.{rank, walk_rest, WalkStands}
+use Rattle.ndarray.specs.base.Ranks.{rank}
+use Rattle.ndarray.specs.order.Walks.{walk_rest, WalkStands}
 use Rattle.ndarray.specs.declared.base.shape.Order.TheVariants.{RowMajor}
 use Rattle.ndarray.proofs.boxes.Orders.{length-row_order}
 use Rattle.ndarray.proofs.boxes.Sizes.{size-le}

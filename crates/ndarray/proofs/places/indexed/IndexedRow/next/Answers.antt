@@ -1,7 +1,7 @@
 use Rattle.std.proofs.Common.{sym, ◌∙◌, ap, arith, length, set, zip, ◌∷◌, [], ◌≡◌, ◌+◌, ◌-◌, ◌%◌, ◌^◌}
 use Rattle.std.proofs.lemmas.List.{nil_from_length, set_past}
 use Rattle.ndarray.specs.base.Strided.{places_from}
-use Rattle.ndarray.specs.order.Ranks.{row_from}
+use Rattle.ndarray.specs.base.Ranks.{row_from}
 use Rattle.ndarray.proofs.strides.Rows.{length-indexed_row, indexed_row-next}
 use Rattle.ndarray.proofs.places.indexed.IndexedRow.next.Goals as goal
 use Rattle.ndarray.proofs.places.indexed.IndexedRow.next.Goals.{then-self-ndim, else-self-ndim}
