@@ -1,4 +1,4 @@
-//! Inside `base`: where the cells of an array lie in its storage.
+//! Where the cells of an array lie in its storage: for `base`, `order`, `places`, `reduce` and `subviews`.
 
 ghost use Rattle.std.specs.Prelude.{◌≡◌, ◌<◌, ◌≤◌, ◌+◌, ◌*◌, ◌%◌, ◌^◌, ◌↔◌, ℕ, List, IsTrue, length, insert, remove, reverse, slice_index, slice_set, swap, MatchOption};
 ghost use Rattle.ndarray.specs.Index.{InBox, size};

@@ -1,4 +1,4 @@
-//! Inside `base`: the places of an array's cells, and the index list whose cell lies at a place.
+//! The places of an array's cells, and the index list whose cell lies at a place: for `base` and `places`.
 
 ghost use Rattle.std.specs.Prelude.{◌≡◌, ◌≢◌, ◌<◌, ◌≤◌, ◌^◌, ℕ, List, length, slice_index, slice_get, IfSome, IfOk, IfErr, MatchOption};
 ghost use Rattle.ndarray.specs.Grid.{cell, IsGrid};

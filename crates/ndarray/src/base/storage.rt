@@ -4,7 +4,7 @@ ghost use Rattle.std.specs.Prelude.{◌≡◌, ◌≢◌, ◌↔◌, ◌<◌, �
 ghost use Rattle.std.specs.Option.{is_some};
 ghost use Rattle.std.specs.Borrow.{sem};
 ghost use Rattle.ndarray.specs.Grid.{IsGrid};
-ghost use Rattle.ndarray.specs.base.Storage.{seen_at};
+ghost use Rattle.ndarray.specs.base.Storage.{owned_at, seen_at};
 
 use crate::base::array::{ArrayBase, ArrayViewMut};
 use crate::base::dimension::Lengths;
@@ -39,7 +39,7 @@ pub trait Data: Drop {
     /// the storage as it is.
     fn try_into_owned(self) -> Result<OwnedRepr<Self::Elem>, Self>
         ensures owned { IsOk result ↔ owns self }
-        ensures same { IfOk result (λ v. (p : ℕ) → slice_get v.items.items p ≡ at self p) }
+        ensures same { IfOk result (λ v. (p : ℕ) → owned_at v p ≡ at self p) }
         ensures apart { IfOk result (λ _. apart self) }
         ensures back { IfErr result (λ s. s ≡ self) };
 }
@@ -240,7 +240,7 @@ impl<A: Drop> DataMut for OwnedRepr<A> {
 
 impl<A: Drop> DataOwned for OwnedRepr<A> {
     fn new(items: Vec<A>) -> Self
-        ensures { (p : ℕ) → slice_get result.items.items p ≡ slice_get items.items p }
+        ensures { (p : ℕ) → owned_at result p ≡ slice_get items.items p }
     {
         OwnedRepr { items }
     }

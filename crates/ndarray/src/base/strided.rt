@@ -1,4 +1,4 @@
-//! Inside `base`: elements that lie a step apart, one after another.
+//! Elements that lie a step apart, one after another: for `base`, `iter` and `linalg`.
 
 ghost use Rattle.std.specs.Prelude.{◌≡◌, [], ◌<◌, All, length, filter_map};
 ghost use Rattle.std.specs.Iterator.{YieldsFirstRef, YieldsLastRef};
