@@ -8,7 +8,8 @@ use Rattle.std.proofs.lemmas.List.Elements.{All-head, All-tail}
 use Rattle.std.proofs.lemmas.Option.{slice_get_within}
 use lib.ListN.{set}
 use Rattle.ndarray.specs.Grid.{Grid, grid}
-use Rattle.ndarray.specs.base.Parts.{cells_from, refit}
+use Rattle.ndarray.specs.Writes.{refit}
+use Rattle.ndarray.specs.base.Parts.{cells_from}
 use Rattle.ndarray.specs.base.Places.{place, Reaches, grid_at, places_at}
 use Rattle.ndarray.specs.declared.base.shape.Order.TheVariants.{RowMajor}
 use Rattle.ndarray.specs.places.Lent.{AreLentAt}

@@ -3,6 +3,7 @@ use Rattle.std.specs.Prelude.{ℕ, List, [], ◌∷◌, get_or}
 use Rattle.std.specs.Borrow.{Fml, RattleType, MutBor, follows, Array as SliceOf}
 use base.Fml.{GName}
 use Rattle.ndarray.specs.Grid.{Grid, grid}
+use Rattle.ndarray.specs.Writes.{keeps_lengths}
 use Rattle.ndarray.specs.declared.base.dimension.Lengths.{Ghosts}
 use Rattle.ndarray.specs.contracts.base.array.ArrayBase.{the_row}
 use Rattle.ndarray.specs.contracts.base.storage.OwnedRepr.{the_row as owned_row}
@@ -18,12 +19,6 @@ cells_from (p ∷ ps) (x ∷ xs) ws = get_or ws p x ∷ cells_from ps xs ws
 abbrev pub follows_places : (A D : RattleType) → Ghosts D.Denot → MutBor (Grid A.Denot) → GName → List ℕ → Fml
 follows_places A D d a γ ps = follows (the_row (owned_row A) D A (ghosts A no_dict) d) (SliceOf A 0) a.ghost_name γ (λ ws. grid a.now.lengths (cells_from ps a.now.cells ws))
 
--- as many items as xs has: the first of ys, and those of xs where ys has none
-abbrev pub refit : {A : Type 0} → List A → List A → List A
-refit [] ys = []
-refit (x ∷ xs) [] = x ∷ xs
-refit (x ∷ xs) (y ∷ ys) = y ∷ refit xs ys
-
--- an array that owns its cells keeps its lengths, and as many cells
+-- the array keeps its lengths, and as many cells
 abbrev pub keeps_owned : (A D : RattleType) → Ghosts D.Denot → MutBor (Grid A.Denot) → GName → Fml
-keeps_owned A D d a γ = follows (the_row (owned_row A) D A (ghosts A no_dict) d) (the_row (owned_row A) D A (ghosts A no_dict) d) a.ghost_name γ (λ g. grid a.now.lengths (refit a.now.cells g.cells))
+keeps_owned A D = keeps_lengths (owned_row A) D A (ghosts A no_dict)

@@ -5,6 +5,7 @@ ghost use Rattle.std.specs.Borrow.{sem};
 ghost use Rattle.ndarray.specs.Grid.{IsGrid, one_axis};
 ghost use Rattle.ndarray.specs.Orders.{cells_in};
 ghost use Rattle.ndarray.specs.Views.{transposed};
+ghost use Rattle.ndarray.specs.Writes.{keeps_lengths};
 ghost use Rattle.ndarray.specs.base.Places.{grid_at, places_at, Reaches};
 ghost use Rattle.ndarray.specs.base.Parts.{follows_places, keeps_owned};
 ghost use Rattle.ndarray.specs.base.Slots.{held_at};
@@ -34,7 +35,7 @@ impl<A: Drop, D: Lengths> Array<A, D> {
     /// The right to read and write the elements, and how the cells lie among them.
     ///
     /// Once it has ended, the array has the lengths that it had, and as many cells.
-    pub(crate) fn loan(&mut self) -> Loan<'_, A, D>
+    pub(crate) fn owned_loan(&mut self) -> Loan<'_, A, D>
         ensures* writes_back { sem 𝓛 (keeps_owned A.row D.row D.Lengths self.entry result.region.reborrow_name) }
         ensures reaches { Reaches ⊤ (held_at result.region.slots) (D.numbers result.layout.dim) result.layout.start (D.numbers result.layout.strides) }
         ensures same { grid_at (held_at result.region.slots) (D.numbers result.layout.dim) result.layout.start (D.numbers result.layout.strides) ≡ self.old }
@@ -144,6 +145,17 @@ impl<'a, A, D: Lengths> Parts<'a, A, D> {
 }
 
 impl<S: DataMut, D: Lengths> ArrayBase<S, D> {
+    /// The right to read and write the elements, and how the cells lie among them.
+    ///
+    /// Once it has ended, the array has the lengths that it had, and as many cells.
+    pub(crate) fn loan(&mut self) -> Loan<'_, S::Elem, D>
+        ensures* writes_back { sem 𝓛 (keeps_lengths S.row D.row S.Elem.row S.Data D.Lengths self.entry result.region.reborrow_name) }
+        ensures reaches { Reaches ⊤ (held_at result.region.slots) (D.numbers result.layout.dim) result.layout.start (D.numbers result.layout.strides) }
+        ensures same { grid_at (held_at result.region.slots) (D.numbers result.layout.dim) result.layout.start (D.numbers result.layout.strides) ≡ self.old }
+    {
+        S::loan(self)
+    }
+
     /// A view to write in, of the same lengths and cells.
     ///
     /// What is written through it is what the array holds when the view has ended.

@@ -1,4 +1,4 @@
--- `loan` has the elements from `parts_mut`, and names their loan by the array that they make. Assumes `Logic`.
+-- `owned_loan` has the elements from `parts_mut`, and names their loan by the array that they make. Assumes `Logic`.
 use mathlib.Core.Path.{◌≡◌, refl, sym, ap, subst, ◌∙◌}
 use Prim.Native.Nat.{ℕ}
 use mathlib.Core.List.{List, [], ◌∷◌, ◌++◌, map}
@@ -50,7 +50,8 @@ use denote.Triple.Walked.{Stays, stay_dropped, walk_of, ends_at, Goes-spent_ref,
 use Rattle.core.proofs.mem.Param.{El, R, el_x}
 use Rattle.std.specs.Prelude.{⊤, Some, slice_get}
 use Rattle.ndarray.specs.Grid.{Grid, grid}
-use Rattle.ndarray.specs.base.Parts.{cells_from, refit}
+use Rattle.ndarray.specs.Writes.{refit}
+use Rattle.ndarray.specs.base.Parts.{cells_from}
 use Rattle.ndarray.specs.base.Places.{grid_at, places_at, Reaches}
 use Rattle.ndarray.specs.base.Slots.{held_at}
 use Rattle.ndarray.specs.declared.base.layout.Layout.{Layout}
@@ -72,10 +73,10 @@ use Rattle.ndarray.proofs.base.writing.Array+A+D.parts_mut.Met as met₁
 use Rattle.ndarray.specs.contracts.base.writing.Parts.into_loan as F₂
 use Rattle.ndarray.specs.contracts.base.writing.Parts.into_loan.Key.{name as #into_loan}
 use Rattle.ndarray.proofs.base.writing.Parts.into_loan.Met as met₂
-use Rattle.ndarray.specs.contracts.base.writing.Array+A+D.loan as F
-use Rattle.ndarray.specs.contracts.base.writing.Array+A+D.loan.Key.{name as #self}
-use Rattle.ndarray.proofs.base.writing.Array+A+D.loan.Statement as stated
-use Rattle.ndarray.proofs.base.writing.Array+A+D.loan.Code as code
+use Rattle.ndarray.specs.contracts.base.writing.Array+A+D.owned_loan as F
+use Rattle.ndarray.specs.contracts.base.writing.Array+A+D.owned_loan.Key.{name as #self}
+use Rattle.ndarray.proofs.base.writing.Array+A+D.owned_loan.Statement as stated
+use Rattle.ndarray.proofs.base.writing.Array+A+D.owned_loan.Code as code
 
 module _ (E : El) (P : Dm) (dA : Dict) where
   abbrev args : Args
@@ -277,9 +278,9 @@ module _ (E : El) (P : Dm) (dA : Dict) {M : Type 1} {𝓤 : Ura M} (𝓛 : Logic
       move ! (1 ∷ []) $ split3 ! $ heard ! (κs.1.0 ⊑ E.row.lives) (λ inA. heard ! (κs.1.1.0 ⊑ P.row.lives) (λ inD. drop ! $
       by ! (entry go₁ go₂ z inA inD z.0.4.0))))
 
-pub loan_spec : {M : Type 1} → stated.statement M
+pub owned_loan_spec : {M : Type 1} → stated.statement M
 unfolding tables_of
-loan_spec 𝓤 𝓛 𝓜 𝓡 wired X Y LX LY g d dA dd met mA md =
+owned_loan_spec 𝓤 𝓛 𝓜 𝓡 wired X Y LX LY g d dA dd met mA md =
     let E : El = record { row = X; laws = LX } in
     let P : Dm = record { row = Y; laws = LY; g = g; d = d; drops = dd } in
     let 𝓣 : Tables 𝓤 𝓛.H = tables_of 𝓤 𝓛.H 𝓜 (tables 𝓤 𝓛.H 𝓜 𝓡 𝓡.env) in
