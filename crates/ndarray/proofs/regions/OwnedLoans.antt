@@ -1,13 +1,12 @@
 -- The elements of an owned array, split into its cells and the elements that it hides, and put together again.
-use Rattle.std.proofs.Common.{◌≡◌, ◌≢◌, ℕ, ◌<◌, zero, suc, List, [], ◌∷◌, ◌++◌, length, map, drop, get_or, refl, sym, ◌∙◌, ap, arith}
-use Rattle.std.specs.Prelude.{slice_get, All, AllPairs, IsTrue, ⊤, filter_map}
-use Rattle.std.specs.Option.{is_some}
+use Rattle.std.proofs.Common.{◌≡◌, ◌≢◌, ℕ, ◌<◌, suc, List, [], ◌∷◌, ◌++◌, length, drop, get_or, refl, sym, ◌∙◌, ap, arith}
+use Rattle.std.specs.Prelude.{slice_get, All, AllPairs, ⊤}
 use Rattle.std.proofs.Math.Seq.{drop-append_seam}
 use Rattle.std.proofs.lemmas.List.{length-map, length-set, set-get_or, get_or-set_same, get_or-set_other}
 use Rattle.std.proofs.lemmas.List.Elements.{All-head, All-tail}
 use Rattle.std.proofs.lemmas.Option.{slice_get_within}
 use lib.ListN.{set}
-use Rattle.ndarray.specs.Grid.{Grid, grid}
+use Rattle.ndarray.specs.Grid.{Grid}
 use Rattle.ndarray.specs.Writes.{refit}
 use Rattle.ndarray.specs.base.Parts.{cells_from}
 use Rattle.ndarray.specs.base.Places.{place, Reaches, grid_at, places_at}

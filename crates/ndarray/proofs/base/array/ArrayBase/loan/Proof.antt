@@ -25,7 +25,7 @@ use denote.Exit.{no}
 use denote.RattleType.{RattleType, owns}
 use denote.Laws.{Is, shows}
 use denote.Memory.{mem}
-use denote.Ref.{MutBor, MutRef}
+use denote.Ref.{MutRef}
 use denote.Param.{bounded, param}
 use denote.Param.Laws.{param_laws}
 use denote.Signature.{plain, mut_ref_to}

@@ -26,7 +26,7 @@ use types.Mut.{open_ref}
 use types.Follow.{after, takes_part}
 use denote.Array.{Array}
 use denote.Exit.{no}
-use denote.RattleType.{RattleType, Valss, owns}
+use denote.RattleType.{RattleType, owns}
 use denote.Laws.{Is, shows}
 use denote.Memory.{mem}
 use denote.Ref.{MutBor, MutRef}
