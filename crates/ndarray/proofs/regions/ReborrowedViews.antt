@@ -1,5 +1,5 @@
 -- A writing view's region is lent again, and its layout is shared. Assumes `Logic`.
-use mathlib.Core.Path.{◌≡◌, refl, sym, ap}
+use mathlib.Core.Path.{◌≡◌, refl, sym, ap, ◌∙◌}
 use Prim.Native.Nat.{ℕ, ◌+◌, ◌*◌, ◌<◌, ◌^◌}
 use mathlib.Core.List.{List, [], ◌∷◌}
 use lib.ListN.{length}
@@ -53,6 +53,9 @@ use Rattle.ndarray.proofs.regions.Reborrows.{as_many, cut, back, Has, Rest}
 use types.Kit.{fpick, fpack, feq_i, feq_l}
 use base.Fml.{fex, feq}
 use Rattle.ndarray.specs.Grid.{grid}
+use Rattle.ndarray.specs.Writes.{refit}
+use Rattle.ndarray.proofs.regions.OwnedLoans.{refit-all}
+use Rattle.ndarray.proofs.strides.Reach.{length-cells_at}
 
 -- a type of lengths, as the walk of a generic function knows it
 pub record Dm : Type 2 where
@@ -120,7 +123,7 @@ module _ (a : RattleType) (E : El) (P : Dm) {M : Type 1} {𝓤 : Ura M} (𝓛 : 
       by ! (Plain-in (Ar a E P) (Inside a E P) (view_owns (Inside a E P) (Grid (el_x E)) (Ar a E P).coded (view a E P) (good a E P)) 𝓛 full_share (view a E P y) y
       (view_made (Inside a E P) (Grid (el_x E)) (Ar a E P).coded (view a E P) (good a E P) 𝓛 (view a E P y) y (refl, ok)) rb ro)
 
-module _ (a : RattleType) (E : El) (P : Dm) {M : Type 1} {𝓤 : Ura M} (𝓛 : Logic 𝓤) (κ : Lft) (inc : Incl κ a.lives) (q : Share) (rb ro : ℕ) (x : (Inside a E P).Denot) (d : Grid (el_x E)) (seen : view a E P x ≡ d) where
+module _ (a : RattleType) (E : El) (P : Dm) {M : Type 1} {𝓤 : Ura M} (𝓛 : Logic 𝓤) (κ : Lft) (inc : Incl κ a.lives) (q : Share) (rb ro : ℕ) (x : (Inside a E P).Denot) (d : Grid (el_x E)) (seen : view a E P x ≡ d) (ok : good a E P x) where
   open 𝓛 use {H, A}
 
   abbrev Ds : Type 0
@@ -130,7 +133,7 @@ module _ (a : RattleType) (E : El) (P : Dm) {M : Type 1} {𝓤 : Ura M} (𝓛 : 
   at = with_cs a E P 𝓛 x rb ro
 
   abbrev pub same_lens : Grid (el_x E) → Grid (el_x E)
-  same_lens g = grid d.lengths g.cells
+  same_lens g = grid d.lengths (refit d.cells g.cells)
 
   abbrev Whole : Grid (el_x E) → ℕ → ℕ → Ds → Fml
   Whole g c p z = fsep (feq (Grid (el_x E)) (view a E P (at z.0)) (same_lens g)) (part_at (Rg a E) full_share (with_slots x.storage z.0) c p)
@@ -139,9 +142,9 @@ module _ (a : RattleType) (E : El) (P : Dm) {M : Type 1} {𝓤 : Ura M} (𝓛 : 
   abbrev Pin : SemTy
   Pin = record { rep = Grid (el_x E); coded = (Ar a E P).coded; size = 0; own_at = λ g c p. fex Ds (Whole g c p) }
 
-  pin : good a E P x → ent 𝓤 (sem 𝓛 (part_at (Rg a E) full_share x.storage rb (ro + 0))) (sem 𝓛 (Pin.own_at d rb (ro + 0)))
-  pin ok = qed 𝓛 (‵ (part_at (Rg a E) full_share x.storage rb (ro + 0)) ∷ []) ∵
-      feq_i ! (Grid (el_x E)) (view a E P (at x.storage.slots)) (same_lens d) seen $ fjoin ! $ fpack ! Ds (Whole d rb (ro + 0)) (x.storage.slots, ok) $ done !
+  pin : ent 𝓤 (sem 𝓛 (part_at (Rg a E) full_share x.storage rb (ro + 0))) (sem 𝓛 (Pin.own_at d rb (ro + 0)))
+  pin = qed 𝓛 (‵ (part_at (Rg a E) full_share x.storage rb (ro + 0)) ∷ []) ∵
+      feq_i ! (Grid (el_x E)) (view a E P (at x.storage.slots)) (same_lens d) (seen ∙ ap (grid d.lengths) (sym (refit-all d.cells d.cells refl))) $ fjoin ! $ fpack ! Ds (Whole d rb (ro + 0)) (x.storage.slots, ok) $ done !
 
   unpin : (g : Grid (el_x E)) → ent 𝓤 (sep 𝓤 (sem 𝓛 (Pin.own_at g rb (ro + 0))) (sep 𝓤 (sem 𝓛 (fseps (LayAt a E P 𝓛 x rb ro ∷ []))) (Back a E P 𝓛 x rb ro))) (sem 𝓛 ((mem (Ar a E P)).own_at (same_lens g) rb ro))
   unpin g = qed 𝓛 (‵ (Pin.own_at g rb (ro + 0)) ∷ ‵ (fseps (LayAt a E P 𝓛 x rb ro ∷ [])) ∷ raw (Back a E P 𝓛 x rb ro) ∷ []) ∵ fpick ! (λ z. fsplit ! $ feq_l ! (λ e.
@@ -150,16 +153,22 @@ module _ (a : RattleType) (E : El) (P : Dm) {M : Type 1} {𝓤 : Ura M} (𝓛 : 
   abbrev values : Ds → List (el_x E) → Grid (el_x E)
   values z ws = view a E P (at (fill z.0 ws))
 
+  reaches_again : (z : Ds) (ws : List (el_x E)) → good a E P (at (fill z.0 ws))
+  reaches_again z ws = still_reaches ⊤ z.0 ws _ _ _ z.1
+
+  as_many_cells : (z : Ds) (ws : List (el_x E)) → length (values z ws).cells ≡ length d.cells
+  as_many_cells z ws = length-cells_at _ _ _ _ (reaches_again z ws) ∙ (sym (length-cells_at _ _ _ _ ok) ∙ ap (λ (g : Grid (el_x E)). length g.cells) seen)
+
   repin : (z : Ds) (ws : List (el_x E)) → ent 𝓤 (sep 𝓤 (sem 𝓛 ((Pinned a E P (at z.0).storage).own_at ws rb (ro + 0))) (emp 𝓤)) (sem 𝓛 (Pin.own_at (values z ws) rb (ro + 0)))
   repin z ws = qed 𝓛 (‵ (part_at (Rg a E) full_share (with_slots x.storage (fill z.0 ws)) rb (ro + 0)) ∷ raw (emp 𝓤) ∷ []) ∵ keep ! (0 ∷ []) $
-      feq_i ! (Grid (el_x E)) (values z ws) (same_lens (values z ws)) (ap (λ (g : Grid (el_x E)). grid g.lengths (values z ws).cells) seen) $ fjoin ! $
-      fpack ! Ds (Whole (values z ws) rb (ro + 0)) (fill z.0 ws, still_reaches ⊤ z.0 ws _ _ _ z.1) $ done !
+      feq_i ! (Grid (el_x E)) (values z ws) (same_lens (values z ws)) (ap (λ (ns : List ℕ). grid ns (values z ws).cells) (ap (λ (g : Grid (el_x E)). g.lengths) seen) ∙ ap (grid d.lengths) (sym (refit-all d.cells (values z ws).cells (as_many_cells z ws)))) $ fjoin ! $
+      fpack ! Ds (Whole (values z ws) rb (ro + 0)) (fill z.0 ws, reaches_again z ws) $ done !
 
   cut_pin : (z : Ds) (μ : GName) {b o : ℕ} (here : x.storage.shared.ptr ≡ block_ptr b o) → ent 𝓤 (sem 𝓛 ((Pinned a E P (with_slots x.storage z.0)).own_at (somes z.0) rb (ro + 0))) (Has a E 𝓛 κ inc q rb (ro + 0) μ (with_slots x.storage z.0) b o here (somes z.0))
   cut_pin z μ {b} {o} here = qed 𝓛 (‵ (part_at (Rg a E) full_share (with_slots x.storage (fill z.0 (somes z.0))) rb (ro + 0)) ∷ []) ∵
       rewrite ! 0 (λ (ds : List (Option (el_x E))). ‵ (part_at (Rg a E) full_share (with_slots x.storage ds) rb (ro + 0))) (fill_same z.0) refl $ by ! (cut a E 𝓛 κ inc q rb (ro + 0) μ (with_slots x.storage z.0) b o here)
 
-  module _ (γ : GName) (ok : good a E P x) (b o : ℕ) (here : x.storage.shared.ptr ≡ block_ptr b o) where
+  module _ (γ : GName) (b o : ℕ) (here : x.storage.shared.ptr ≡ block_ptr b o) where
     abbrev pub Got : Type 0
     Got = (ν : GName) × ((ν' : GName) × ((z : Ds) × ((view a E P (at z.0) ≡ d) × (length z.0 * (mem (R E)).size < 2 ^ 63))))
 
@@ -172,7 +181,7 @@ module _ (a : RattleType) (E : El) (P : Dm) {M : Type 1} {𝓤 : Ura M} (𝓛 : 
     opens =
         let code = (Ar a E P).coded.code d in
         qed 𝓛 (‵ (fobor κ q (Borrowed (mem (Ar a E P)) rb ro γ)) ∷ ‵ (fobs γ code) ∷ ‵ (fauth γ code) ∷ ‵ (part_at (Rg a E) full_share x.storage rb (ro + 0)) ∷ ‵ (LayAt a E P 𝓛 x rb ro) ∷ raw (Back a E P 𝓛 x rb ro) ∷ []) ∵ updating ! $
-        nothing ! $ move ! (5 ∷ 0 ∷ []) $ fjoin ! $ move ! (4 ∷ []) $ use1 𝓛 (‵ (Pin.own_at d rb (ro + 0))) (pin ok) $ move ! (2 ∷ 3 ∷ 4 ∷ 0 ∷ 1 ∷ 5 ∷ []) $ group ! 6 $
+        nothing ! $ move ! (5 ∷ 0 ∷ []) $ fjoin ! $ move ! (4 ∷ []) $ use1 𝓛 (‵ (Pin.own_at d rb (ro + 0))) pin $ move ! (2 ∷ 3 ∷ 4 ∷ 0 ∷ 1 ∷ 5 ∷ []) $ group ! 6 $
         use1 𝓛 (later (some (λ (ν : GName). ‵ (fobs ν (Pin.coded.code d)) ⊛ ‵ (fbor κ (Borrowed Pin rb (ro + 0) ν)) ⊛ ‵ (flft κ q) ⊛ ‵ (after (mem (Ar a E P)) Pin γ ν same_lens) ⊛ ‵ (fbor κ (LayAt a E P 𝓛 x rb ro)) ⊛ ‵ ftrue)))
         (takes_beside 𝓛 (mem (Ar a E P)) Pin same_lens κ q rb ro rb (ro + 0) γ (LayAt a E P 𝓛 x rb ro ∷ []) (Back a E P 𝓛 x rb ro) unpin code code d) $ await ! tt $ pick ! (λ ν.
         split3 ! $ move ! (2 ∷ []) $ split3 ! $ move ! (2 ∷ []) $ split ! $
@@ -192,4 +201,4 @@ module _ (a : RattleType) (E : El) (P : Dm) {M : Type 1} {𝓤 : Ura M} (𝓛 : 
         (hands_through 𝓛 (Pinned a E P rd) (ScatteredElements (R E) z.0) (λ ws. ws) κ a.lives inc rb (ro + 0) b o μ rd.name (sem 𝓛 (Rest a E 𝓛 κ inc q rb (ro + 0) μ rd b o here)) (λ ws. length ws ≡ length (somes z.0)) (λ ws. as_many E 𝓛 b z.0 ws o) (back a E 𝓛 κ inc q rb (ro + 0) μ rd b o here) q (somes z.0) (somes z.0) (cut_pin z μ here)) $ await ! tt $ pick ! (λ ν'.
         split3 ! $ move ! (2 ∷ []) $ split ! $
         -- [the token; what follows; obs; the loan; what follows; the layout; nothing; what follows first]
-        now ! $ show ! Opened (ν, (ν', (z, (e, small)))) $ keep ! (2 ∷ 3 ∷ 0 ∷ 7 ∷ 5 ∷ []) $ done !))))))
+        now ! $ show ! Opened (ν, (ν', (z, (e ∙ ap (grid d.lengths) (refit-all d.cells d.cells refl), small)))) $ keep ! (2 ∷ 3 ∷ 0 ∷ 7 ∷ 5 ∷ []) $ done !))))))

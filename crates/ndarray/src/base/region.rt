@@ -12,6 +12,7 @@ ghost use Rattle.ndarray.specs.base.Scattered.{region_owns, region_lent, shared_
 use crate::base::array::{ArrayBase, ArrayViewMut};
 use crate::base::dimension::Lengths;
 use crate::base::storage::{Data, DataMut, OwnedRepr, ViewRepr};
+use crate::base::writing::Loan;
 use std::marker::{Model, PhantomData};
 use std::mem::replace;
 use std::slice;
@@ -200,6 +201,12 @@ impl<M, A> DataMut for RegionRepr<M, A> {
         let (layout, storage) = array.reborrow();
         let layout = layout.copied();
         ArrayBase { storage, layout }
+    }
+
+    fn loan<D: Lengths>(array: &mut ArrayBase<Self, D>) -> Loan<'_, A, D> {
+        let (layout, region) = array.reborrow();
+        let layout = layout.copied();
+        Loan { region, layout }
     }
 
     ghost written_here = { λ r k w h. slot_set-here r.slots k w h };

@@ -9,6 +9,7 @@ ghost use Rattle.ndarray.specs.base.Storage.{owned_at, seen_at};
 use crate::base::array::{ArrayBase, ArrayViewMut};
 use crate::base::dimension::Lengths;
 use crate::base::region::SharedRegion;
+use crate::base::writing::Loan;
 use std::alloc::AllocError;
 
 /// What an array keeps its elements in: elements by places, some of which may hold none.
@@ -47,6 +48,9 @@ pub trait Data: Drop {
 /// What may be written to.
 pub trait DataMut: Data {
     ghost use Rattle.std.specs.Borrow.{Lends};
+    ghost use Rattle.ndarray.specs.Writes.{keeps_lengths};
+    ghost use Rattle.ndarray.specs.base.Places.{grid_at, Reaches};
+    ghost use Rattle.ndarray.specs.base.Slots.{held_at};
 
     // The same with another element at a place.
     ghost with_element: { Self → ℕ → Self.Elem → Self };
@@ -61,6 +65,14 @@ pub trait DataMut: Data {
     fn lend<D: Lengths>(array: &mut ArrayBase<Self, D>) -> ArrayViewMut<'_, Self::Elem, D>
         ensures same { result ≡ array.old }
         ensures whole { IsGrid result };
+
+    /// The right to read and write the elements of an array, and how its cells lie among them.
+    ///
+    /// Once it has ended, the array has the lengths that it had, and as many cells.
+    fn loan<D: Lengths>(array: &mut ArrayBase<Self, D>) -> Loan<'_, Self::Elem, D>
+        ensures* writes_back { sem 𝓛 (keeps_lengths Self.row D.row Self.Elem.row Self.Data D.Lengths array.entry result.region.reborrow_name) }
+        ensures reaches { Reaches ⊤ (held_at result.region.slots) (D.numbers result.layout.dim) result.layout.start (D.numbers result.layout.strides) }
+        ensures same { grid_at (held_at result.region.slots) (D.numbers result.layout.dim) result.layout.start (D.numbers result.layout.strides) ≡ array.old };
 
     /// Has a writer write all cells of an array as one slice, where they are one in row order; else the
     /// writer comes back.
@@ -222,6 +234,10 @@ impl<A: Drop> DataMut for OwnedRepr<A> {
 
     fn lend<D: Lengths>(array: &mut ArrayBase<Self, D>) -> ArrayViewMut<'_, A, D> {
         array.parts_mut().into_view()
+    }
+
+    fn loan<D: Lengths>(array: &mut ArrayBase<Self, D>) -> Loan<'_, A, D> {
+        array.owned_loan()
     }
 
     fn write_cells<D: Lengths, R, W: CellWriter<A, R>>(

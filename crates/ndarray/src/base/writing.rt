@@ -1,17 +1,19 @@
 //! Views to write in.
 
-ghost use Rattle.std.specs.Prelude.{◌≡◌, ◌≤◌, ◌+◌, take, drop, [], ◌∷◌, length, slice_get, IsOk, IfOk, IfErr, ⊤};
+ghost use Rattle.std.specs.Prelude.{◌≡◌, ◌≤◌, ◌+◌, take, drop, [], ◌∷◌, length, map, Some, slice_get, IsOk, IfOk, IfErr, ⊤};
 ghost use Rattle.std.specs.Borrow.{sem};
 ghost use Rattle.ndarray.specs.Grid.{IsGrid, one_axis};
 ghost use Rattle.ndarray.specs.Orders.{cells_in};
 ghost use Rattle.ndarray.specs.Views.{transposed};
+ghost use Rattle.ndarray.specs.Writes.{keeps_lengths};
 ghost use Rattle.ndarray.specs.base.Places.{grid_at, places_at, Reaches};
-ghost use Rattle.ndarray.specs.base.Parts.{follows_places};
+ghost use Rattle.ndarray.specs.base.Parts.{follows_places, keeps_owned};
+ghost use Rattle.ndarray.specs.base.Slots.{held_at};
 
 use crate::base::array::{Array, ArrayBase, ArrayViewMut};
 use crate::base::dimension::Lengths;
 use crate::base::layout::Layout;
-use crate::base::region::RegionRepr;
+use crate::base::region::{Life, RegionRepr};
 use crate::base::shape::Order;
 use crate::base::storage::{CellWriter, DataMut};
 
@@ -22,7 +24,25 @@ pub(crate) struct Parts<'a, A, D: Lengths> {
     pub(super) layout: Layout<D>,
 }
 
+/// A view to write in before it is one: the right to read and write the elements, and how the cells lie among them.
+#[derive(Drop)]
+pub struct Loan<'a, A, D: Lengths> {
+    pub(crate) region: RegionRepr<Life<'a>, A>,
+    pub(crate) layout: Layout<D>,
+}
+
 impl<A: Drop, D: Lengths> Array<A, D> {
+    /// The right to read and write the elements, and how the cells lie among them.
+    ///
+    /// Once it has ended, the array has the lengths that it had, and as many cells.
+    pub(crate) fn owned_loan(&mut self) -> Loan<'_, A, D>
+        ensures* writes_back { sem 𝓛 (keeps_owned A.row D.row D.Lengths self.entry result.region.reborrow_name) }
+        ensures reaches { Reaches ⊤ (held_at result.region.slots) (D.numbers result.layout.dim) result.layout.start (D.numbers result.layout.strides) }
+        ensures same { grid_at (held_at result.region.slots) (D.numbers result.layout.dim) result.layout.start (D.numbers result.layout.strides) ≡ self.old }
+    {
+        self.parts_mut().into_loan()
+    }
+
     /// The elements of the array, and how its cells lie among them.
     ///
     /// Once the borrow of the elements has ended, the array has at each place what was written
@@ -98,6 +118,18 @@ impl<S: DataMut, D: Lengths> ArrayBase<S, D> {
 }
 
 impl<'a, A, D: Lengths> Parts<'a, A, D> {
+    /// The right to read and write these elements, beside how the cells lie.
+    pub(crate) fn into_loan(self) -> Loan<'a, A, D>
+        ensures layout { result.layout ≡ self.entry.layout }
+        ensures slots { result.region.slots ≡ map Some self.entry.slice.now }
+    {
+        let Parts { slice, layout } = self;
+        Loan {
+            region: RegionRepr::of(slice),
+            layout,
+        }
+    }
+
     /// The view of these cells.
     pub(crate) fn into_view(self) -> ArrayViewMut<'a, A, D>
         requires { Reaches ⊤ (slice_get self.slice.now) (D.numbers self.layout.dim) self.layout.start (D.numbers self.layout.strides) }
@@ -113,6 +145,17 @@ impl<'a, A, D: Lengths> Parts<'a, A, D> {
 }
 
 impl<S: DataMut, D: Lengths> ArrayBase<S, D> {
+    /// The right to read and write the elements, and how the cells lie among them.
+    ///
+    /// Once it has ended, the array has the lengths that it had, and as many cells.
+    pub(crate) fn loan(&mut self) -> Loan<'_, S::Elem, D>
+        ensures* writes_back { sem 𝓛 (keeps_lengths S.row D.row S.Elem.row S.Data D.Lengths self.entry result.region.reborrow_name) }
+        ensures reaches { Reaches ⊤ (held_at result.region.slots) (D.numbers result.layout.dim) result.layout.start (D.numbers result.layout.strides) }
+        ensures same { grid_at (held_at result.region.slots) (D.numbers result.layout.dim) result.layout.start (D.numbers result.layout.strides) ≡ self.old }
+    {
+        S::loan(self)
+    }
+
     /// A view to write in, of the same lengths and cells.
     ///
     /// What is written through it is what the array holds when the view has ended.

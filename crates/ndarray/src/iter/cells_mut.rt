@@ -3,15 +3,17 @@
 ghost use Rattle.std.specs.Prelude.{◌≡◌, ◌<◌, ◌^◌, length, map, zip, IfSome, All, Some};
 ghost use Rattle.std.specs.Iterator.{YieldsFirstBy, YieldsFirstMut, YieldsLastMut, UpTo, item_count};
 ghost use Rattle.std.specs.Iterator.SizeHint.{IsExactHint, IsWithinCount};
+ghost use Rattle.std.specs.Borrow.{sem};
 ghost use Rattle.ndarray.specs.Grid.{cell};
 ghost use Rattle.ndarray.specs.Index.{IsRowOrder, row_order};
 ghost use Rattle.ndarray.specs.Orders.{HasInOrder};
+ghost use Rattle.ndarray.specs.Writes.{keeps_lengths};
 ghost use Rattle.ndarray.specs.declared.base.shape.Order.TheVariants.{RowMajor};
 
 use crate::base::array::{ArrayBase, ArrayViewMut};
 use crate::base::dimension::{Dimension, Ix1, Lengths};
 use crate::base::storage::DataMut;
-use crate::iter::elements_mut::ElementsBaseMut;
+use crate::iter::elements_mut::LentElements;
 use crate::places::lent::Places;
 use std::iter::ExactSizeIterator;
 use std::marker::Model;
@@ -21,13 +23,14 @@ use std::marker::Model;
 /// An iterator allocates nothing, and neither does any of its steps.
 #[derive(Drop)]
 pub struct IterMut<'a, A, D: Lengths> {
-    elements: ElementsBaseMut<'a, A, D>,
+    elements: LentElements<'a, A, D>,
 }
 
 impl<'a, A, D: Lengths> Model for IterMut<'a, A, D> {
-    ghost use Rattle.std.specs.Prelude.{List, ⊤};
+    ghost use Rattle.std.specs.Prelude.{⊤};
+    ghost use Rattle.ndarray.specs.Writes.{Lent};
 
-    ghost Value = { List A };
+    ghost Value = { Lent A };
 
     ghost view = { λ s. s.elements };
 
@@ -35,7 +38,7 @@ impl<'a, A, D: Lengths> Model for IterMut<'a, A, D> {
 }
 
 impl<S: DataMut, D: Lengths> ArrayBase<S, D> {
-    /// The cells to write to, in row order, whatever the strides.
+    /// The cells to write to, in row order, whatever the strides. The array keeps its lengths.
     ///
     /// ```
     /// for cell in array.iter_mut() {
@@ -43,12 +46,13 @@ impl<S: DataMut, D: Lengths> ArrayBase<S, D> {
     /// }
     /// ```
     pub fn iter_mut(&mut self) -> IterMut<'_, S::Elem, D>
-        ensures row_order { HasInOrder RowMajor self.old result }
-        ensures cells { result ≡ self.old.cells }
-        ensures fits { length result < 2 ^ 63 }
+        ensures* writes_back { sem 𝓛 (keeps_lengths S.row D.row S.Elem.row S.Data D.Lengths self.entry result.loan) }
+        ensures row_order { HasInOrder RowMajor self.old result.items }
+        ensures cells { result.items ≡ self.old.cells }
+        ensures fits { length result.items < 2 ^ 63 }
     {
         IterMut {
-            elements: ElementsBaseMut::new(self.view_mut()),
+            elements: self.lent_elements(),
         }
     }
 }
@@ -56,9 +60,9 @@ impl<S: DataMut, D: Lengths> ArrayBase<S, D> {
 impl<'a, A, D: Lengths> Iterator for IterMut<'a, A, D> {
     type Item = &'a mut A;
 
-    ghost next_gives = { YieldsFirstMut (λ rest. rest) };
+    ghost next_gives = { YieldsFirstMut (λ s. s.items) };
 
-    ghost remaining = { item_count (λ rest. rest) };
+    ghost remaining = { item_count (λ s. s.items) };
 
     #[inline(always)]
     fn next(&mut self) -> Option<&'a mut A> {
@@ -66,9 +70,9 @@ impl<'a, A, D: Lengths> Iterator for IterMut<'a, A, D> {
     }
 
     fn size_hint(&self) -> (usize, Option<usize>)
-        ensures lower { IsWithinCount result.0 (item_count (λ rest. rest) self.now) }
-        ensures upper { IfSome result.1 (UpTo (item_count (λ rest. rest) self.now)) }
-        ensures exact { IsExactHint result (length self.now) }
+        ensures lower { IsWithinCount result.0 (item_count (λ s. s.items) self.now) }
+        ensures upper { IfSome result.1 (UpTo (item_count (λ s. s.items) self.now)) }
+        ensures exact { IsExactHint result (length self.now.items) }
     {
         self.elements.size_hint()
     }
@@ -81,7 +85,7 @@ impl<'a, A, D: Lengths> ExactSizeIterator for IterMut<'a, A, D> {
 }
 
 impl<'a, A> DoubleEndedIterator for IterMut<'a, A, Ix1> {
-    ghost next_back_gives = { YieldsLastMut (λ rest. rest) };
+    ghost next_back_gives = { YieldsLastMut (λ s. s.items) };
 
     fn next_back(&mut self) -> Option<&'a mut A> {
         self.elements.next_back()
@@ -98,8 +102,9 @@ pub struct IndexedIterMut<'a, A, D: Lengths> {
 
 impl<'a, A, D: Lengths> Model for IndexedIterMut<'a, A, D> {
     ghost use Rattle.std.specs.Prelude.{ℕ, List, ⊤};
+    ghost use Rattle.ndarray.specs.Writes.{Lent};
 
-    ghost Value = { List (List ℕ × A) };
+    ghost Value = { Lent (List ℕ × A) };
 
     ghost view = { λ s. s.places };
 
@@ -108,7 +113,7 @@ impl<'a, A, D: Lengths> Model for IndexedIterMut<'a, A, D> {
 
 impl<S: DataMut, D: Dimension> ArrayBase<S, D> {
     /// The cells to write to, in row order, whatever the strides, each beside the pattern of its index
-    /// list.
+    /// list. The array keeps its lengths.
     ///
     /// ```
     /// for ((i, j), cell) in array.indexed_iter_mut() {
@@ -116,14 +121,15 @@ impl<S: DataMut, D: Dimension> ArrayBase<S, D> {
     /// }
     /// ```
     pub fn indexed_iter_mut(&mut self) -> IndexedIterMut<'_, S::Elem, D>
-        ensures row_order { IsRowOrder self.old.lengths (map (λ item. item.0) result) }
-        ensures cells { map (λ item. item.1) result ≡ self.old.cells }
-        ensures list { result ≡ zip (row_order self.old.lengths) self.old.cells }
-        ensures own_cells { All (λ item. cell self.old item.0 ≡ Some item.1) result }
-        ensures fits { length result < 2 ^ 63 }
+        ensures* writes_back { sem 𝓛 (keeps_lengths S.row D.row S.Elem.row S.Data D.Lengths self.entry result.loan) }
+        ensures row_order { IsRowOrder self.old.lengths (map (λ item. item.0) result.items) }
+        ensures cells { map (λ item. item.1) result.items ≡ self.old.cells }
+        ensures list { result.items ≡ zip (row_order self.old.lengths) self.old.cells }
+        ensures own_cells { All (λ item. cell self.old item.0 ≡ Some item.1) result.items }
+        ensures fits { length result.items < 2 ^ 63 }
     {
         IndexedIterMut {
-            places: Places::new(self.view_mut()),
+            places: self.lent_places(),
         }
     }
 }
@@ -131,9 +137,9 @@ impl<S: DataMut, D: Dimension> ArrayBase<S, D> {
 impl<'a, A, D: Dimension> Iterator for IndexedIterMut<'a, A, D> {
     type Item = (D::Pattern, &'a mut A);
 
-    ghost next_gives = { YieldsFirstBy (λ item. (D.pattern_numbers item.0, item.1.now)) (λ rest. rest) };
+    ghost next_gives = { YieldsFirstBy (λ item. (D.pattern_numbers item.0, item.1.now)) (λ s. s.items) };
 
-    ghost remaining = { item_count (λ rest. rest) };
+    ghost remaining = { item_count (λ s. s.items) };
 
     #[inline(always)]
     fn next(&mut self) -> Option<(D::Pattern, &'a mut A)> {
@@ -144,9 +150,9 @@ impl<'a, A, D: Dimension> Iterator for IndexedIterMut<'a, A, D> {
     }
 
     fn size_hint(&self) -> (usize, Option<usize>)
-        ensures lower { IsWithinCount result.0 (item_count (λ rest. rest) self.now) }
-        ensures upper { IfSome result.1 (UpTo (item_count (λ rest. rest) self.now)) }
-        ensures exact { IsExactHint result (length self.now) }
+        ensures lower { IsWithinCount result.0 (item_count (λ s. s.items) self.now) }
+        ensures upper { IfSome result.1 (UpTo (item_count (λ s. s.items) self.now)) }
+        ensures exact { IsExactHint result (length self.now.items) }
     {
         let len = self.len();
         (len, Some(len))
@@ -168,10 +174,14 @@ where
     type IntoIter = IterMut<'a, S::Elem, D>;
 
     ghost use Rattle.std.specs.Prelude.{◌<◌, ◌^◌, length};
+    ghost use Rattle.std.specs.Borrow.{sem};
+    ghost use Rattle.ndarray.specs.Writes.{keeps_lengths};
 
-    ghost into_iter_gives = { λ a it. (it ≡ a.now.cells) × (length it < 2 ^ 63) };
+    ghost into_iter_gives = { λ a it. (it.items ≡ a.now.cells) × (length it.items < 2 ^ 63) };
 
-    fn into_iter(self) -> IterMut<'a, S::Elem, D> {
+    fn into_iter(self) -> IterMut<'a, S::Elem, D>
+        ensures* writes_back { sem 𝓛 (keeps_lengths S.row D.row S.Elem.row S.Data D.Lengths self.entry result.loan) }
+    {
         self.iter_mut()
     }
 }
@@ -183,11 +193,11 @@ impl<'a, A: 'a, D: Lengths> IntoIterator for ArrayViewMut<'a, A, D> {
 
     ghost use Rattle.std.specs.Prelude.{◌<◌, ◌^◌, length};
 
-    ghost into_iter_gives = { λ v it. (it ≡ v.cells) × (length it < 2 ^ 63) };
+    ghost into_iter_gives = { λ v it. (it.items ≡ v.cells) × (length it.items < 2 ^ 63) };
 
     fn into_iter(self) -> IterMut<'a, A, D> {
         IterMut {
-            elements: ElementsBaseMut::new(self),
+            elements: LentElements::new(self),
         }
     }
 }

@@ -3,39 +3,148 @@
 ghost use Rattle.std.specs.Prelude.{◌≡◌, ◌<◌, ◌^◌, length, IfSome};
 ghost use Rattle.std.specs.Iterator.{YieldsFirstMut, YieldsLastMut, UpTo, item_count};
 ghost use Rattle.std.specs.Iterator.SizeHint.{IsExactHint, IsWithinCount};
+ghost use Rattle.std.specs.Borrow.{sem};
 ghost use Rattle.ndarray.specs.Grid.{IsGrid};
 ghost use Rattle.ndarray.specs.Orders.{HasInOrder, cells_in};
+ghost use Rattle.ndarray.specs.Writes.{keeps_lengths};
 ghost use Rattle.ndarray.specs.declared.base.shape.Order.TheVariants.{RowMajor};
 
 use crate::base::array::{ArrayBase, ArrayViewMut};
 use crate::base::dimension::{Ix1, Lengths};
 use crate::base::region::{Life, RegionRepr};
+use crate::base::storage::DataMut;
+use crate::base::writing::Loan;
 use crate::order::Order;
 use crate::places::strided::StridedPlaces;
 use std::iter::ExactSizeIterator;
 use std::marker::{Model, PhantomData};
 
-/// The cells of a view to write in that are still to come, in row order.
+/// The cells that are still to come of an array to write in, in row order: a clause sees them, and the name of the
+/// loan that they are lent from.
 ///
 /// An iterator allocates nothing, and neither does any of its steps.
 #[derive(Drop)]
-pub struct ElementsBaseMut<'a, A, D: Lengths> {
+pub struct LentElements<'a, A, D: Lengths> {
     region: RegionRepr<Life<'a>, A>,
     places: StridedPlaces<D>,
     // the lifetime of what it lends, so that `A: 'a` follows from the type
     lends: PhantomData<&'a mut A>,
 }
 
-impl<'a, A, D: Lengths> Model for ElementsBaseMut<'a, A, D> {
-    ghost use Rattle.std.specs.Prelude.{List, filter_map};
+impl<'a, A, D: Lengths> Model for LentElements<'a, A, D> {
+    ghost use Rattle.std.specs.Prelude.{filter_map};
+    ghost use Rattle.ndarray.specs.Writes.{Lent};
     ghost use Rattle.ndarray.specs.base.Slots.{held_at};
     ghost use Rattle.ndarray.specs.places.Lent.{AreLentAt};
 
-    ghost Value = { List A };
+    ghost Value = { Lent A };
 
-    ghost view = { λ s. filter_map (held_at s.region.slots) s.places };
+    ghost view = { λ s. record { items = filter_map (held_at s.region.slots) s.places; loan = s.region.reborrow_name } };
 
     ghost invariant = { λ s. AreLentAt (held_at s.region.slots) s.places };
+}
+
+impl<'a, A, D: Lengths> LentElements<'a, A, D> {
+    /// The cells of a view in row order, whatever the strides.
+    pub(crate) fn new(v: ArrayViewMut<'a, A, D>) -> Self
+        ensures row_order { HasInOrder RowMajor v.entry result.items }
+        ensures cells { result.items ≡ v.entry.cells }
+        ensures fits { length result.items < 2 ^ 63 }
+    {
+        LentElements::in_order(v, Order::RowMajor)
+    }
+
+    /// The cells of a view in an order.
+    pub(crate) fn in_order(v: ArrayViewMut<'a, A, D>, order: Order) -> Self
+        ensures described { HasInOrder order v.entry result.items }
+        ensures cells { result.items ≡ cells_in order v.entry }
+        ensures fits { length result.items < 2 ^ 63 }
+        ensures whole { IsGrid v.entry }
+    {
+        let ArrayBase { storage, layout } = v;
+        LentElements {
+            region: storage,
+            places: StridedPlaces::new(layout, order),
+            lends: PhantomData,
+        }
+    }
+}
+
+impl<S: DataMut, D: Lengths> ArrayBase<S, D> {
+    /// The cells to write to, in row order, whatever the strides.
+    pub(crate) fn lent_elements(&mut self) -> LentElements<'_, S::Elem, D>
+        ensures* writes_back { sem 𝓛 (keeps_lengths S.row D.row S.Elem.row S.Data D.Lengths self.entry result.loan) }
+        ensures row_order { HasInOrder RowMajor self.old result.items }
+        ensures cells { result.items ≡ self.old.cells }
+        ensures fits { length result.items < 2 ^ 63 }
+    {
+        let Loan { region, layout } = self.loan();
+        LentElements {
+            region,
+            places: StridedPlaces::new(layout, Order::RowMajor),
+            lends: PhantomData,
+        }
+    }
+}
+
+impl<'a, A, D: Lengths> Iterator for LentElements<'a, A, D> {
+    type Item = &'a mut A;
+
+    ghost next_gives = { YieldsFirstMut (λ s. s.items) };
+
+    ghost remaining = { item_count (λ s. s.items) };
+
+    #[inline(always)]
+    fn next(&mut self) -> Option<&'a mut A> {
+        let Some(place) = self.places.next() else {
+            return None;
+        };
+        Some(self.region.take(place))
+    }
+
+    fn size_hint(&self) -> (usize, Option<usize>)
+        ensures lower { IsWithinCount result.0 (item_count (λ s. s.items) self.now) }
+        ensures upper { IfSome result.1 (UpTo (item_count (λ s. s.items) self.now)) }
+        ensures exact { IsExactHint result (length self.now.items) }
+    {
+        let len = self.len();
+        (len, Some(len))
+    }
+}
+
+impl<'a, A, D: Lengths> ExactSizeIterator for LentElements<'a, A, D> {
+    fn len(&self) -> usize {
+        self.places.len()
+    }
+}
+
+impl<'a, A> DoubleEndedIterator for LentElements<'a, A, Ix1> {
+    ghost next_back_gives = { YieldsLastMut (λ s. s.items) };
+
+    fn next_back(&mut self) -> Option<&'a mut A> {
+        let Some(place) = self.places.next_back() else {
+            return None;
+        };
+        Some(self.region.take(place))
+    }
+}
+
+/// The cells of a view to write in that are still to come, in row order.
+///
+/// An iterator allocates nothing, and neither does any of its steps.
+#[derive(Drop)]
+pub struct ElementsBaseMut<'a, A, D: Lengths> {
+    elements: LentElements<'a, A, D>,
+}
+
+impl<'a, A, D: Lengths> Model for ElementsBaseMut<'a, A, D> {
+    ghost use Rattle.std.specs.Prelude.{List, ⊤};
+
+    ghost Value = { List A };
+
+    ghost view = { λ s. s.elements.items };
+
+    ghost invariant = { λ _. ⊤ };
 }
 
 impl<'a, A, D: Lengths> ElementsBaseMut<'a, A, D> {
@@ -45,7 +154,9 @@ impl<'a, A, D: Lengths> ElementsBaseMut<'a, A, D> {
         ensures cells { result ≡ v.entry.cells }
         ensures fits { length result < 2 ^ 63 }
     {
-        ElementsBaseMut::in_order(v, Order::RowMajor)
+        ElementsBaseMut {
+            elements: LentElements::new(v),
+        }
     }
 
     /// The cells of a view in an order.
@@ -55,11 +166,8 @@ impl<'a, A, D: Lengths> ElementsBaseMut<'a, A, D> {
         ensures fits { length result < 2 ^ 63 }
         ensures whole { IsGrid v.entry }
     {
-        let ArrayBase { storage, layout } = v;
         ElementsBaseMut {
-            region: storage,
-            places: StridedPlaces::new(layout, order),
-            lends: PhantomData,
+            elements: LentElements::in_order(v, order),
         }
     }
 }
@@ -73,10 +181,7 @@ impl<'a, A, D: Lengths> Iterator for ElementsBaseMut<'a, A, D> {
 
     #[inline(always)]
     fn next(&mut self) -> Option<&'a mut A> {
-        let Some(place) = self.places.next() else {
-            return None;
-        };
-        Some(self.region.take(place))
+        self.elements.next()
     }
 
     fn size_hint(&self) -> (usize, Option<usize>)
@@ -84,14 +189,13 @@ impl<'a, A, D: Lengths> Iterator for ElementsBaseMut<'a, A, D> {
         ensures upper { IfSome result.1 (UpTo (item_count (λ rest. rest) self.now)) }
         ensures exact { IsExactHint result (length self.now) }
     {
-        let len = self.len();
-        (len, Some(len))
+        self.elements.size_hint()
     }
 }
 
 impl<'a, A, D: Lengths> ExactSizeIterator for ElementsBaseMut<'a, A, D> {
     fn len(&self) -> usize {
-        self.places.len()
+        self.elements.len()
     }
 }
 
@@ -99,9 +203,6 @@ impl<'a, A> DoubleEndedIterator for ElementsBaseMut<'a, A, Ix1> {
     ghost next_back_gives = { YieldsLastMut (λ rest. rest) };
 
     fn next_back(&mut self) -> Option<&'a mut A> {
-        let Some(place) = self.places.next_back() else {
-            return None;
-        };
-        Some(self.region.take(place))
+        self.elements.next_back()
     }
 }

@@ -2,19 +2,23 @@
 
 ghost use Rattle.std.specs.Prelude.{◌≡◌, length, zip};
 ghost use Rattle.std.specs.Iterator.{YieldsFirstBy};
+ghost use Rattle.std.specs.Borrow.{sem};
 ghost use Rattle.ndarray.specs.Grid.{IsGrid};
 ghost use Rattle.ndarray.specs.Index.{row_order};
 ghost use Rattle.ndarray.specs.Limits.{IsWithinLimit};
+ghost use Rattle.ndarray.specs.Writes.{keeps_lengths};
 
-use crate::base::array::{ArrayBase, ArrayViewMut};
+use crate::base::array::ArrayBase;
 use crate::base::dimension::Lengths;
 use crate::base::region::{Life, RegionRepr};
+use crate::base::storage::DataMut;
+use crate::base::writing::Loan;
 use crate::order::Order;
 use crate::places::indexed::IndexedPlaces;
 use std::marker::{Model, PhantomData};
 
 /// A region, and the index lists still to come, each beside the place of its cell. A clause sees these index lists,
-/// each beside its cell.
+/// each beside its cell, and the name of the loan that the cells are lent from.
 #[derive(Drop)]
 pub struct Places<'a, A, D: Lengths> {
     region: RegionRepr<Life<'a>, A>,
@@ -25,34 +29,38 @@ pub struct Places<'a, A, D: Lengths> {
 
 impl<'a, A, D: Lengths> Model for Places<'a, A, D> {
     ghost use Rattle.std.specs.Prelude.{ℕ, List};
+    ghost use Rattle.ndarray.specs.Writes.{Lent};
     ghost use Rattle.ndarray.specs.base.Slots.{held_at};
     ghost use Rattle.ndarray.specs.places.Lent.{with_elements, places_of, AreLentAt};
 
-    ghost Value = { List (List ℕ × A) };
+    ghost Value = { Lent (List ℕ × A) };
 
-    ghost view = { λ p. with_elements (held_at p.region.slots) p.indexed };
+    ghost view = { λ p. record { items = with_elements (held_at p.region.slots) p.indexed; loan = p.region.reborrow_name } };
 
     ghost invariant = { λ p. AreLentAt (held_at p.region.slots) (places_of p.indexed) };
 }
 
-impl<'a, A, D: Lengths> Places<'a, A, D> {
-    /// The cells of a view in row order.
-    pub(crate) fn new(view: ArrayViewMut<'a, A, D>) -> Self
-        ensures list { result ≡ zip (row_order view.entry.lengths) view.entry.cells }
-        ensures whole { IsGrid view.entry }
-        ensures limit { IsWithinLimit view.entry.lengths }
+impl<S: DataMut, D: Lengths> ArrayBase<S, D> {
+    /// The cells to write to, in row order, each beside its index list.
+    pub(crate) fn lent_places(&mut self) -> Places<'_, S::Elem, D>
+        ensures* writes_back { sem 𝓛 (keeps_lengths S.row D.row S.Elem.row S.Data D.Lengths self.entry result.loan) }
+        ensures list { result.items ≡ zip (row_order self.old.lengths) self.old.cells }
+        ensures whole { IsGrid self.old }
+        ensures limit { IsWithinLimit self.old.lengths }
     {
-        let ArrayBase { storage, layout } = view;
+        let Loan { region, layout } = self.loan();
         Places {
-            region: storage,
+            region,
             indexed: IndexedPlaces::new(layout, Order::RowMajor),
             lends: PhantomData,
         }
     }
+}
 
+impl<'a, A, D: Lengths> Places<'a, A, D> {
     /// How many cells are still to come.
     pub(crate) fn len(&self) -> usize
-        ensures { result ≡ length self.now }
+        ensures { result ≡ length self.now.items }
     {
         self.indexed.len()
     }
@@ -60,7 +68,7 @@ impl<'a, A, D: Lengths> Places<'a, A, D> {
     /// The next index list and its cell.
     #[inline(always)]
     pub(crate) fn next(&mut self) -> Option<(D, &'a mut A)>
-        ensures { YieldsFirstBy (λ item. (D.numbers item.0, item.1.now)) (λ rest. rest) self.old result self.new }
+        ensures { YieldsFirstBy (λ item. (D.numbers item.0, item.1.now)) (λ s. s.items) self.old result self.new }
     {
         let Some((index, place)) = self.indexed.next() else {
             return None;

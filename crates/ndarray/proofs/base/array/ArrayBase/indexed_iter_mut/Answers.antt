@@ -1,21 +1,18 @@
-use Rattle.std.proofs.Common.{◌≡◌, ◌∙◌, ap, subst}
-use Rattle.std.specs.Prelude.{zip}
-use Rattle.ndarray.specs.Grid.{IsGrid}
-use Rattle.ndarray.specs.Index.{row_order}
-use Rattle.ndarray.specs.Limits.{IsWithinLimit}
+use Rattle.std.proofs.Common.{refl}
 use Rattle.ndarray.proofs.cells.IndexedCells.{indexed-row_order, indexed-cells, indexed-own, indexed-fits}
 use Rattle.ndarray.proofs.base.array.ArrayBase.indexed_iter_mut.Goals as goal
 
 pub returns : goal.returns
 returns g c =
     let v = c.args.self.now in
-    let same = c.view_mut.ensures.same in
-    let whole = subst IsGrid same c.view_mut.ensures.whole in
-    let list : c.new.result ≡ zip (row_order v.lengths) v.cells = c.new.ensures.list ∙ ap (λ w. zip (row_order w.lengths) w.cells) same in
-    record {
-      row_order = indexed-row_order v whole _ list;
-      cells = indexed-cells v whole _ list;
-      list = list;
-      own_cells = indexed-own v whole _ list;
-      fits = indexed-fits v whole _ list (subst (λ w. IsWithinLimit w.lengths) same c.new.ensures.limit);
-    }
+    let e = c.lent_places.ensures in (
+      (refl, λ w. refl),
+      record {
+        writes_back = tt;
+        row_order = indexed-row_order v e.whole _ e.list;
+        cells = indexed-cells v e.whole _ e.list;
+        list = e.list;
+        own_cells = indexed-own v e.whole _ e.list;
+        fits = indexed-fits v e.whole _ e.list e.limit;
+      },
+    )

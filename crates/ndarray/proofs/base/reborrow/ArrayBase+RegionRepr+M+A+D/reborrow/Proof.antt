@@ -158,8 +158,8 @@ module _ (E : El) (P : Dm) (W : El) {M : Type 1} {𝓤 : Ura M} (𝓛 : Logic �
       use2 𝓛 (‵ (part_at (Rg a E) full_share rd rb ko)) (part_in 𝓛 (G-type.the_type a (R E)) full_share rd rb ko) $
       -- [the region; the layout; the way back; the open loan; obs; auth; the other tokens]
       move ! (3 ∷ 4 ∷ 5 ∷ 0 ∷ 1 ∷ 2 ∷ []) $ group ! 6 $
-      use1 𝓛 (later (some (λ (g : Got a E P 𝓛 κ inm q rb ro v d x.1.0 γ x.1.1 b o e). ‵ (fobs g.1.0 ((ScatteredElements (R E) g.1.1.0.0).coded.code (somes g.1.1.0.0))) ⊛ ‵ (fbor κ (Borrowed (ScatteredElements (R E) g.1.1.0.0) b o g.1.0)) ⊛ ‵ (flft κ q) ⊛ ‵ (follows (Ar a E P) (Ar a E P) γ g.0 (same_lens a E P 𝓛 κ inm q rb ro v d x.1.0)) ⊛ ‵ (fbor κ (LayAt a E P 𝓛 v rb ro)))))
-      (opens a E P 𝓛 κ inm q rb ro v d x.1.0 γ x.1.1 b o e) $ await ! tt $ pick ! (λ g. let ν = g.1.0 in let cs' = g.1.1.0.0 in split3 ! $ fjoin ! $
+      use1 𝓛 (later (some (λ (g : Got a E P 𝓛 κ inm q rb ro v d x.1.0 x.1.1 γ b o e). ‵ (fobs g.1.0 ((ScatteredElements (R E) g.1.1.0.0).coded.code (somes g.1.1.0.0))) ⊛ ‵ (fbor κ (Borrowed (ScatteredElements (R E) g.1.1.0.0) b o g.1.0)) ⊛ ‵ (flft κ q) ⊛ ‵ (follows (Ar a E P) (Ar a E P) γ g.0 (same_lens a E P 𝓛 κ inm q rb ro v d x.1.0 x.1.1)) ⊛ ‵ (fbor κ (LayAt a E P 𝓛 v rb ro)))))
+      (opens a E P 𝓛 κ inm q rb ro v d x.1.0 x.1.1 γ b o e) $ await ! tt $ pick ! (λ g. let ν = g.1.0 in let cs' = g.1.1.0.0 in split3 ! $ fjoin ! $
       flt_i ! (length cs' * (mem (R E)).size) (2 ^ 63) g.1.1.1.1 $ fjoin ! $ rewrite ! 0 (λ (p : Ptr). ‵ (region_owns κ (R E) p ν cs')) (sym e) refl $
       rewrite ! 0 (λ (k : Lft). ‵ (region_owns k (R E) rd.shared.ptr ν cs')) life refl $
       use0 𝓛 (‵ ((Words a' E).own_val (at_start E (block_ptr b o), (tt, tt)) (me ∷ []))) (words_new a' E 𝓛 b o) $ rewrite ! 0 (λ (p : Ptr). ‵ ((Words a' E).own_val (at_start E p, (tt, tt)) (me ∷ []))) (sym e) refl $ fjoin ! $

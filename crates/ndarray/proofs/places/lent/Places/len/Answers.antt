@@ -15,6 +15,6 @@ returns g c =
     let lists = length-map p.indexed (λ item. item.0) in
     let places = length-map p.indexed (λ item. item.1) in
     let z = length-zip (map (λ item. item.0) p.indexed) (filter_map at (places_of p.indexed)) in
-    let same = ap length c.self.view_is in
+    let same = ap (λ s. length s.items) c.self.view_is in
     let n = c.len.ensures in
     omega arith

@@ -20,6 +20,6 @@ returns g c =
     let p = c.self.inside in
     let at = held_at p.region.slots in
     let rest = c.next.new.self in
-    sym c.self.view_is
+    sym (ap (λ s. s.items) c.self.view_is)
     ∙ (ap (λ items. zip (map (λ item. item.0) items) (filter_map at (places_of p.indexed))) c.in-Some.ensures
     ∙ ap (zip (g.D.Lengths.numbers c.in-Some.index ∷ map (λ item. item.0) rest)) (found-first at _ c.in-Some.place c.take-cell.ensures.rest (places_of p.indexed) (places_of rest) c.take-cell.result.now c.self.invariant c.take-cell.ensures.value (ap places_of c.in-Some.ensures)))

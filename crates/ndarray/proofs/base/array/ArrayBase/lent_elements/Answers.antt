@@ -1,0 +1,42 @@
+use Rattle.std.proofs.Common.{◌∙◌, refl, ap, arith, length, subst, sym, filter_map}
+use Rattle.ndarray.specs.Grid.{IsGrid}
+use Rattle.ndarray.specs.Limits.{IsWithinLimit}
+use Rattle.ndarray.specs.Orders.{HasInOrder, box_in, cells_in}
+use Rattle.ndarray.specs.base.Slots.{held_at}
+use Rattle.ndarray.specs.declared.base.shape.Order.TheVariants.{RowMajor}
+use Rattle.ndarray.specs.places.Lent.{AreLentAt}
+use Rattle.ndarray.proofs.cells.Cells.{along-row_order, cells_in-HasInOrder, length-along}
+use Rattle.ndarray.proofs.moving.LentCells.{AreLentAt-all, found-all}
+use Rattle.ndarray.proofs.boxes.Orders.{box_in-within, length-box_in}
+use Rattle.ndarray.proofs.strides.Reach.{length-cells_at}
+use Rattle.ndarray.proofs.boxes.Sizes.{size-le}
+use Rattle.ndarray.proofs.base.array.ArrayBase.lent_elements.Goals as goal
+
+pub invariant_of-result : goal.invariant_of-result
+invariant_of-result g c =
+    let l = c.loan-region.result in
+    let axes = g.D.Lengths.numbers in
+    subst (AreLentAt (held_at l.region.slots)) (sym c.new.ensures) (AreLentAt-all (held_at l.region.slots) (axes l.layout.dim) l.layout.start (axes l.layout.strides) c.loan-region.ensures.reaches RowMajor)
+
+pub returns : goal.returns
+returns g c =
+    let a = c.args.self.now in
+    let l = c.loan-region.result in
+    let axes = g.D.Lengths.numbers in
+    let whole : IsGrid a = subst IsGrid c.loan-region.ensures.same (length-cells_at _ _ _ _ c.loan-region.ensures.reaches) in
+    let found = ap (filter_map (held_at l.region.slots)) c.new.ensures
+    ∙ (found-all (held_at l.region.slots) (axes l.layout.dim) l.layout.start (axes l.layout.strides) c.loan-region.ensures.reaches RowMajor
+    ∙ ap (cells_in RowMajor) c.loan-region.ensures.same) in
+    let e = ap length found in
+    let k = length-along a whole (box_in RowMajor a.lengths) (box_in-within RowMajor a.lengths) in
+    let n = length-box_in RowMajor a.lengths in
+    let s = size-le a.lengths in
+    let most : IsWithinLimit a.lengths = subst (λ w. IsWithinLimit w.lengths) c.loan-region.ensures.same c.loan-region.ensures.reaches.limit in (
+      (refl, λ w. refl),
+      record {
+        writes_back = tt;
+        row_order = subst (HasInOrder RowMajor a) (sym found) (cells_in-HasInOrder RowMajor a whole);
+        cells = found ∙ along-row_order a whole;
+        fits = omega arith;
+      },
+    )
