@@ -28,11 +28,11 @@ refit [] ys = []
 refit (x ∷ xs) [] = x ∷ xs
 refit (x ∷ xs) (y ∷ ys) = y ∷ refit xs ys
 
--- when the loan ends, the array has the lengths that it had, and as many cells
+-- when the borrow ends, the array has the lengths that it had, and as many cells
 abbrev pub keeps_lengths : (S D E : RattleType) (s : DataGhosts S.Denot E.Denot) (d : LengthsGhosts D.Denot) → MutBor (Grid E.Denot) → GName → Fml
 keeps_lengths S D E s d a γ = follows (the_row S D E s d) (the_row S D E s d) a.ghost_name γ (λ g. grid a.now.lengths (refit a.now.cells g.cells))
 
--- what is still to come of an iterator that lends, and the name of the loan
-pub record Lent (A : Type 0) : Type 0 where
+-- the items still to come of an iterator that writes, and the name of its borrow of the array
+pub record BorrowedItems (A : Type 0) : Type 0 where
   pub items : List A
-  pub loan : GName
+  pub borrow_name : GName

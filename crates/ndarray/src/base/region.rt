@@ -12,7 +12,7 @@ ghost use Rattle.ndarray.specs.base.Scattered.{region_owns, region_lent, shared_
 use crate::base::array::{ArrayBase, ArrayViewMut};
 use crate::base::dimension::Lengths;
 use crate::base::storage::{Data, DataMut, OwnedRepr, ViewRepr};
-use crate::base::writing::Loan;
+use crate::base::writing::RegionParts;
 use std::marker::{Model, PhantomData};
 use std::mem::replace;
 use std::slice;
@@ -203,10 +203,10 @@ impl<M, A> DataMut for RegionRepr<M, A> {
         ArrayBase { storage, layout }
     }
 
-    fn loan<D: Lengths>(array: &mut ArrayBase<Self, D>) -> Loan<'_, A, D> {
+    fn region_parts<D: Lengths>(array: &mut ArrayBase<Self, D>) -> RegionParts<'_, A, D> {
         let (layout, region) = array.reborrow();
         let layout = layout.copied();
-        Loan { region, layout }
+        RegionParts { region, layout }
     }
 
     ghost written_here = { λ r k w h. slot_set-here r.slots k w h };

@@ -9,7 +9,7 @@ ghost use Rattle.ndarray.specs.base.Storage.{owned_at, seen_at};
 use crate::base::array::{ArrayBase, ArrayViewMut};
 use crate::base::dimension::Lengths;
 use crate::base::region::SharedRegion;
-use crate::base::writing::Loan;
+use crate::base::writing::RegionParts;
 use std::alloc::AllocError;
 
 /// What an array keeps its elements in: elements by places, some of which may hold none.
@@ -69,7 +69,7 @@ pub trait DataMut: Data {
     /// The right to read and write the elements of an array, and how its cells lie among them.
     ///
     /// Once it has ended, the array has the lengths that it had, and as many cells.
-    fn loan<D: Lengths>(array: &mut ArrayBase<Self, D>) -> Loan<'_, Self::Elem, D>
+    fn region_parts<D: Lengths>(array: &mut ArrayBase<Self, D>) -> RegionParts<'_, Self::Elem, D>
         ensures* writes_back { sem 𝓛 (keeps_lengths Self.row D.row Self.Elem.row Self.Data D.Lengths array.entry result.region.reborrow_name) }
         ensures reaches { Reaches ⊤ (held_at result.region.slots) (D.numbers result.layout.dim) result.layout.start (D.numbers result.layout.strides) }
         ensures same { grid_at (held_at result.region.slots) (D.numbers result.layout.dim) result.layout.start (D.numbers result.layout.strides) ≡ array.old };
@@ -236,8 +236,8 @@ impl<A: Drop> DataMut for OwnedRepr<A> {
         array.parts_mut().into_view()
     }
 
-    fn loan<D: Lengths>(array: &mut ArrayBase<Self, D>) -> Loan<'_, A, D> {
-        array.owned_loan()
+    fn region_parts<D: Lengths>(array: &mut ArrayBase<Self, D>) -> RegionParts<'_, A, D> {
+        array.owned_region_parts()
     }
 
     fn write_cells<D: Lengths, R, W: CellWriter<A, R>>(

@@ -26,7 +26,7 @@ pub(crate) struct Parts<'a, A, D: Lengths> {
 
 /// A view to write in before it is one: the right to read and write the elements, and how the cells lie among them.
 #[derive(Drop)]
-pub struct Loan<'a, A, D: Lengths> {
+pub struct RegionParts<'a, A, D: Lengths> {
     pub(crate) region: RegionRepr<Life<'a>, A>,
     pub(crate) layout: Layout<D>,
 }
@@ -35,12 +35,12 @@ impl<A: Drop, D: Lengths> Array<A, D> {
     /// The right to read and write the elements, and how the cells lie among them.
     ///
     /// Once it has ended, the array has the lengths that it had, and as many cells.
-    pub(crate) fn owned_loan(&mut self) -> Loan<'_, A, D>
+    pub(crate) fn owned_region_parts(&mut self) -> RegionParts<'_, A, D>
         ensures* writes_back { sem 𝓛 (keeps_owned A.row D.row D.Lengths self.entry result.region.reborrow_name) }
         ensures reaches { Reaches ⊤ (held_at result.region.slots) (D.numbers result.layout.dim) result.layout.start (D.numbers result.layout.strides) }
         ensures same { grid_at (held_at result.region.slots) (D.numbers result.layout.dim) result.layout.start (D.numbers result.layout.strides) ≡ self.old }
     {
-        self.parts_mut().into_loan()
+        self.parts_mut().into_region_parts()
     }
 
     /// The elements of the array, and how its cells lie among them.
@@ -119,12 +119,12 @@ impl<S: DataMut, D: Lengths> ArrayBase<S, D> {
 
 impl<'a, A, D: Lengths> Parts<'a, A, D> {
     /// The right to read and write these elements, beside how the cells lie.
-    pub(crate) fn into_loan(self) -> Loan<'a, A, D>
+    pub(crate) fn into_region_parts(self) -> RegionParts<'a, A, D>
         ensures layout { result.layout ≡ self.entry.layout }
         ensures slots { result.region.slots ≡ map Some self.entry.slice.now }
     {
         let Parts { slice, layout } = self;
-        Loan {
+        RegionParts {
             region: RegionRepr::of(slice),
             layout,
         }
@@ -148,12 +148,12 @@ impl<S: DataMut, D: Lengths> ArrayBase<S, D> {
     /// The right to read and write the elements, and how the cells lie among them.
     ///
     /// Once it has ended, the array has the lengths that it had, and as many cells.
-    pub(crate) fn loan(&mut self) -> Loan<'_, S::Elem, D>
+    pub(crate) fn region_parts(&mut self) -> RegionParts<'_, S::Elem, D>
         ensures* writes_back { sem 𝓛 (keeps_lengths S.row D.row S.Elem.row S.Data D.Lengths self.entry result.region.reborrow_name) }
         ensures reaches { Reaches ⊤ (held_at result.region.slots) (D.numbers result.layout.dim) result.layout.start (D.numbers result.layout.strides) }
         ensures same { grid_at (held_at result.region.slots) (D.numbers result.layout.dim) result.layout.start (D.numbers result.layout.strides) ≡ self.old }
     {
-        S::loan(self)
+        S::region_parts(self)
     }
 
     /// A view to write in, of the same lengths and cells.

@@ -28,9 +28,9 @@ pub struct IterMut<'a, A, D: Lengths> {
 
 impl<'a, A, D: Lengths> Model for IterMut<'a, A, D> {
     ghost use Rattle.std.specs.Prelude.{⊤};
-    ghost use Rattle.ndarray.specs.Writes.{Lent};
+    ghost use Rattle.ndarray.specs.Writes.{BorrowedItems};
 
-    ghost Value = { Lent A };
+    ghost Value = { BorrowedItems A };
 
     ghost view = { λ s. s.elements };
 
@@ -46,7 +46,7 @@ impl<S: DataMut, D: Lengths> ArrayBase<S, D> {
     /// }
     /// ```
     pub fn iter_mut(&mut self) -> IterMut<'_, S::Elem, D>
-        ensures* writes_back { sem 𝓛 (keeps_lengths S.row D.row S.Elem.row S.Data D.Lengths self.entry result.loan) }
+        ensures* writes_back { sem 𝓛 (keeps_lengths S.row D.row S.Elem.row S.Data D.Lengths self.entry result.borrow_name) }
         ensures row_order { HasInOrder RowMajor self.old result.items }
         ensures cells { result.items ≡ self.old.cells }
         ensures fits { length result.items < 2 ^ 63 }
@@ -102,9 +102,9 @@ pub struct IndexedIterMut<'a, A, D: Lengths> {
 
 impl<'a, A, D: Lengths> Model for IndexedIterMut<'a, A, D> {
     ghost use Rattle.std.specs.Prelude.{ℕ, List, ⊤};
-    ghost use Rattle.ndarray.specs.Writes.{Lent};
+    ghost use Rattle.ndarray.specs.Writes.{BorrowedItems};
 
-    ghost Value = { Lent (List ℕ × A) };
+    ghost Value = { BorrowedItems (List ℕ × A) };
 
     ghost view = { λ s. s.places };
 
@@ -121,7 +121,7 @@ impl<S: DataMut, D: Dimension> ArrayBase<S, D> {
     /// }
     /// ```
     pub fn indexed_iter_mut(&mut self) -> IndexedIterMut<'_, S::Elem, D>
-        ensures* writes_back { sem 𝓛 (keeps_lengths S.row D.row S.Elem.row S.Data D.Lengths self.entry result.loan) }
+        ensures* writes_back { sem 𝓛 (keeps_lengths S.row D.row S.Elem.row S.Data D.Lengths self.entry result.borrow_name) }
         ensures row_order { IsRowOrder self.old.lengths (map (λ item. item.0) result.items) }
         ensures cells { map (λ item. item.1) result.items ≡ self.old.cells }
         ensures list { result.items ≡ zip (row_order self.old.lengths) self.old.cells }
@@ -180,7 +180,7 @@ where
     ghost into_iter_gives = { λ a it. (it.items ≡ a.now.cells) × (length it.items < 2 ^ 63) };
 
     fn into_iter(self) -> IterMut<'a, S::Elem, D>
-        ensures* writes_back { sem 𝓛 (keeps_lengths S.row D.row S.Elem.row S.Data D.Lengths self.entry result.loan) }
+        ensures* writes_back { sem 𝓛 (keeps_lengths S.row D.row S.Elem.row S.Data D.Lengths self.entry result.borrow_name) }
     {
         self.iter_mut()
     }

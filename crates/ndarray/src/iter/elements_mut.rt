@@ -13,14 +13,14 @@ use crate::base::array::{ArrayBase, ArrayViewMut};
 use crate::base::dimension::{Ix1, Lengths};
 use crate::base::region::{Life, RegionRepr};
 use crate::base::storage::DataMut;
-use crate::base::writing::Loan;
+use crate::base::writing::RegionParts;
 use crate::order::Order;
 use crate::places::strided::StridedPlaces;
 use std::iter::ExactSizeIterator;
 use std::marker::{Model, PhantomData};
 
-/// The cells that are still to come of an array to write in, in row order: a clause sees them, and the name of the
-/// loan that they are lent from.
+/// The cells that are still to come of an array to write in, in row order: a clause sees them, and the name of the borrow
+/// of the array.
 ///
 /// An iterator allocates nothing, and neither does any of its steps.
 #[derive(Drop)]
@@ -33,13 +33,13 @@ pub struct LentElements<'a, A, D: Lengths> {
 
 impl<'a, A, D: Lengths> Model for LentElements<'a, A, D> {
     ghost use Rattle.std.specs.Prelude.{filter_map};
-    ghost use Rattle.ndarray.specs.Writes.{Lent};
+    ghost use Rattle.ndarray.specs.Writes.{BorrowedItems};
     ghost use Rattle.ndarray.specs.base.Slots.{held_at};
     ghost use Rattle.ndarray.specs.places.Lent.{AreLentAt};
 
-    ghost Value = { Lent A };
+    ghost Value = { BorrowedItems A };
 
-    ghost view = { λ s. record { items = filter_map (held_at s.region.slots) s.places; loan = s.region.reborrow_name } };
+    ghost view = { λ s. record { items = filter_map (held_at s.region.slots) s.places; borrow_name = s.region.reborrow_name } };
 
     ghost invariant = { λ s. AreLentAt (held_at s.region.slots) s.places };
 }
@@ -73,12 +73,12 @@ impl<'a, A, D: Lengths> LentElements<'a, A, D> {
 impl<S: DataMut, D: Lengths> ArrayBase<S, D> {
     /// The cells to write to, in row order, whatever the strides.
     pub(crate) fn lent_elements(&mut self) -> LentElements<'_, S::Elem, D>
-        ensures* writes_back { sem 𝓛 (keeps_lengths S.row D.row S.Elem.row S.Data D.Lengths self.entry result.loan) }
+        ensures* writes_back { sem 𝓛 (keeps_lengths S.row D.row S.Elem.row S.Data D.Lengths self.entry result.borrow_name) }
         ensures row_order { HasInOrder RowMajor self.old result.items }
         ensures cells { result.items ≡ self.old.cells }
         ensures fits { length result.items < 2 ^ 63 }
     {
-        let Loan { region, layout } = self.loan();
+        let RegionParts { region, layout } = self.region_parts();
         LentElements {
             region,
             places: StridedPlaces::new(layout, Order::RowMajor),

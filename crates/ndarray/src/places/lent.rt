@@ -12,13 +12,13 @@ use crate::base::array::ArrayBase;
 use crate::base::dimension::Lengths;
 use crate::base::region::{Life, RegionRepr};
 use crate::base::storage::DataMut;
-use crate::base::writing::Loan;
+use crate::base::writing::RegionParts;
 use crate::order::Order;
 use crate::places::indexed::IndexedPlaces;
 use std::marker::{Model, PhantomData};
 
 /// A region, and the index lists still to come, each beside the place of its cell. A clause sees these index lists,
-/// each beside its cell, and the name of the loan that the cells are lent from.
+/// each beside its cell, and the name of the borrow of the array.
 #[derive(Drop)]
 pub struct Places<'a, A, D: Lengths> {
     region: RegionRepr<Life<'a>, A>,
@@ -29,13 +29,13 @@ pub struct Places<'a, A, D: Lengths> {
 
 impl<'a, A, D: Lengths> Model for Places<'a, A, D> {
     ghost use Rattle.std.specs.Prelude.{ℕ, List};
-    ghost use Rattle.ndarray.specs.Writes.{Lent};
+    ghost use Rattle.ndarray.specs.Writes.{BorrowedItems};
     ghost use Rattle.ndarray.specs.base.Slots.{held_at};
     ghost use Rattle.ndarray.specs.places.Lent.{with_elements, places_of, AreLentAt};
 
-    ghost Value = { Lent (List ℕ × A) };
+    ghost Value = { BorrowedItems (List ℕ × A) };
 
-    ghost view = { λ p. record { items = with_elements (held_at p.region.slots) p.indexed; loan = p.region.reborrow_name } };
+    ghost view = { λ p. record { items = with_elements (held_at p.region.slots) p.indexed; borrow_name = p.region.reborrow_name } };
 
     ghost invariant = { λ p. AreLentAt (held_at p.region.slots) (places_of p.indexed) };
 }
@@ -43,12 +43,12 @@ impl<'a, A, D: Lengths> Model for Places<'a, A, D> {
 impl<S: DataMut, D: Lengths> ArrayBase<S, D> {
     /// The cells to write to, in row order, each beside its index list.
     pub(crate) fn lent_places(&mut self) -> Places<'_, S::Elem, D>
-        ensures* writes_back { sem 𝓛 (keeps_lengths S.row D.row S.Elem.row S.Data D.Lengths self.entry result.loan) }
+        ensures* writes_back { sem 𝓛 (keeps_lengths S.row D.row S.Elem.row S.Data D.Lengths self.entry result.borrow_name) }
         ensures list { result.items ≡ zip (row_order self.old.lengths) self.old.cells }
         ensures whole { IsGrid self.old }
         ensures limit { IsWithinLimit self.old.lengths }
     {
-        let Loan { region, layout } = self.loan();
+        let RegionParts { region, layout } = self.region_parts();
         Places {
             region,
             indexed: IndexedPlaces::new(layout, Order::RowMajor),

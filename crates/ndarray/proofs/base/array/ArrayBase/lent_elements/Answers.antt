@@ -14,24 +14,24 @@ use Rattle.ndarray.proofs.base.array.ArrayBase.lent_elements.Goals as goal
 
 pub invariant_of-result : goal.invariant_of-result
 invariant_of-result g c =
-    let l = c.loan-region.result in
+    let l = c.region_parts-region.result in
     let axes = g.D.Lengths.numbers in
-    subst (AreLentAt (held_at l.region.slots)) (sym c.new.ensures) (AreLentAt-all (held_at l.region.slots) (axes l.layout.dim) l.layout.start (axes l.layout.strides) c.loan-region.ensures.reaches RowMajor)
+    subst (AreLentAt (held_at l.region.slots)) (sym c.new.ensures) (AreLentAt-all (held_at l.region.slots) (axes l.layout.dim) l.layout.start (axes l.layout.strides) c.region_parts-region.ensures.reaches RowMajor)
 
 pub returns : goal.returns
 returns g c =
     let a = c.args.self.now in
-    let l = c.loan-region.result in
+    let l = c.region_parts-region.result in
     let axes = g.D.Lengths.numbers in
-    let whole : IsGrid a = subst IsGrid c.loan-region.ensures.same (length-cells_at _ _ _ _ c.loan-region.ensures.reaches) in
+    let whole : IsGrid a = subst IsGrid c.region_parts-region.ensures.same (length-cells_at _ _ _ _ c.region_parts-region.ensures.reaches) in
     let found = ap (filter_map (held_at l.region.slots)) c.new.ensures
-    ∙ (found-all (held_at l.region.slots) (axes l.layout.dim) l.layout.start (axes l.layout.strides) c.loan-region.ensures.reaches RowMajor
-    ∙ ap (cells_in RowMajor) c.loan-region.ensures.same) in
+    ∙ (found-all (held_at l.region.slots) (axes l.layout.dim) l.layout.start (axes l.layout.strides) c.region_parts-region.ensures.reaches RowMajor
+    ∙ ap (cells_in RowMajor) c.region_parts-region.ensures.same) in
     let e = ap length found in
     let k = length-along a whole (box_in RowMajor a.lengths) (box_in-within RowMajor a.lengths) in
     let n = length-box_in RowMajor a.lengths in
     let s = size-le a.lengths in
-    let most : IsWithinLimit a.lengths = subst (λ w. IsWithinLimit w.lengths) c.loan-region.ensures.same c.loan-region.ensures.reaches.limit in (
+    let most : IsWithinLimit a.lengths = subst (λ w. IsWithinLimit w.lengths) c.region_parts-region.ensures.same c.region_parts-region.ensures.reaches.limit in (
       (refl, λ w. refl),
       record {
         writes_back = tt;

@@ -14,27 +14,27 @@ use Rattle.ndarray.proofs.base.array.ArrayBase.lent_places.Goals as goal
 pub invariant_of-result : goal.invariant_of-result
 invariant_of-result g c =
     let axes = g.D.Lengths.numbers in
-    let l = c.loan-region.result in
+    let l = c.region_parts-region.result in
     let at = held_at l.region.slots in
     let ns = axes l.layout.dim in
     let bs = axes l.layout.strides in
-    subst (AreLentAt at) (sym (ap places_of c.new.ensures ∙ with_places-places l.layout.start bs (row_order ns))) (AreLentAt-all at ns l.layout.start bs c.loan-region.ensures.reaches RowMajor)
+    subst (AreLentAt at) (sym (ap places_of c.new.ensures ∙ with_places-places l.layout.start bs (row_order ns))) (AreLentAt-all at ns l.layout.start bs c.region_parts-region.ensures.reaches RowMajor)
 
 pub returns : goal.returns
 returns g c =
     let axes = g.D.Lengths.numbers in
-    let l = c.loan-region.result in
+    let l = c.region_parts-region.result in
     let at = held_at l.region.slots in
     let a = c.args.self.now in
-    let whole : IsGrid a = subst IsGrid c.loan-region.ensures.same (length-cells_at _ _ _ _ c.loan-region.ensures.reaches) in (
+    let whole : IsGrid a = subst IsGrid c.region_parts-region.ensures.same (length-cells_at _ _ _ _ c.region_parts-region.ensures.reaches) in (
       (refl, λ w. refl),
       record {
         writes_back = tt;
         list = ap (with_elements at) c.new.ensures
-            ∙ (with_elements-all at (axes l.layout.dim) l.layout.start (axes l.layout.strides) c.loan-region.ensures.reaches RowMajor
-            ∙ (ap (λ w. zip (row_order w.lengths) (cells_in RowMajor w)) c.loan-region.ensures.same
+            ∙ (with_elements-all at (axes l.layout.dim) l.layout.start (axes l.layout.strides) c.region_parts-region.ensures.reaches RowMajor
+            ∙ (ap (λ w. zip (row_order w.lengths) (cells_in RowMajor w)) c.region_parts-region.ensures.same
             ∙ ap (zip (row_order a.lengths)) (along-row_order a whole)));
         whole = whole;
-        limit = subst (λ w. IsWithinLimit w.lengths) c.loan-region.ensures.same c.loan-region.ensures.reaches.limit;
+        limit = subst (λ w. IsWithinLimit w.lengths) c.region_parts-region.ensures.same c.region_parts-region.ensures.reaches.limit;
       },
     )

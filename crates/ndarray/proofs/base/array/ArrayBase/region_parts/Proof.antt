@@ -1,4 +1,4 @@
--- `loan` passes on what the storage's own `loan` gives. Assumes `Logic`.
+-- `region_parts` passes on what the storage's own `region_parts` gives. Assumes `Logic`.
 use mathlib.Core.Path.{◌≡◌, refl, sym, subst}
 use Prim.Native.Nat.{ℕ}
 use mathlib.Core.List.{List, [], ◌∷◌, ◌++◌}
@@ -47,15 +47,15 @@ use Rattle.ndarray.specs.base.Slots.{held_at}
 use Rattle.ndarray.specs.declared.base.storage.Data as Data
 use Rattle.ndarray.specs.declared.base.storage.DataMut as DataMut
 use Rattle.ndarray.specs.contracts.base.array.ArrayBase as A-type
-use Rattle.ndarray.specs.contracts.base.writing.Loan as L-type
-use Rattle.ndarray.specs.contracts.base.storage.DataMut.loan as F₁
-use Rattle.ndarray.proofs.base.writing.Loan.TheLaws as L-laws
+use Rattle.ndarray.specs.contracts.base.writing.RegionParts as L-type
+use Rattle.ndarray.specs.contracts.base.storage.DataMut.region_parts as F₁
+use Rattle.ndarray.proofs.base.writing.RegionParts.TheLaws as L-laws
 use Rattle.ndarray.proofs.regions.Memory.{says_both}
 use Rattle.ndarray.proofs.regions.ReborrowedViews.{Dm}
-use Rattle.ndarray.specs.contracts.base.array.ArrayBase.loan as F
-use Rattle.ndarray.specs.contracts.base.array.ArrayBase.loan.Key.{name as #self}
-use Rattle.ndarray.proofs.base.array.ArrayBase.loan.Statement as stated
-use Rattle.ndarray.proofs.base.array.ArrayBase.loan.Code as code
+use Rattle.ndarray.specs.contracts.base.array.ArrayBase.region_parts as F
+use Rattle.ndarray.specs.contracts.base.array.ArrayBase.region_parts.Key.{name as #self}
+use Rattle.ndarray.proofs.base.array.ArrayBase.region_parts.Statement as stated
+use Rattle.ndarray.proofs.base.array.ArrayBase.region_parts.Code as code
 
 -- a storage that may be written to, as the walk of a generic function knows it: its type, that of its elements, what the traits say of it, and their tables
 record St : Type 2 where
@@ -196,11 +196,11 @@ module _ (Z : St) (P : Dm) {M : Type 1} {𝓤 : Ura M} (𝓛 : Logic 𝓤) (at_m
       move ! (1 ∷ []) $ split3 ! $ heard ! (κs.1.0 ⊑ Z.S.row.lives) (λ inS. heard ! (κs.1.1.0 ⊑ P.row.lives) (λ inD. cut_item ! $ heard ! (κs.1.1.1.0 ⊑ Z.X.row.lives) (λ inX. drop ! $
       by ! (entry go₁ z inS inD inX z.0.4.0)))))
 
-pub loan_spec : {M : Type 1} → stated.statement M
+pub region_parts_spec : {M : Type 1} → stated.statement M
 unfolding tables_of
-loan_spec 𝓤 𝓛 𝓜 𝓡 wired S D X LS LD LX gM dM gA dA gD dD dS dE metM metA metL mS mD =
+region_parts_spec 𝓤 𝓛 𝓜 𝓡 wired S D X LS LD LX gM dM gA dA gD dD dS dE metM metA metL mS mD =
     let Z : St = record { S = record { row = S; laws = LS }; X = record { row = X; laws = LX }; gM = gM; dM = dM; gA = gA; dA = dA; drops = dS } in
     let P : Dm = record { row = D; laws = LD; g = gD; d = dD; drops = dE } in
     let 𝓣 : Tables 𝓤 𝓛.H = tables_of 𝓤 𝓛.H 𝓜 (tables 𝓤 𝓛.H 𝓜 𝓡 𝓡.env) in
     entered 𝓤 𝓛.H (triple_of 𝓛 (end Z P).signature (closing 𝓛 (end Z P) (F.clauses S D X gM dM gA dA gD dD dS dE 𝓛 𝓜.mem 𝓡.returns))) 𝓣.C 𝓣.Λ (#self (args Z P)) (function Z P) (code.unfolded 𝓤 𝓛.H 𝓜 𝓡 wired (S, (D, (X, tt))) dM dA dD dS dE)
-    (meets Z P 𝓛 𝓜.mem 𝓡.returns 𝓣 (metM.loan dS D LD gD dD dE metL mD))
+    (meets Z P 𝓛 𝓜.mem 𝓡.returns 𝓣 (metM.region_parts dS D LD gD dD dE metL mD))

@@ -1,4 +1,4 @@
--- `owned_loan` has the elements from `parts_mut`, and names their loan by the array that they make. Assumes `Logic`.
+-- `owned_region_parts` has the elements from `parts_mut`, and names their loan by the array that they make. Assumes `Logic`.
 use mathlib.Core.Path.{◌≡◌, refl, sym, ap, subst, ◌∙◌}
 use Prim.Native.Nat.{ℕ}
 use mathlib.Core.List.{List, [], ◌∷◌, ◌++◌, map}
@@ -59,9 +59,9 @@ use Rattle.ndarray.specs.contracts.base.array.ArrayBase as A-type
 use Rattle.ndarray.specs.contracts.base.storage.OwnedRepr as O-type
 use Rattle.ndarray.specs.contracts.base.storage.OwnedReprData.TheImpl as impl
 use Rattle.ndarray.specs.contracts.base.writing.Parts as P-type
-use Rattle.ndarray.specs.contracts.base.writing.Loan as L-type
+use Rattle.ndarray.specs.contracts.base.writing.RegionParts as L-type
 use Rattle.ndarray.proofs.base.writing.Parts.TheLaws as P-laws
-use Rattle.ndarray.proofs.base.writing.Loan.TheLaws as L-laws
+use Rattle.ndarray.proofs.base.writing.RegionParts.TheLaws as L-laws
 use Rattle.ndarray.proofs.regions.Memory.{says_both}
 use Rattle.ndarray.proofs.regions.OwnedLoans.{told, tells, told-again, cells-told_at}
 use Rattle.ndarray.proofs.regions.ReborrowedViews.{Dm}
@@ -70,13 +70,13 @@ use Rattle.ndarray.proofs.strides.Reach.{grid_at-same, Reaches-same}
 use Rattle.ndarray.specs.contracts.base.writing.Array+A+D.parts_mut as F₁
 use Rattle.ndarray.specs.contracts.base.writing.Array+A+D.parts_mut.Key.{name as #parts_mut}
 use Rattle.ndarray.proofs.base.writing.Array+A+D.parts_mut.Met as met₁
-use Rattle.ndarray.specs.contracts.base.writing.Parts.into_loan as F₂
-use Rattle.ndarray.specs.contracts.base.writing.Parts.into_loan.Key.{name as #into_loan}
-use Rattle.ndarray.proofs.base.writing.Parts.into_loan.Met as met₂
-use Rattle.ndarray.specs.contracts.base.writing.Array+A+D.owned_loan as F
-use Rattle.ndarray.specs.contracts.base.writing.Array+A+D.owned_loan.Key.{name as #self}
-use Rattle.ndarray.proofs.base.writing.Array+A+D.owned_loan.Statement as stated
-use Rattle.ndarray.proofs.base.writing.Array+A+D.owned_loan.Code as code
+use Rattle.ndarray.specs.contracts.base.writing.Parts.into_region_parts as F₂
+use Rattle.ndarray.specs.contracts.base.writing.Parts.into_region_parts.Key.{name as #into_region_parts}
+use Rattle.ndarray.proofs.base.writing.Parts.into_region_parts.Met as met₂
+use Rattle.ndarray.specs.contracts.base.writing.Array+A+D.owned_region_parts as F
+use Rattle.ndarray.specs.contracts.base.writing.Array+A+D.owned_region_parts.Key.{name as #self}
+use Rattle.ndarray.proofs.base.writing.Array+A+D.owned_region_parts.Statement as stated
+use Rattle.ndarray.proofs.base.writing.Array+A+D.owned_region_parts.Code as code
 
 module _ (E : El) (P : Dm) (dA : Dict) where
   abbrev args : Args
@@ -118,7 +118,7 @@ module _ (E : El) (P : Dm) (dA : Dict) {M : Type 1} {𝓤 : Ura M} (𝓛 : Logic
   abbrev G₂ : Contract 𝓤
   G₂ = triple_of 𝓛 (end₂ E P dA).signature (F₂.spec E.row P.row P.g P.d P.drops 𝓛 at_mem run)
 
-  module _ (go₁ : Triple 𝓤 (𝓣.C (#parts_mut (args E P dA))) G₁) (go₂ : Triple 𝓤 (𝓣.C (#into_loan (args₂ E P dA))) G₂)
+  module _ (go₁ : Triple 𝓤 (𝓣.C (#parts_mut (args E P dA))) G₁) (go₂ : Triple 𝓤 (𝓣.C (#into_region_parts (args₂ E P dA))) G₂)
       (z : (walk_of 𝓛 (end E P dA) (stayed E P dA) spec).Ghost) (inA : z.0.0.1.0 ⊑ E.row.lives) (inD : z.0.0.1.1.0 ⊑ P.row.lives) where
     abbrev κ : Lft
     κ = z.0.0.0
@@ -269,7 +269,7 @@ module _ (E : El) (P : Dm) (dA : Dict) {M : Type 1} {𝓤 : Ura M} (𝓛 : Logic
         cut_item ! $ move ! (2 ∷ []) $ fsplit ! $ fsplit3 ! $ feq_l ! (λ e. keep ! (0 ∷ 1 ∷ 3 ∷ 4 ∷ []) $
         by ! (subst (λ (ws : List Val). ent 𝓤 (⋆ 𝓛 Had) (WpFn 𝓤 H 𝓣.C 𝓣.Λ (function E P dA) (ws ++ []) (Post ws))) (sym e) walk))
 
-  meets : (go₁ : Triple 𝓤 (𝓣.C (#parts_mut (args E P dA))) G₁) (go₂ : Triple 𝓤 (𝓣.C (#into_loan (args₂ E P dA))) G₂) → Meets 𝓛 (end E P dA).signature (WpFn 𝓤 H 𝓣.C 𝓣.Λ (function E P dA)) (closing 𝓛 (end E P dA) spec)
+  meets : (go₁ : Triple 𝓤 (𝓣.C (#parts_mut (args E P dA))) G₁) (go₂ : Triple 𝓤 (𝓣.C (#into_region_parts (args₂ E P dA))) G₂) → Meets 𝓛 (end E P dA).signature (WpFn 𝓤 H 𝓣.C 𝓣.Λ (function E P dA)) (closing 𝓛 (end E P dA) spec)
   meets go₁ go₂ =
       walk_Meets 𝓛 (end E P dA) (stayed E P dA) (Goes-spent_ref 𝓛 3 (0 ∷ []) tt (plain (λ _. Ar E P dA)), tt)
       spec (WpFn 𝓤 H 𝓣.C 𝓣.Λ (function E P dA)) (WpFn-mono 𝓤 H 𝓛.laws 𝓣 (function E P dA))
@@ -278,13 +278,13 @@ module _ (E : El) (P : Dm) (dA : Dict) {M : Type 1} {𝓤 : Ura M} (𝓛 : Logic
       move ! (1 ∷ []) $ split3 ! $ heard ! (κs.1.0 ⊑ E.row.lives) (λ inA. heard ! (κs.1.1.0 ⊑ P.row.lives) (λ inD. drop ! $
       by ! (entry go₁ go₂ z inA inD z.0.4.0))))
 
-pub owned_loan_spec : {M : Type 1} → stated.statement M
+pub owned_region_parts_spec : {M : Type 1} → stated.statement M
 unfolding tables_of
-owned_loan_spec 𝓤 𝓛 𝓜 𝓡 wired X Y LX LY g d dA dd met mA md =
+owned_region_parts_spec 𝓤 𝓛 𝓜 𝓡 wired X Y LX LY g d dA dd met mA md =
     let E : El = record { row = X; laws = LX } in
     let P : Dm = record { row = Y; laws = LY; g = g; d = d; drops = dd } in
     let 𝓣 : Tables 𝓤 𝓛.H = tables_of 𝓤 𝓛.H 𝓜 (tables 𝓤 𝓛.H 𝓜 𝓡 𝓡.env) in
     entered 𝓤 𝓛.H (triple_of 𝓛 (end E P dA).signature (closing 𝓛 (end E P dA) (F.clauses X Y g d dA dd 𝓛 𝓜.mem 𝓡.returns))) 𝓣.C 𝓣.Λ (#self (args E P dA)) (function E P dA) (code.unfolded 𝓤 𝓛.H 𝓜 𝓡 wired (X, (Y, tt)) d dA dd)
     (meets E P dA 𝓛 𝓜.mem 𝓡.returns 𝓣
     (met₁.met 𝓤 𝓛 𝓜 𝓡 (code.calls-ndarray::base::writing::Array+A+D::parts_mut 𝓡.env wired) X Y LX LY g d dA dd met mA md)
-    (met₂.met 𝓤 𝓛 𝓜 𝓡 (code.calls-ndarray::base::writing::Parts::into_loan 𝓡.env wired) X Y LX LY g d dd met md))
+    (met₂.met 𝓤 𝓛 𝓜 𝓡 (code.calls-ndarray::base::writing::Parts::into_region_parts 𝓡.env wired) X Y LX LY g d dd met md))
