@@ -21,8 +21,8 @@ use crate::residue::Residue;
 use ndarray::linalg::{dot_ok, general_mat_vec_mul, mat_vec_ok};
 use ndarray::reduce::dot_fits;
 use ndarray::{
-    Array, ArrayBase, ArrayView, Axis, Data, DimMax, Ix1, Ix2, Lengths, StackError, Valued, Zip,
-    concatenate, scalar_left, stack,
+    Array, ArrayBase, ArrayView, Axis, Data, DataMut, DimMax, Ix1, Ix2, Lengths, StackError,
+    Valued, Zip, concatenate, scalar_left, stack,
 };
 use num_traits::{One, Zero};
 use std::alloc::{AllocError, Global};
@@ -35,6 +35,15 @@ pub fn halve<S: Data<Elem = u64>, D: Lengths>(
     ensures { IfOk result (λ b. b ≡ arranged a.now.lengths (half_at a.now)) }
 {
     Zip::from(a).map_collect(alloc, |x| *x / 2)
+}
+
+/// Halves each cell, rounded down, whatever keeps the cells and however they lie. The array keeps its lengths.
+pub fn halve_in_place<S: DataMut<Elem = u64>, D: Lengths>(a: &mut ArrayBase<S, D>)
+    ensures { a.new.lengths ≡ a.old.lengths }
+{
+    for x in a.iter_mut() {
+        *x /= 2;
+    }
 }
 
 /// Whether each cell fits a byte.

@@ -181,6 +181,7 @@ where
 
     fn into_iter(self) -> IterMut<'a, S::Elem, D>
         ensures* writes_back { sem 𝓛 (keeps_lengths S.row D.row S.Elem.row S.Data D.Lengths self.entry result.borrow_name) }
+        ensures gives { (result.items ≡ self.old.cells) × (length result.items < 2 ^ 63) }
     {
         self.iter_mut()
     }
