@@ -11,3 +11,4 @@ pub mod Products
 pub mod RowOrder
 pub mod Testing
 pub mod Triangles
+pub mod Writing

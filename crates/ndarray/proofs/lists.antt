@@ -7,3 +7,4 @@ pub mod Elements
 pub mod Pairs
 pub mod Permutations
 pub mod Prefixes
+pub mod Refits

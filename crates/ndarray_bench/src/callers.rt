@@ -37,9 +37,10 @@ pub fn halve<S: Data<Elem = u64>, D: Lengths>(
     Zip::from(a).map_collect(alloc, |x| *x / 2)
 }
 
-/// Halves each cell, rounded down, whatever keeps the cells and however they lie. The array keeps its lengths.
+/// Halves each cell, rounded down, whatever keeps the cells and however they lie. The array keeps its lengths, and as many cells.
 pub fn halve_in_place<S: DataMut<Elem = u64>, D: Lengths>(a: &mut ArrayBase<S, D>)
-    ensures { a.new.lengths ≡ a.old.lengths }
+    ensures lengths { a.new.lengths ≡ a.old.lengths }
+    ensures whole { IsGrid a.old → IsGrid a.new }
 {
     for x in a.iter_mut() {
         *x /= 2;

@@ -14,27 +14,11 @@ use Rattle.ndarray.specs.declared.base.shape.Order.TheVariants.{RowMajor}
 use Rattle.ndarray.specs.places.Lent.{AreLentAt}
 use Rattle.ndarray.proofs.lists.Elements.{some-of}
 use Rattle.ndarray.proofs.lists.Pairs.{AllPairs-tail}
+use Rattle.ndarray.proofs.lists.Refits.{length-refit, refit-all, refit-front}
 use Rattle.ndarray.proofs.moving.LentCells.{AreLentAt-all}
 use Rattle.ndarray.proofs.strides.Reach.{length-cells_at}
 use Rattle.ndarray.proofs.boxes.Orders.{length-row_order}
 use Rattle.ndarray.specs.Index.{row_order}
-
-pub length-refit : {A : Type 0} (xs ys : List A) → length (refit xs ys) ≡ length xs
-length-refit [] ys = refl
-length-refit (x ∷ xs) [] = refl
-length-refit (x ∷ xs) (y ∷ ys) = ap suc (length-refit xs ys)
-
-pub refit-front : {A : Type 0} (xs ys zs : List A) → length ys ≡ length xs → refit xs (ys ++ zs) ≡ ys
-refit-front [] [] zs l = refl
-refit-front [] (y ∷ ys) zs l = absurd (omega arith)
-refit-front (x ∷ xs) [] zs l = absurd (omega arith)
-refit-front (x ∷ xs) (y ∷ ys) zs l = ap (λ l. y ∷ l) (refit-front xs ys zs (omega arith))
-
-pub refit-all : {A : Type 0} (xs ys : List A) → length ys ≡ length xs → refit xs ys ≡ ys
-refit-all [] [] l = refl
-refit-all [] (y ∷ ys) l = absurd (omega arith)
-refit-all (x ∷ xs) [] l = absurd (omega arith)
-refit-all (x ∷ xs) (y ∷ ys) l = ap (λ l. y ∷ l) (refit-all xs ys (omega arith))
 
 -- ys at the places, where ws lay
 abbrev pub put_at : {A : Type 0} → List ℕ → List A → List A → List A

@@ -54,7 +54,7 @@ use types.Kit.{fpick, fpack, feq_i, feq_l}
 use base.Fml.{fex, feq}
 use Rattle.ndarray.specs.Grid.{grid}
 use Rattle.ndarray.specs.Writes.{refit}
-use Rattle.ndarray.proofs.regions.OwnedLoans.{refit-all}
+use Rattle.ndarray.proofs.lists.Refits.{refit-all}
 use Rattle.ndarray.proofs.strides.Reach.{length-cells_at}
 
 -- a type of lengths, as the walk of a generic function knows it
