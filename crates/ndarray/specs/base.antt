@@ -7,6 +7,7 @@ pub mod Laws
 pub mod Nested
 pub mod Reborrow
 pub mod Parts
+pub mod RegionParts
 pub mod PlaceMap
 pub mod Places
 pub mod Ranks

@@ -6,22 +6,22 @@ ghost use Rattle.std.specs.Iterator.SizeHint.{IsExactHint, IsWithinCount};
 ghost use Rattle.ndarray.specs.Orders.{HasInOrder};
 ghost use Rattle.ndarray.specs.declared.base.shape.Order.TheVariants.{RowMajor};
 
-pub mod cells_mut;
 pub mod collected;
 pub mod elements;
 pub mod elements_mut;
 pub mod indexed;
+pub mod indexed_mut;
 pub mod into_iter;
 
 use crate::base::array::{ArrayBase, ArrayView};
 use crate::base::dimension::{Ix1, Lengths};
 pub use crate::base::index_lists::Indices;
 use crate::base::storage::Data;
-pub use crate::iter::cells_mut::{IndexedIterMut, IterMut};
 pub use crate::iter::collected::{to_vec, to_vec_mapped};
 pub use crate::iter::elements::ElementsBase;
-pub use crate::iter::elements_mut::ElementsBaseMut;
+pub use crate::iter::elements_mut::{ElementsBaseMut, IterMut};
 pub use crate::iter::indexed::IndexedIter;
+pub use crate::iter::indexed_mut::IndexedIterMut;
 pub use crate::iter::into_iter::IntoIter;
 pub use crate::subviews::axis::AxisIter;
 pub use crate::subviews::axis_chunks::AxisChunksIter;

@@ -13,7 +13,7 @@ use crate::base::storage::Data;
 use crate::iter::ElementsBase;
 use std::alloc::{AllocError, Global};
 
-impl<A: Clone + Drop, S: Data<Elem = A>, D: Lengths> ArrayBase<S, D> {
+impl<A: Clone, S: Data<Elem = A>, D: Lengths> ArrayBase<S, D> {
     /// An array of the same lengths whose cells are clones of this one's.
     ///
     /// The error is allocation failure, for the array or for a clone.
@@ -52,7 +52,7 @@ impl<A: Clone + Drop, S: Data<Elem = A>, D: Lengths> ArrayBase<S, D> {
 }
 
 /// An array of the same lengths whose cells are clones of a view's.
-fn clone_of<A: Clone + Drop, D: Lengths>(
+fn clone_of<A: Clone, D: Lengths>(
     alloc: Global,
     array: &ArrayView<'_, A, D>,
 ) -> Result<Array<A, D>, AllocError>
@@ -76,7 +76,7 @@ fn clone_of<A: Clone + Drop, D: Lengths>(
 }
 
 /// A vector of clones of the elements of a slice. Of none it allocates nothing.
-fn clones_of<A: Clone + Drop>(alloc: Global, cells: &[A]) -> Result<Vec<A>, AllocError>
+fn clones_of<A: Clone>(alloc: Global, cells: &[A]) -> Result<Vec<A>, AllocError>
     ensures ok { IfOk result (λ v. AllZip A.is_clone cells.now v.items) }
     ensures empty { length cells.now ≡ 0 → IsOk result }
 {

@@ -35,7 +35,7 @@ use std::alloc::{AllocError, Global};
 /// let b = ArrayView::from_shape((2, 1), &[5, 6])?;
 /// concatenate(alloc, Axis(1), &[a, b])?; // [[1, 2, 5], [3, 4, 6]]
 /// ```
-pub fn concatenate<A: Clone + Drop, D: RemoveAxis>(
+pub fn concatenate<A: Clone, D: RemoveAxis>(
     alloc: Global,
     axis: Axis,
     arrays: &[ArrayView<'_, A, D>],
@@ -65,7 +65,7 @@ pub fn concatenate<A: Clone + Drop, D: RemoveAxis>(
 /// let b = ArrayView::from_shape(2, &[3, 4])?;
 /// stack(alloc, Axis(1), &[a, b])?; // [[1, 3], [2, 4]]
 /// ```
-pub fn stack<A: Clone + Drop, D: Dimension>(
+pub fn stack<A: Clone, D: Dimension>(
     alloc: Global,
     axis: Axis,
     arrays: &[ArrayView<'_, A, D>],

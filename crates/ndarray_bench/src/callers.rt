@@ -1,7 +1,7 @@
 //! Functions that a user would write over the library, each with what it computes as its contract. docs/CALLING.md
 //! goes through them.
 
-ghost use Rattle.std.specs.Prelude.{◌≡◌, ◌<◌, ◌≤◌, ◌^◌, ◌∷◌, [], ◌++◌, ◌+ℤ◌, ◌-ℤ◌, ℕ, ℤ, List, Some, length, max, nat_lt, pos, replicate, slice_index, IfOk, IfSome, IsTrue, FitsSigned};
+ghost use Rattle.std.specs.Prelude.{◌≡◌, ◌↔◌, ◌<◌, ◌≤◌, ◌^◌, ◌∷◌, [], ◌++◌, ◌+ℤ◌, ◌-ℤ◌, ℕ, ℤ, List, Some, length, max, nat_lt, pos, replicate, slice_index, false, IfOk, IfSome, IsTrue, FitsSigned};
 ghost use Rattle.std.specs.Int.{w64};
 ghost use Rattle.std.specs.List.{fold, list_all, list_any};
 ghost use Rattle.ndarray.specs.AlongAxis.{Cumulates, IsDifference, one_further};
@@ -10,7 +10,7 @@ ghost use Rattle.ndarray.specs.Grid.{IsGrid, arranged, cell, one_axis};
 ghost use Rattle.ndarray.specs.Index.{InBox};
 ghost use Rattle.ndarray.specs.Integers.{int_products, int_sums};
 ghost use Rattle.ndarray.specs.Joining.{stacked};
-ghost use Rattle.ndarray.specs.Products.{column_of, matrix_of, product_of, products_of};
+ghost use Rattle.ndarray.specs.Products.{column_of, matrix_of, product_of, products_of, ShapesMultiplyInto};
 ghost use Rattle.ndarray.specs.Subviews.{lane, window_counts};
 ghost use Rattle.ndarray.specs.Sums.{IsSummable, total, total_by};
 ghost use Rattle.ndarray.specs.Views.{axis_item};
@@ -287,13 +287,15 @@ pub fn matrix_times_vector<S: Data<Elem = i64>, T: Data<Elem = i64>>(
     Ok(Some(product))
 }
 
-/// Leaves a matrix times a vector in the cells of another vector, in residues modulo 5, or answers `false` where the lengths do
-/// not meet.
+/// Leaves a matrix times a vector in the cells of another vector, in residues modulo 5; or answers `false`, where the lengths do
+/// not meet, and leaves it as it is.
 pub fn multiply_into(
     a: &Array<Residue<5>, Ix2>,
     x: &Array<Residue<5>, Ix1>,
     y: &mut Array<Residue<5>, Ix1>,
 ) -> bool
+    ensures shapes { IsTrue result ↔ ShapesMultiplyInto a.now.lengths x.now.lengths y.old.lengths }
+    ensures unchanged { result ≡ false → y.new ≡ y.old }
     ensures lengths { y.new.lengths ≡ y.old.lengths }
     ensures product { IsTrue result → (i : ℕ) (old new : Below 5) → cell y.old (i ∷ []) ≡ Some old → cell y.new (i ∷ []) ≡ Some new → new ≡ (product_of ⟦<Residue<5> as Valued>⟧ (matrix_of ⟦<Residue<5> as Valued>⟧ a.now) (column_of ⟦<Residue<5> as Valued>⟧ x.now)).cell i 0 }
 {

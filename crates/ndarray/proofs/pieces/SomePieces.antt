@@ -9,7 +9,7 @@ use Rattle.ndarray.specs.Grid.{arranged, cell, grid}
 use Rattle.ndarray.specs.Limits.{IsWithinLimit}
 use Rattle.ndarray.specs.Orders.{box_in, cells_in}
 use Rattle.ndarray.specs.base.Places.{place, Reaches, Rearranges, grid_at}
-use Rattle.ndarray.specs.base.Masks.{AreApart, Shares, grids_at}
+use Rattle.ndarray.specs.base.Masks.{AreApart, Shares, SharesBoth, grids_at}
 use Rattle.ndarray.specs.base.CellLayouts.{CellLayout, cell_layout}
 use Rattle.ndarray.specs.base.Pieces.{SharePieces, piece_layout, piece_layouts, pieces_at}
 use Rattle.ndarray.specs.declared.base.shape.Order.{Order}
@@ -20,7 +20,7 @@ use Rattle.ndarray.proofs.views.Cuts.{rearranges-part}
 use Rattle.ndarray.proofs.lists.Elements.{filter_map-from_map, map-same}
 use Rattle.ndarray.proofs.boxes.Orders.{length-row_order, row_order-is, row_order-at, rank-lt, column_order-is, box_in-within, IsBefore-not_itself}
 use Rattle.ndarray.proofs.pieces.Pieces.{positions-reach}
-use Rattle.ndarray.proofs.regions.Masks.{SharesBoth, apart-back, apart-moved}
+use Rattle.ndarray.proofs.regions.Masks.{apart-back, apart-moved}
 
 differ-from : {before : List ℕ → List ℕ → Type 0} (never : (is : List ℕ) → before is is → ⊥) (ps : List ℕ) (xs : List (List ℕ)) → IsOrderOf before ps xs → AllPairs (λ p q. p ≡ q → ⊥) xs
 differ-from {before} never ps xs o i j d lt lj e = never _ (subst (before (get_or xs i d)) (sym e) (o.rising i j d lt lj))

@@ -8,7 +8,7 @@ use Rattle.std.proofs.lemmas.List.Folds.{list_any_at, list_any_none}
 use Rattle.ndarray.specs.Index.{InBox, row_order}
 use Rattle.ndarray.specs.Grid.{grid}
 use Rattle.ndarray.specs.base.Places.{place, Reaches, Rearranges, cells_at, grid_at}
-use Rattle.ndarray.specs.base.Masks.{is_in, is_among, mask_from, mask_of, AreApart, Shares, grids_at}
+use Rattle.ndarray.specs.base.Masks.{is_in, is_among, mask_from, mask_of, AreApart, Shares, SharesBoth, grids_at}
 use Rattle.ndarray.specs.base.CellLayouts.{CellLayout}
 use Rattle.ndarray.specs.base.Slots.{held_at, slots_in, slots_outside}
 use Rattle.ndarray.specs.base.Ranks.{rank}
@@ -122,12 +122,6 @@ module _ {A : Type 0} (at at' : ℕ → Option A) where
 
 -- ---- some of the sub-views, and the others
 
--- both lists of sub-views share out the storage, and none of the one has a place in common with one of the other
-pub record SharesBoth {A : Type 0} (at : ℕ → Option A) (xs ys : List CellLayout) : Type 0 where
-  pub first : Shares at xs
-  pub second : Shares at ys
-  pub between : All (λ x. All (AreApart x) ys) xs
-
 module _ {A : Type 0} (cs : List (Option A)) (xs ys : List CellLayout) (h : SharesBoth (held_at cs) xs ys) where
   -- the places of xs go to xs alone, and the others have all of ys
   slots_in-same : All (IsSameAt (held_at cs) (held_at (slots_in (mask_of xs (length cs)) cs))) xs
@@ -204,13 +198,9 @@ SharesBoth-first at s ss ys e h = SharesBoth-parts at (s ∷ []) ys (subst (Shar
 pub SharesBoth-last : {A : Type 0} (at : ℕ → Option A) (s : CellLayout) (ss ys : List CellLayout) → ss ≡ ys ++ s ∷ [] → Shares at ss → SharesBoth at (s ∷ []) ys
 SharesBoth-last at s ss ys e h = SharesBoth-back at ys (s ∷ []) (SharesBoth-parts at ys (s ∷ []) (subst (Shares at) e h))
 
--- of one and others, that one, and that the others are apart from it
-module _ {A : Type 0} (at : ℕ → Option A) (s : CellLayout) (ys : List CellLayout) (h : SharesBoth at (s ∷ []) ys) where
-  pub one-of : Reaches ⊤ at s.lengths s.start s.strides
-  one-of = h.first.each 0 s (omega arith)
-
-  pub apart-of : All (AreApart s) ys
-  apart-of = h.between 0 s (omega arith)
+-- the one of one and others
+pub one-of : {A : Type 0} (at : ℕ → Option A) (s : CellLayout) (ys : List CellLayout) → SharesBoth at (s ∷ []) ys → Reaches ⊤ at s.lengths s.start s.strides
+one-of at s ys h = h.first.each 0 s (omega arith)
 
 -- the first n of them, and the rest
 pub SharesBoth-take : {A : Type 0} (at : ℕ → Option A) (ss : List CellLayout) (n : ℕ) → Shares at ss → SharesBoth at (take n ss) (drop n ss)
@@ -235,9 +225,9 @@ Shares-one at s h = record {
   apart = λ i j d lt lj. absurd (omega arith);
 }
 
--- one beside others that are apart from it
-pub SharesBoth-one : {A : Type 0} (at : ℕ → Option A) (s : CellLayout) (ys : List CellLayout) → Reaches ⊤ at s.lengths s.start s.strides → Shares at ys → All (AreApart s) ys → SharesBoth at (s ∷ []) ys
-SharesBoth-one at s ys h others apart = record { first = Shares-one at s h; second = others; between = first-alone (λ x. All (AreApart x) ys) s apart }
+-- one beside none
+pub SharesBoth-one : {A : Type 0} (at : ℕ → Option A) (s : CellLayout) → Reaches ⊤ at s.lengths s.start s.strides → SharesBoth at (s ∷ []) []
+SharesBoth-one at s h = record { first = Shares-one at s h; second = Shares-none at; between = first-alone (λ x. All (AreApart x) []) s (λ j e lj. absurd (omega arith)) }
 
 module _ {A : Type 0} (at : ℕ → Option A) (ns : List ℕ) (start : ℕ) (bs : List ℕ) (h : Reaches ⊤ at ns start bs) where
   -- sub-views whose images have no index list in common have no place in common

@@ -32,6 +32,12 @@ pub record Shares {A : Type 0} (at : ℕ → Option A) (ss : List CellLayout) : 
   pub each : All (λ s. Reaches ⊤ at s.lengths s.start s.strides) ss
   pub apart : AllPairs AreApart ss
 
+-- both lists of sub-views share out the storage, and none of the one has a place in common with one of the other
+pub record SharesBoth {A : Type 0} (at : ℕ → Option A) (xs ys : List CellLayout) : Type 0 where
+  pub first : Shares at xs
+  pub second : Shares at ys
+  pub between : All (λ x. All (AreApart x) ys) xs
+
 -- the arrays that the sub-views are
 abbrev pub grids_at : {A : Type 0} → (ℕ → Option A) → List CellLayout → List (Grid A)
 grids_at at ss = map (λ s. grid_at at s.lengths s.start s.strides) ss

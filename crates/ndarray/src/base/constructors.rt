@@ -184,7 +184,7 @@ impl<A: Drop, S: DataOwned<Elem = A>, D: Dimension> ArrayBase<S, D> {
     }
 }
 
-impl<A: Clone + Drop, S: DataOwned<Elem = A>, D: Dimension> ArrayBase<S, D> {
+impl<A: Clone, S: DataOwned<Elem = A>, D: Dimension> ArrayBase<S, D> {
     /// The array that has clones of an element, and the element itself, in its cells.
     ///
     /// Requires a shape within the limit; check with `size_ok` of its dimension. The error is allocation
@@ -213,7 +213,7 @@ impl<A: Clone + Drop, S: DataOwned<Elem = A>, D: Dimension> ArrayBase<S, D> {
 }
 
 /// A vector of as many clones of an element, the element itself among them. Of none it allocates nothing.
-fn repeated<A: Clone + Drop>(alloc: Global, elem: A, count: usize) -> Result<Vec<A>, AllocError>
+fn repeated<A: Clone>(alloc: Global, elem: A, count: usize) -> Result<Vec<A>, AllocError>
     ensures len { IfOk result (λ v. length v.items ≡ count) }
     ensures clones { IfOk result (λ v. AllClonesOf A.is_clone elem v.items) }
     ensures same { IfOk result (λ v. ((y : A) → A.is_clone elem y → y ≡ elem) → v.items ≡ replicate count elem) }

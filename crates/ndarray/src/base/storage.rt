@@ -49,8 +49,7 @@ pub trait Data: Drop {
 pub trait DataMut: Data {
     ghost use Rattle.std.specs.Borrow.{Lends};
     ghost use Rattle.ndarray.specs.Writes.{keeps_lengths};
-    ghost use Rattle.ndarray.specs.base.Places.{grid_at, Reaches};
-    ghost use Rattle.ndarray.specs.base.Slots.{held_at};
+    ghost use Rattle.ndarray.specs.base.RegionParts.{array_in, borrow_name_of, HasElements};
 
     // The same with another element at a place.
     ghost with_element: { Self → ℕ → Self.Elem → Self };
@@ -70,9 +69,9 @@ pub trait DataMut: Data {
     ///
     /// Once it has ended, the array has the lengths that it had, and as many cells.
     fn region_parts<D: Lengths>(array: &mut ArrayBase<Self, D>) -> RegionParts<'_, Self::Elem, D>
-        ensures* writes_back { sem 𝓛 (keeps_lengths Self.row D.row Self.Elem.row Self.Data D.Lengths array.entry result.region.reborrow_name) }
-        ensures reaches { Reaches ⊤ (held_at result.region.slots) (D.numbers result.layout.dim) result.layout.start (D.numbers result.layout.strides) }
-        ensures same { grid_at (held_at result.region.slots) (D.numbers result.layout.dim) result.layout.start (D.numbers result.layout.strides) ≡ array.old };
+        ensures* writes_back { sem 𝓛 (keeps_lengths Self.row D.row Self.Elem.row Self.Data D.Lengths array.entry (borrow_name_of result)) }
+        ensures reaches { HasElements D.numbers result }
+        ensures same { array_in D.numbers result ≡ array.old };
 
     /// Has a writer write all cells of an array as one slice, where they are one in row order; else the
     /// writer comes back.

@@ -8,7 +8,7 @@ ghost use Rattle.ndarray.specs.Views.{transposed};
 ghost use Rattle.ndarray.specs.Writes.{keeps_lengths};
 ghost use Rattle.ndarray.specs.base.Places.{grid_at, places_at, Reaches};
 ghost use Rattle.ndarray.specs.base.Parts.{follows_places, keeps_owned};
-ghost use Rattle.ndarray.specs.base.Slots.{held_at};
+ghost use Rattle.ndarray.specs.base.RegionParts.{array_in, borrow_name_of, HasElements};
 
 use crate::base::array::{Array, ArrayBase, ArrayViewMut};
 use crate::base::dimension::Lengths;
@@ -36,9 +36,9 @@ impl<A: Drop, D: Lengths> Array<A, D> {
     ///
     /// Once it has ended, the array has the lengths that it had, and as many cells.
     pub(crate) fn owned_region_parts(&mut self) -> RegionParts<'_, A, D>
-        ensures* writes_back { sem 𝓛 (keeps_owned A.row D.row D.Lengths self.entry result.region.reborrow_name) }
-        ensures reaches { Reaches ⊤ (held_at result.region.slots) (D.numbers result.layout.dim) result.layout.start (D.numbers result.layout.strides) }
-        ensures same { grid_at (held_at result.region.slots) (D.numbers result.layout.dim) result.layout.start (D.numbers result.layout.strides) ≡ self.old }
+        ensures* writes_back { sem 𝓛 (keeps_owned A.row D.row D.Lengths self.entry (borrow_name_of result)) }
+        ensures reaches { HasElements D.numbers result }
+        ensures same { array_in D.numbers result ≡ self.old }
     {
         self.parts_mut().into_region_parts()
     }
@@ -149,9 +149,9 @@ impl<S: DataMut, D: Lengths> ArrayBase<S, D> {
     ///
     /// Once it has ended, the array has the lengths that it had, and as many cells.
     pub(crate) fn region_parts(&mut self) -> RegionParts<'_, S::Elem, D>
-        ensures* writes_back { sem 𝓛 (keeps_lengths S.row D.row S.Elem.row S.Data D.Lengths self.entry result.region.reborrow_name) }
-        ensures reaches { Reaches ⊤ (held_at result.region.slots) (D.numbers result.layout.dim) result.layout.start (D.numbers result.layout.strides) }
-        ensures same { grid_at (held_at result.region.slots) (D.numbers result.layout.dim) result.layout.start (D.numbers result.layout.strides) ≡ self.old }
+        ensures* writes_back { sem 𝓛 (keeps_lengths S.row D.row S.Elem.row S.Data D.Lengths self.entry (borrow_name_of result)) }
+        ensures reaches { HasElements D.numbers result }
+        ensures same { array_in D.numbers result ≡ self.old }
     {
         S::region_parts(self)
     }

@@ -1,4 +1,4 @@
-//! The walk that the iterators over cells to write to stand on.
+//! The iterator over cells to write to.
 
 ghost use Rattle.std.specs.Prelude.{◌≡◌, ◌<◌, ◌^◌, length, IfSome};
 ghost use Rattle.std.specs.Iterator.{YieldsFirstMut, YieldsLastMut, UpTo, item_count};
@@ -24,14 +24,14 @@ use std::marker::{Model, PhantomData};
 ///
 /// An iterator allocates nothing, and neither does any of its steps.
 #[derive(Drop)]
-pub struct LentElements<'a, A, D: Lengths> {
+pub struct ElementsBaseMut<'a, A, D: Lengths> {
     region: RegionRepr<Life<'a>, A>,
     places: StridedPlaces<D>,
     // the lifetime of what it lends, so that `A: 'a` follows from the type
     lends: PhantomData<&'a mut A>,
 }
 
-impl<'a, A, D: Lengths> Model for LentElements<'a, A, D> {
+impl<'a, A, D: Lengths> Model for ElementsBaseMut<'a, A, D> {
     ghost use Rattle.std.specs.Prelude.{filter_map};
     ghost use Rattle.ndarray.specs.Writes.{BorrowedItems};
     ghost use Rattle.ndarray.specs.base.Slots.{held_at};
@@ -44,14 +44,14 @@ impl<'a, A, D: Lengths> Model for LentElements<'a, A, D> {
     ghost invariant = { λ s. AreLentAt (held_at s.region.slots) s.places };
 }
 
-impl<'a, A, D: Lengths> LentElements<'a, A, D> {
+impl<'a, A, D: Lengths> ElementsBaseMut<'a, A, D> {
     /// The cells of a view in row order, whatever the strides.
-    pub(crate) fn new(v: ArrayViewMut<'a, A, D>) -> Self
+    pub fn new(v: ArrayViewMut<'a, A, D>) -> Self
         ensures row_order { HasInOrder RowMajor v.entry result.items }
         ensures cells { result.items ≡ v.entry.cells }
         ensures fits { length result.items < 2 ^ 63 }
     {
-        LentElements::in_order(v, Order::RowMajor)
+        ElementsBaseMut::in_order(v, Order::RowMajor)
     }
 
     /// The cells of a view in an order.
@@ -62,7 +62,7 @@ impl<'a, A, D: Lengths> LentElements<'a, A, D> {
         ensures whole { IsGrid v.entry }
     {
         let ArrayBase { storage, layout } = v;
-        LentElements {
+        ElementsBaseMut {
             region: storage,
             places: StridedPlaces::new(layout, order),
             lends: PhantomData,
@@ -70,16 +70,25 @@ impl<'a, A, D: Lengths> LentElements<'a, A, D> {
     }
 }
 
+/// The cells of an array that are still to come, to write to, in row order.
+pub type IterMut<'a, A, D> = ElementsBaseMut<'a, A, D>;
+
 impl<S: DataMut, D: Lengths> ArrayBase<S, D> {
-    /// The cells to write to, in row order, whatever the strides.
-    pub(crate) fn lent_elements(&mut self) -> LentElements<'_, S::Elem, D>
+    /// The cells to write to, in row order, whatever the strides. The array keeps its lengths.
+    ///
+    /// ```
+    /// for cell in array.iter_mut() {
+    ///     *cell += 1;
+    /// }
+    /// ```
+    pub fn iter_mut(&mut self) -> IterMut<'_, S::Elem, D>
         ensures* writes_back { sem 𝓛 (keeps_lengths S.row D.row S.Elem.row S.Data D.Lengths self.entry result.borrow_name) }
         ensures row_order { HasInOrder RowMajor self.old result.items }
         ensures cells { result.items ≡ self.old.cells }
         ensures fits { length result.items < 2 ^ 63 }
     {
         let RegionParts { region, layout } = self.region_parts();
-        LentElements {
+        ElementsBaseMut {
             region,
             places: StridedPlaces::new(layout, Order::RowMajor),
             lends: PhantomData,
@@ -87,7 +96,7 @@ impl<S: DataMut, D: Lengths> ArrayBase<S, D> {
     }
 }
 
-impl<'a, A, D: Lengths> Iterator for LentElements<'a, A, D> {
+impl<'a, A, D: Lengths> Iterator for ElementsBaseMut<'a, A, D> {
     type Item = &'a mut A;
 
     ghost next_gives = { YieldsFirstMut (λ s. s.items) };
@@ -112,13 +121,13 @@ impl<'a, A, D: Lengths> Iterator for LentElements<'a, A, D> {
     }
 }
 
-impl<'a, A, D: Lengths> ExactSizeIterator for LentElements<'a, A, D> {
+impl<'a, A, D: Lengths> ExactSizeIterator for ElementsBaseMut<'a, A, D> {
     fn len(&self) -> usize {
         self.places.len()
     }
 }
 
-impl<'a, A> DoubleEndedIterator for LentElements<'a, A, Ix1> {
+impl<'a, A> DoubleEndedIterator for ElementsBaseMut<'a, A, Ix1> {
     ghost next_back_gives = { YieldsLastMut (λ s. s.items) };
 
     fn next_back(&mut self) -> Option<&'a mut A> {
@@ -129,80 +138,38 @@ impl<'a, A> DoubleEndedIterator for LentElements<'a, A, Ix1> {
     }
 }
 
-/// The cells of a view to write in that are still to come, in row order.
-///
-/// An iterator allocates nothing, and neither does any of its steps.
-#[derive(Drop)]
-pub struct ElementsBaseMut<'a, A, D: Lengths> {
-    elements: LentElements<'a, A, D>,
-}
+impl<'a, S: DataMut, D: Lengths> IntoIterator for &'a mut ArrayBase<S, D>
+where
+    S::Elem: 'a,
+{
+    type Item = &'a mut S::Elem;
 
-impl<'a, A, D: Lengths> Model for ElementsBaseMut<'a, A, D> {
-    ghost use Rattle.std.specs.Prelude.{List, ⊤};
+    type IntoIter = IterMut<'a, S::Elem, D>;
 
-    ghost Value = { List A };
+    ghost use Rattle.std.specs.Prelude.{◌<◌, ◌^◌, length};
+    ghost use Rattle.std.specs.Borrow.{sem};
+    ghost use Rattle.ndarray.specs.Writes.{keeps_lengths};
 
-    ghost view = { λ s. s.elements.items };
+    ghost into_iter_gives = { λ a it. (it.items ≡ a.now.cells) × (length it.items < 2 ^ 63) };
 
-    ghost invariant = { λ _. ⊤ };
-}
-
-impl<'a, A, D: Lengths> ElementsBaseMut<'a, A, D> {
-    /// The cells of a view in row order, whatever the strides.
-    pub fn new(v: ArrayViewMut<'a, A, D>) -> Self
-        ensures row_order { HasInOrder RowMajor v.entry result }
-        ensures cells { result ≡ v.entry.cells }
-        ensures fits { length result < 2 ^ 63 }
+    fn into_iter(self) -> IterMut<'a, S::Elem, D>
+        ensures* writes_back { sem 𝓛 (keeps_lengths S.row D.row S.Elem.row S.Data D.Lengths self.entry result.borrow_name) }
+        ensures gives { (result.items ≡ self.old.cells) × (length result.items < 2 ^ 63) }
     {
-        ElementsBaseMut {
-            elements: LentElements::new(v),
-        }
-    }
-
-    /// The cells of a view in an order.
-    pub(crate) fn in_order(v: ArrayViewMut<'a, A, D>, order: Order) -> Self
-        ensures described { HasInOrder order v.entry result }
-        ensures cells { result ≡ cells_in order v.entry }
-        ensures fits { length result < 2 ^ 63 }
-        ensures whole { IsGrid v.entry }
-    {
-        ElementsBaseMut {
-            elements: LentElements::in_order(v, order),
-        }
+        self.iter_mut()
     }
 }
 
-impl<'a, A, D: Lengths> Iterator for ElementsBaseMut<'a, A, D> {
+impl<'a, A: 'a, D: Lengths> IntoIterator for ArrayViewMut<'a, A, D> {
     type Item = &'a mut A;
 
-    ghost next_gives = { YieldsFirstMut (λ rest. rest) };
+    type IntoIter = IterMut<'a, A, D>;
 
-    ghost remaining = { item_count (λ rest. rest) };
+    ghost use Rattle.std.specs.Prelude.{◌<◌, ◌^◌, length};
 
-    #[inline(always)]
-    fn next(&mut self) -> Option<&'a mut A> {
-        self.elements.next()
-    }
+    ghost into_iter_gives = { λ v it. (it.items ≡ v.cells) × (length it.items < 2 ^ 63) };
 
-    fn size_hint(&self) -> (usize, Option<usize>)
-        ensures lower { IsWithinCount result.0 (item_count (λ rest. rest) self.now) }
-        ensures upper { IfSome result.1 (UpTo (item_count (λ rest. rest) self.now)) }
-        ensures exact { IsExactHint result (length self.now) }
-    {
-        self.elements.size_hint()
-    }
-}
-
-impl<'a, A, D: Lengths> ExactSizeIterator for ElementsBaseMut<'a, A, D> {
-    fn len(&self) -> usize {
-        self.elements.len()
-    }
-}
-
-impl<'a, A> DoubleEndedIterator for ElementsBaseMut<'a, A, Ix1> {
-    ghost next_back_gives = { YieldsLastMut (λ rest. rest) };
-
-    fn next_back(&mut self) -> Option<&'a mut A> {
-        self.elements.next_back()
+    fn into_iter(self) -> IterMut<'a, A, D> {
+        ElementsBaseMut::new(self)
     }
 }

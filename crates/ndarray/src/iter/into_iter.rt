@@ -68,7 +68,7 @@ impl<A: Drop, D: Lengths> IntoIterator for Array<A, D> {
     }
 }
 
-impl<'a, A: Clone + Drop, D: Lengths> CowArray<'a, A, D> {
+impl<'a, A: Clone, D: Lengths> CowArray<'a, A, D> {
     /// The cells in row order: the array's own, moved out of it, where it owns them, else clones of them.
     /// A contract does not see whether it owns them, so that its own are moved out is not promised.
     ///

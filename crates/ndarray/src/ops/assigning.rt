@@ -38,7 +38,7 @@ pub(crate) fn assign_scalar<O, A, B, S, D>(array: &mut ArrayBase<S, D>, scalar: 
 where
     O: Operation<A, B, Output = A>,
     A: Copy,
-    B: Copy + Drop,
+    B: Copy,
     S: DataMut<Elem = A>,
     D: Lengths,
     requires { CanMap (λ x. O.can_apply x scalar) array.old }

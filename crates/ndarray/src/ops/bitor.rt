@@ -19,8 +19,8 @@ use std::ops::{BitOr, BitOrAssign};
 
 impl<'a, 'b, A, B, S2, D, E> BitOr<&'b ArrayBase<S2, E>> for &'a Array<A, D>
 where
-    A: Clone + Drop + BitOr<B, Output = A>,
-    B: Clone + Drop,
+    A: Clone + BitOr<B, Output = A>,
+    B: Clone,
     S2: Data<Elem = B>,
     D: DimMax<E>,
     E: Lengths,
@@ -38,8 +38,8 @@ where
 
 impl<'b, A, B, S2, D, E> BitOr<&'b ArrayBase<S2, E>> for Array<A, D>
 where
-    A: Clone + Drop + BitOr<B, Output = A>,
-    B: Clone + Drop,
+    A: Clone + BitOr<B, Output = A>,
+    B: Clone,
     S2: Data<Elem = B>,
     D: DimMax<E>,
     E: Lengths,
@@ -57,8 +57,8 @@ where
 
 impl<A, B, D, E> BitOr<Array<B, E>> for Array<A, D>
 where
-    A: Clone + Drop + BitOr<B, Output = A>,
-    B: Clone + Drop,
+    A: Clone + BitOr<B, Output = A>,
+    B: Clone,
     D: DimMax<E>,
     E: Lengths,
 {
@@ -75,8 +75,8 @@ where
 
 impl<'b, A, B, D, E> BitOr<ArrayView<'b, B, E>> for Array<A, D>
 where
-    A: Clone + Drop + BitOr<B, Output = A>,
-    B: Clone + Drop,
+    A: Clone + BitOr<B, Output = A>,
+    B: Clone,
     D: DimMax<E>,
     E: Lengths,
 {
@@ -93,8 +93,8 @@ where
 
 impl<'a, A, B, S, D, E> BitOr<Array<B, E>> for &'a ArrayBase<S, D>
 where
-    A: Clone + Drop + BitOr<B, Output = B>,
-    B: Clone + Drop,
+    A: Clone + BitOr<B, Output = B>,
+    B: Clone,
     S: Data<Elem = A>,
     D: Lengths,
     E: DimMax<D>,
@@ -112,8 +112,8 @@ where
 
 impl<A, B, D> BitOr<B> for Array<A, D>
 where
-    A: Clone + Drop + BitOr<B, Output = A>,
-    B: ScalarOperand + Drop,
+    A: Clone + BitOr<B, Output = A>,
+    B: ScalarOperand,
     D: Lengths,
 {
     type Output = Result<Array<A, D>, AllocError>;
@@ -129,8 +129,8 @@ where
 
 impl<'a, A, B, D> BitOr<B> for &'a Array<A, D>
 where
-    A: Clone + Drop + BitOr<B, Output = A>,
-    B: ScalarOperand + Drop,
+    A: Clone + BitOr<B, Output = A>,
+    B: ScalarOperand,
     D: Lengths,
 {
     type Output = Result<Array<A, D>, AllocError>;

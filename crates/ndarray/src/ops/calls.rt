@@ -13,8 +13,7 @@ use std::marker::PhantomData;
 #[derive(Drop)]
 pub(crate) struct OnBoth<O>(pub(crate) PhantomData<O>);
 
-impl<'a, 'b, A: Clone + Drop, B: Clone + Drop, O: Operation<A, B>> ItemCall<(&'a A, &'b B)>
-    for OnBoth<O> {
+impl<'a, 'b, A: Clone, B: Clone, O: Operation<A, B>> ItemCall<(&'a A, &'b B)> for OnBoth<O> {
     type Out = Result<O::Output, AllocError>;
 
     ghost can_call = { λ _ t. O.can_apply t.0.now t.1.now × ClonesAreEqual A.is_clone × ClonesAreEqual B.is_clone };
@@ -31,8 +30,7 @@ impl<'a, 'b, A: Clone + Drop, B: Clone + Drop, O: Operation<A, B>> ItemCall<(&'a
 #[derive(Drop)]
 pub(crate) struct IntoLeft<O>(pub(crate) PhantomData<O>);
 
-impl<'b, A: Clone + Drop, B: Clone + Drop, O: Operation<A, B, Output = A>> CellCall<A, &'b B>
-    for IntoLeft<O> {
+impl<'b, A: Clone, B: Clone, O: Operation<A, B, Output = A>> CellCall<A, &'b B> for IntoLeft<O> {
     ghost can_call = { λ _ t. O.can_apply t.0 t.1.now × ClonesAreEqual A.is_clone × ClonesAreEqual B.is_clone };
 
     ghost call_gives = { λ _ t r _. IfOk r (O.apply_gives t.0 t.1.now) × (A.is_infallible t.0 → B.is_infallible t.1.now → IsOk r) };
@@ -67,7 +65,7 @@ pub(crate) trait CellOperation<A>: Drop {
 #[derive(Drop)]
 pub(crate) struct OnOne<O>(pub(crate) PhantomData<O>);
 
-impl<A: Clone + Drop, O: UnaryOperation<A>> CellOperation<A> for OnOne<O> {
+impl<A: Clone, O: UnaryOperation<A>> CellOperation<A> for OnOne<O> {
     type Output = O::Output;
 
     ghost can_apply = { λ _ x. O.can_apply x × ClonesAreEqual A.is_clone };
@@ -88,7 +86,7 @@ pub(crate) struct WithRight<O, B> {
     pub(crate) operation: PhantomData<O>,
 }
 
-impl<A: Clone + Drop, B: Clone + Drop, O: Operation<A, B>> CellOperation<A> for WithRight<O, B> {
+impl<A: Clone, B: Clone, O: Operation<A, B>> CellOperation<A> for WithRight<O, B> {
     type Output = O::Output;
 
     ghost can_apply = { λ c x. O.can_apply x c.scalar × ClonesAreEqual A.is_clone × ClonesAreEqual B.is_clone };
@@ -109,7 +107,7 @@ pub(crate) struct WithLeft<O, X> {
     pub(crate) operation: PhantomData<O>,
 }
 
-impl<A: Copy, X: Copy + Drop, O: Operation<X, A>> CellOperation<A> for WithLeft<O, X> {
+impl<A: Copy, X: Copy, O: Operation<X, A>> CellOperation<A> for WithLeft<O, X> {
     type Output = O::Output;
 
     ghost can_apply = { λ c x. O.can_apply c.scalar x };
@@ -170,7 +168,7 @@ pub(crate) struct WithCopies<O, B> {
     pub(crate) operation: PhantomData<O>,
 }
 
-impl<A: Copy, B: Copy + Drop, O: Operation<A, B, Output = A>> CellCall<A, ()> for WithCopies<O, B> {
+impl<A: Copy, B: Copy, O: Operation<A, B, Output = A>> CellCall<A, ()> for WithCopies<O, B> {
     ghost can_call = { λ c t. O.can_apply t.0 c.scalar };
 
     ghost call_gives = { λ c t r d. MatchResult r (O.apply_gives t.0 c.scalar) (λ _. ⊥) × (d ≡ c) };

@@ -32,8 +32,8 @@ pub(crate) fn combine<O, A, B, S2, D, E>(
 where
     O: Operation<A, B>,
     O::Output: Drop,
-    A: Clone + Drop,
-    B: Clone + Drop,
+    A: Clone,
+    B: Clone,
     S2: Data<Elem = B>,
     D: DimMax<E>,
     E: Lengths,
@@ -53,8 +53,8 @@ pub(crate) fn combine_into_left<O, A, B, S2, D, E>(
 ) -> Result<Array<A, <D as DimMax<E>>::Output>, AllocError>
 where
     O: Operation<A, B, Output = A>,
-    A: Clone + Drop,
-    B: Clone + Drop,
+    A: Clone,
+    B: Clone,
     S2: Data<Elem = B>,
     D: DimMax<E>,
     E: Lengths,
@@ -74,8 +74,8 @@ pub(crate) fn combine_into_left_by_value<O, A, B, S2, D, E>(
 ) -> Result<Array<A, <D as DimMax<E>>::Output>, AllocError>
 where
     O: Operation<A, B, Output = A>,
-    A: Clone + Drop,
-    B: Clone + Drop,
+    A: Clone,
+    B: Clone,
     S2: Data<Elem = B>,
     D: DimMax<E>,
     E: Lengths,
@@ -95,8 +95,8 @@ fn combine_into_left_at<O, A, B, D, E, R>(
 ) -> Result<Array<A, R>, AllocError>
 where
     O: Operation<A, B, Output = A>,
-    A: Clone + Drop,
-    B: Clone + Drop,
+    A: Clone,
+    B: Clone,
     D: Lengths,
     E: Lengths,
     R: Lengths,
@@ -123,8 +123,8 @@ pub(crate) fn combine_into_right<O, A, B, S, D, E>(
 ) -> Result<Array<B, <E as DimMax<D>>::Output>, AllocError>
 where
     O: Operation<A, B, Output = B>,
-    A: Clone + Drop,
-    B: Clone + Drop,
+    A: Clone,
+    B: Clone,
     S: Data<Elem = A>,
     D: Lengths,
     E: DimMax<D>,
@@ -165,8 +165,8 @@ fn combine_at<O, A, B, D, E, R>(
 where
     O: Operation<A, B>,
     O::Output: Drop,
-    A: Clone + Drop,
-    B: Clone + Drop,
+    A: Clone,
+    B: Clone,
     D: Lengths,
     E: Lengths,
     R: Lengths,
@@ -251,8 +251,8 @@ pub(crate) fn combine_scalar<O, A, B, D>(
 where
     O: Operation<A, B>,
     O::Output: Drop,
-    A: Clone + Drop,
-    B: Clone + Drop,
+    A: Clone,
+    B: Clone,
     D: Lengths,
     requires can { CanMap (λ x. O.can_apply x scalar) array.now }
     requires cell_clones { ClonesAreEqual A.is_clone }
@@ -273,8 +273,8 @@ pub(crate) fn combine_scalar_in_place<O, A, B, D>(
 ) -> Result<Array<A, D>, AllocError>
 where
     O: Operation<A, B, Output = A>,
-    A: Clone + Drop,
-    B: Clone + Drop,
+    A: Clone,
+    B: Clone,
     D: Lengths,
     requires can { CanMap (λ x. O.can_apply x scalar) array }
     requires cell_clones { ClonesAreEqual A.is_clone }
@@ -296,8 +296,8 @@ pub(crate) fn combine_left_scalar<O, X, A, D>(
 where
     O: Operation<X, A>,
     O::Output: Drop,
-    X: Copy + Drop,
-    A: Copy + Drop,
+    X: Copy,
+    A: Copy,
     D: Lengths,
     requires { CanMap (λ x. O.can_apply scalar x) array.now }
     ensures { MakesMapped D.has_axes (λ x z. O.apply_gives scalar x z) array.now result }
@@ -316,8 +316,8 @@ pub(crate) fn combine_left_scalar_in_place<O, X, A, D>(
 ) -> Result<Array<A, D>, AllocError>
 where
     O: Operation<X, A, Output = A>,
-    X: Copy + Drop,
-    A: Copy + Drop,
+    X: Copy,
+    A: Copy,
     D: Lengths,
     requires { CanMap (λ x. O.can_apply scalar x) array }
     ensures { UpdatesMapped D.has_axes (λ x z. O.apply_gives scalar x z) (λ _. ⊤) array result }

@@ -13,7 +13,7 @@ use std::ops::{Neg, Not};
 
 impl<A, D> Neg for Array<A, D>
 where
-    A: Clone + Drop + Neg<Output = A>,
+    A: Clone + Neg<Output = A>,
     D: Lengths,
 {
     type Output = Result<Array<A, D>, AllocError>;
@@ -30,7 +30,7 @@ where
 
 impl<'a, A, D> Neg for &'a Array<A, D>
 where
-    A: Clone + Drop + Neg<Output = A>,
+    A: Clone + Neg<Output = A>,
     D: Lengths,
 {
     type Output = Result<Array<A, D>, AllocError>;
@@ -47,7 +47,7 @@ where
 
 impl<A, D> Not for Array<A, D>
 where
-    A: Clone + Drop + Not<Output = A>,
+    A: Clone + Not<Output = A>,
     D: Lengths,
 {
     type Output = Result<Array<A, D>, AllocError>;
@@ -64,7 +64,7 @@ where
 
 impl<'a, A, D> Not for &'a Array<A, D>
 where
-    A: Clone + Drop + Not<Output = A>,
+    A: Clone + Not<Output = A>,
     D: Lengths,
 {
     type Output = Result<Array<A, D>, AllocError>;

@@ -18,7 +18,7 @@ use std::alloc::{AllocError, Global};
 
 /// The array that has, for each index list of the axes before one, the block of each array in turn: the cells below that
 /// index list, in row order.
-pub(crate) fn joined_blocks<A: Clone + Drop, D: Lengths, E: Lengths>(
+pub(crate) fn joined_blocks<A: Clone, D: Lengths, E: Lengths>(
     alloc: Global,
     axis: usize,
     arrays: &[ArrayView<'_, A, D>],
@@ -46,7 +46,7 @@ pub(crate) fn joined_blocks<A: Clone + Drop, D: Lengths, E: Lengths>(
 }
 
 /// Pushes clones of the block of each array at an index list.
-fn push_blocks<A: Clone + Drop, D: Lengths, E: Lengths>(
+fn push_blocks<A: Clone, D: Lengths, E: Lengths>(
     builder: &mut ArrayBuilder<A, E>,
     axis: usize,
     arrays: &[ArrayView<'_, A, D>],
@@ -67,7 +67,7 @@ fn push_blocks<A: Clone + Drop, D: Lengths, E: Lengths>(
 }
 
 /// Pushes clones of cells.
-fn push_clones<A: Clone + Drop, D: Lengths, E: Lengths>(
+fn push_clones<A: Clone, D: Lengths, E: Lengths>(
     builder: &mut ArrayBuilder<A, E>,
     cells: ElementsBase<'_, A, D>,
 ) -> Result<(), AllocError>

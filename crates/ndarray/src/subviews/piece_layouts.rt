@@ -1,11 +1,11 @@
 //! Sub-views to write in that are still to come, taken out of one region one after
 //! another.
 
-ghost use Rattle.std.specs.Prelude.{◌≡◌, ◌≤◌, ◌++◌, List, [], ◌∷◌, length, take, drop, All, MatchOption, IfSome, ⊤};
+ghost use Rattle.std.specs.Prelude.{◌≡◌, ◌≤◌, ◌++◌, List, [], ◌∷◌, length, take, drop, MatchOption, IfSome, ⊤};
 ghost use Rattle.std.specs.Iterator.{UpTo, YieldsFirst, YieldsLast, item_count};
 ghost use Rattle.std.specs.Iterator.SizeHint.{IsExactHint, IsWithinCount};
 ghost use Rattle.ndarray.specs.base.CellLayouts.{CellLayout, cell_layout};
-ghost use Rattle.ndarray.specs.base.Masks.{AreApart, Shares, grids_at};
+ghost use Rattle.ndarray.specs.base.Masks.{Shares, SharesBoth, grids_at};
 ghost use Rattle.ndarray.specs.base.Places.{Reaches, grid_at};
 ghost use Rattle.ndarray.specs.base.Slots.{held_at};
 
@@ -78,7 +78,7 @@ fn take_array<'a, A: 'a, D: Lengths>(
 ) -> ArrayViewMut<'a, A, D>
     requires { Reaches ⊤ (held_at region.old.slots) (D.numbers layout.dim) layout.start (D.numbers layout.strides) }
     ensures value { result ≡ grid_at (held_at region.old.slots) (D.numbers layout.dim) layout.start (D.numbers layout.strides) }
-    ensures others { (rest : List CellLayout) → Shares (held_at region.old.slots) rest → All (AreApart (cell_layout (D.numbers layout.dim) layout.start (D.numbers layout.strides))) rest → Shares (held_at region.new.slots) rest × (grids_at (held_at region.new.slots) rest ≡ grids_at (held_at region.old.slots) rest) }
+    ensures others { (rest : List CellLayout) → SharesBoth (held_at region.old.slots) (cell_layout (D.numbers layout.dim) layout.start (D.numbers layout.strides) ∷ []) rest → Shares (held_at region.new.slots) rest × (grids_at (held_at region.new.slots) rest ≡ grids_at (held_at region.old.slots) rest) }
 {
     let whole = replace(region, RegionRepr::of(&mut []));
     let (storage, others) = whole.split(&layout);

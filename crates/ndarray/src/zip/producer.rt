@@ -27,7 +27,7 @@ pub trait NdProducer: Shaped + Drop + Sized {
     type Dim: Lengths;
 
     /// The items in an order, yielded one after another.
-    type Run: Iterator<Item = Self::Item> + Drop;
+    type Run: Iterator<Item = Self::Item>;
 
     // Whether an item may be yielded at an index list.
     ghost yields_at: { Self → List ℕ → Self.Item → Type 0 };
@@ -59,7 +59,7 @@ pub trait NdProducer: Shaped + Drop + Sized {
     type Flat: Drop;
 
     /// The items of such a producer, one after another.
-    type FlatRun: Iterator<Item = Self::Item> + Drop;
+    type FlatRun: Iterator<Item = Self::Item>;
 
     // Whether a flat form is that of a producer, with its items side by side in the order.
     ghost flat_form: { Self → Order → Self.Flat → Type 0 };

@@ -123,7 +123,7 @@ pub(crate) fn note_flat<T, E>(ran: Result<T, E>, flat: bool) -> Result<Taken<T>,
 /// It is a function of its own, so that what takes them stays in registers: one that is passed on as well, as in
 /// [`take_parts`], is kept in memory.
 #[inline(never)]
-fn take_run<P: NdProducer, R: Iterator<Item = P::Item> + Drop, T: Turn<P::Item>>(
+fn take_run<P: NdProducer, R: Iterator<Item = P::Item>, T: Turn<P::Item>>(
     mut run: R,
     turn: T,
 ) -> Result<T, T::Stop>

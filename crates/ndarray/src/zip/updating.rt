@@ -174,7 +174,7 @@ pub(crate) fn update_parts<P: NdProducer, A: Drop, C: CellCall<A, P::Item>>(
 
 /// The same of a run over a producer, one item after another.
 #[inline(always)]
-fn update_run<P: NdProducer, R: Iterator<Item = P::Item> + Drop, A: Drop, C: CellCall<A, P::Item>>(
+fn update_run<P: NdProducer, R: Iterator<Item = P::Item>, A: Drop, C: CellCall<A, P::Item>>(
     slice: &mut [A],
     mut run: R,
     mut f: C,

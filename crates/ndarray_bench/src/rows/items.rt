@@ -95,7 +95,7 @@ pub fn fill<D: Lengths>(given: ArrayViewMut<'_, i64, D>, number: i64) {
 }
 
 /// Writes the number `first` and those after it to the cells of all items, and answers the next one.
-pub fn number_all<I: Iterator + Drop>(items: I, first: i64) -> i64
+pub fn number_all<I: Iterator>(items: I, first: i64) -> i64
 where
     I::Item: Item,
     requires can { I.can_next items }

@@ -67,7 +67,7 @@ impl Answers {
     }
 
     /// Takes all items.
-    fn take_all<I: Iterator + Drop>(&mut self, items: I) -> Result<(), AllocError>
+    fn take_all<I: Iterator>(&mut self, items: I) -> Result<(), AllocError>
     where
         I::Item: Item,
         requires can { I.can_next items }
@@ -81,7 +81,7 @@ impl Answers {
 
     /// Takes all items of a first part: those to read are shown with a mark behind them, and those to write are
     /// numbered from 100.
-    fn take_part<I: Iterator + Drop>(&mut self, items: I) -> Result<(), AllocError>
+    fn take_part<I: Iterator>(&mut self, items: I) -> Result<(), AllocError>
     where
         I::Item: Item,
         requires can { I.can_next items }
@@ -98,7 +98,7 @@ impl Answers {
     }
 
     /// Carries out a step that any iterator has, and answers whether it is one.
-    fn step<I: Iterator + Drop>(&mut self, items: &mut I, step: Step) -> Result<bool, AllocError>
+    fn step<I: Iterator>(&mut self, items: &mut I, step: Step) -> Result<bool, AllocError>
     where
         I::Item: Item,
         requires can { (it : I) → I.can_next it }
@@ -114,7 +114,7 @@ impl Answers {
     }
 
     /// Carries out a step that an iterator has which goes from both ends, and answers whether it is one.
-    fn step_from_ends<I: DoubleEndedIterator + Drop>(
+    fn step_from_ends<I: DoubleEndedIterator>(
         &mut self,
         items: &mut I,
         step: Step,
@@ -132,7 +132,7 @@ impl Answers {
     }
 
     /// Carries out a step that takes all items.
-    fn last_step<I: Iterator + Drop>(self, items: I, step: Step) -> Result<Ending, AllocError>
+    fn last_step<I: Iterator>(self, items: I, step: Step) -> Result<Ending, AllocError>
     where
         I::Item: Item,
         requires can { I.can_next items }
@@ -160,7 +160,7 @@ impl Answers {
 }
 
 /// Carries out the steps of an iterator, each of which any iterator has.
-pub fn step_forward<I: Iterator + Drop>(
+pub fn step_forward<I: Iterator>(
     alloc: Global,
     given: I,
     steps: &[Step],
@@ -181,7 +181,7 @@ where
 }
 
 /// Carries out the steps of an iterator that has clones.
-pub fn step_with_clones<I: Iterator + Clone + Drop>(
+pub fn step_with_clones<I: Iterator + Clone>(
     alloc: Global,
     given: I,
     steps: &[Step],
@@ -204,7 +204,7 @@ where
 }
 
 /// An iterator that goes from both ends, and is split.
-pub trait BothEnds: DoubleEndedIterator + Drop {
+pub trait BothEnds: DoubleEndedIterator {
     /// The first so many items, and the rest; `None` where there are fewer.
     fn split(self, count: usize) -> Option<(Self, Self)>;
 }

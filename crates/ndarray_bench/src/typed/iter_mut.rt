@@ -7,7 +7,7 @@ use std::alloc::{AllocError, Global};
 use std::mem;
 
 /// Exchanges the first two cells, held together.
-fn exchange<'a, I: Iterator<Item = &'a mut i64> + Drop>(given: I)
+fn exchange<'a, I: Iterator<Item = &'a mut i64>>(given: I)
     requires can { (it : I) → I.can_next it }
 {
     let mut cells = given;
@@ -29,7 +29,7 @@ pub fn two_cells_held_together_are_exchanged(
 }
 
 /// Writes 7 to the first and to the last cell.
-fn write_both_ends<'a, I: DoubleEndedIterator<Item = &'a mut i64> + Drop>(given: I)
+fn write_both_ends<'a, I: DoubleEndedIterator<Item = &'a mut i64>>(given: I)
     requires can { (it : I) → I.can_next it }
     requires back { (it : I) → I.can_next_back it }
 {

@@ -7,7 +7,8 @@ use Rattle.ndarray.specs.base.Slots.{held_at}
 use Rattle.ndarray.proofs.views.Cuts.{rearranges-part, cuts-apart}
 use Rattle.ndarray.proofs.views.Images.{grid-seen}
 use Rattle.ndarray.proofs.strides.Reach.{length-cells_at}
-use Rattle.ndarray.proofs.regions.Masks.{SharesBoth, SharesBoth-images, one-reaches, one-seen, other-reaches, other-seen}
+use Rattle.ndarray.specs.base.Masks.{SharesBoth}
+use Rattle.ndarray.proofs.regions.Masks.{SharesBoth-images, one-reaches, one-seen, other-reaches, other-seen}
 use Rattle.ndarray.proofs.base.axes.ArrayViewMut+A+D.split_at.Goals as goal
 use Rattle.ndarray.proofs.base.axes.ArrayViewMut+A+D.split_at.Goals.{After-split-here}
 

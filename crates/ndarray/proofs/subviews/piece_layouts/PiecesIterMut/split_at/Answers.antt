@@ -1,8 +1,8 @@
 use Rattle.std.proofs.Common.{sym, ◌∙◌, ap, take, drop}
 use Rattle.std.specs.List.{take-map, drop-map}
-use Rattle.ndarray.specs.base.Masks.{grids_at}
+use Rattle.ndarray.specs.base.Masks.{SharesBoth, grids_at}
 use Rattle.ndarray.specs.base.Slots.{held_at}
-use Rattle.ndarray.proofs.regions.Masks.{SharesBoth, SharesBoth-take, Shares-slots_in, Shares-slots_outside, grids-slots_in, grids-slots_outside}
+use Rattle.ndarray.proofs.regions.Masks.{SharesBoth-take, Shares-slots_in, Shares-slots_outside, grids-slots_in, grids-slots_outside}
 use Rattle.ndarray.proofs.subviews.piece_layouts.PiecesIterMut.split_at.Goals as goal
 use Rattle.ndarray.proofs.subviews.piece_layouts.PiecesIterMut.split_at.Goals.{After-split-here}
 

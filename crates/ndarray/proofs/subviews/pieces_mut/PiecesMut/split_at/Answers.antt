@@ -8,7 +8,8 @@ use Rattle.ndarray.specs.base.Pieces.{piece_layouts}
 use Rattle.ndarray.proofs.cells.Cells.{arranged-whole}
 use Rattle.ndarray.proofs.views.Cuts.{cuts-apart, part-once}
 use Rattle.ndarray.proofs.pieces.Pieces.{some-seen}
-use Rattle.ndarray.proofs.regions.Masks.{SharesBoth, Shares-slots_in, Shares-slots_outside, grids-slots_in, grids-slots_outside}
+use Rattle.ndarray.specs.base.Masks.{SharesBoth}
+use Rattle.ndarray.proofs.regions.Masks.{Shares-slots_in, Shares-slots_outside, grids-slots_in, grids-slots_outside}
 use Rattle.ndarray.proofs.pieces.SomePieces.{positions-cut, parts-share, pieces-same}
 use Rattle.ndarray.proofs.subviews.pieces_mut.PiecesMut.split_at.Goals as goal
 use Rattle.ndarray.proofs.subviews.pieces_mut.PiecesMut.split_at.Goals.{After-split-here}

@@ -9,7 +9,7 @@ use Rattle.ndarray.proofs.moving.LentCells.{AreLentAt-all, found-all}
 use Rattle.ndarray.proofs.boxes.Orders.{box_in-within, length-box_in}
 use Rattle.ndarray.proofs.strides.Reach.{length-cells_at}
 use Rattle.ndarray.proofs.boxes.Sizes.{size-le}
-use Rattle.ndarray.proofs.iter.elements_mut.LentElements.in_order.Goals as goal
+use Rattle.ndarray.proofs.iter.elements_mut.ElementsBaseMut.in_order.Goals as goal
 
 pub invariant_of-result : goal.invariant_of-result
 invariant_of-result g c =

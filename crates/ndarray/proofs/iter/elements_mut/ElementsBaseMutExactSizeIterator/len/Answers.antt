@@ -1,7 +1,7 @@
 use Rattle.std.proofs.Common.{ap, length, arith}
 use Rattle.ndarray.specs.base.Slots.{held_at}
 use Rattle.ndarray.proofs.moving.LentCells.{length-lent_at}
-use Rattle.ndarray.proofs.iter.elements_mut.LentElementsExactSizeIterator.len.Goals as goal
+use Rattle.ndarray.proofs.iter.elements_mut.ElementsBaseMutExactSizeIterator.len.Goals as goal
 
 pub returns-clause-value : goal.returns-clause-value
 returns-clause-value g c =

@@ -1,7 +1,7 @@
 use Rattle.std.proofs.Common.{rules, ◌∙◌, ap, sym, length, length-append}
 use Rattle.ndarray.specs.base.Slots.{held_at}
 use Rattle.ndarray.proofs.moving.LentCells.{lent_at-next_back, lent_at-beginning, found-last}
-use Rattle.ndarray.proofs.iter.elements_mut.LentElementsIx1DoubleEndedIterator.next_back.Goals as goal
+use Rattle.ndarray.proofs.iter.elements_mut.ElementsBaseMutIx1DoubleEndedIterator.next_back.Goals as goal
 
 pub take-requires : goal.take-requires
 take-requires g c = lent_at-next_back (held_at c.self.inside.region.slots) c.in-Some.place c.self.inside.places c.next_back.new.self c.self.invariant c.in-Some.ensures

@@ -1,7 +1,7 @@
 use Rattle.std.proofs.Common.{rules, ◌∙◌, ap, sym, length}
 use Rattle.ndarray.specs.base.Slots.{held_at}
 use Rattle.ndarray.proofs.moving.LentCells.{lent_at-next, lent_at-rest, found-first}
-use Rattle.ndarray.proofs.iter.elements_mut.LentElementsIterator.next.Goals as goal
+use Rattle.ndarray.proofs.iter.elements_mut.ElementsBaseMutIterator.next.Goals as goal
 
 pub take-requires : goal.take-requires
 take-requires g c = lent_at-next (held_at c.self.inside.region.slots) c.in-Some.place c.self.inside.places c.next.new.self c.self.invariant c.in-Some.ensures
