@@ -1,8 +1,6 @@
 //! Iterators over the cells of an array, in row order, and the names of those over its subviews.
 
-ghost use Rattle.std.specs.Prelude.{◌≡◌, ◌<◌, ◌^◌, length, ⊤, IfSome};
-ghost use Rattle.std.specs.Iterator.{YieldsFirstRef, YieldsLastRef, UpTo, item_count};
-ghost use Rattle.std.specs.Iterator.SizeHint.{IsExactHint, IsWithinCount};
+ghost use Rattle.std.specs.Prelude.{◌≡◌, ◌<◌, ◌^◌, length};
 ghost use Rattle.ndarray.specs.Orders.{HasInOrder};
 ghost use Rattle.ndarray.specs.declared.base.shape.Order.TheVariants.{RowMajor};
 
@@ -14,11 +12,11 @@ pub mod indexed_mut;
 pub mod into_iter;
 
 use crate::base::array::{ArrayBase, ArrayView};
-use crate::base::dimension::{Ix1, Lengths};
+use crate::base::dimension::Lengths;
 pub use crate::base::index_lists::Indices;
 use crate::base::storage::Data;
 pub use crate::iter::collected::{to_vec, to_vec_mapped};
-pub use crate::iter::elements::ElementsBase;
+pub use crate::iter::elements::{ElementsBase, Iter};
 pub use crate::iter::elements_mut::{ElementsBaseMut, IterMut};
 pub use crate::iter::indexed::IndexedIter;
 pub use crate::iter::indexed_mut::IndexedIterMut;
@@ -32,27 +30,6 @@ pub use crate::subviews::exact_chunks_mut::{ExactChunksIterMut, ExactChunksMut};
 pub use crate::subviews::lanes::{Lanes, LanesIter};
 pub use crate::subviews::lanes_mut::{LanesIterMut, LanesMut};
 pub use crate::subviews::windows::{AxisWindows, Windows, WindowsIter};
-use std::alloc::AllocError;
-use std::iter::ExactSizeIterator;
-use std::marker::Model;
-
-/// The cells of an array that are still to come, in row order.
-///
-/// An iterator allocates nothing, and neither does any of its steps.
-#[derive(Drop)]
-pub struct Iter<'a, A, D: Lengths> {
-    elements: ElementsBase<'a, A, D>,
-}
-
-impl<'a, A, D: Lengths> Model for Iter<'a, A, D> {
-    ghost use Rattle.std.specs.Prelude.{List, ⊤};
-
-    ghost Value = { List A };
-
-    ghost view = { λ s. s.elements };
-
-    ghost invariant = { λ _. ⊤ };
-}
 
 impl<S: Data, D: Lengths> ArrayBase<S, D> {
     /// The cells in row order, whatever the strides.
@@ -67,9 +44,7 @@ impl<S: Data, D: Lengths> ArrayBase<S, D> {
         ensures cells { result ≡ self.now.cells }
         ensures fits { length result < 2 ^ 63 }
     {
-        Iter {
-            elements: ElementsBase::new(self.view()),
-        }
+        ElementsBase::new(self.view())
     }
 }
 
@@ -100,55 +75,6 @@ impl<'a, A, D: Lengths> IntoIterator for ArrayView<'a, A, D> {
     ghost into_iter_gives = { λ a it. (it ≡ a.cells) × (length it < 2 ^ 63) };
 
     fn into_iter(self) -> Iter<'a, A, D> {
-        Iter {
-            elements: ElementsBase::new(self),
-        }
-    }
-}
-
-impl<'a, A, D: Lengths> Iterator for Iter<'a, A, D> {
-    type Item = &'a A;
-
-    ghost next_gives = { YieldsFirstRef (λ rest. rest) };
-
-    ghost remaining = { item_count (λ rest. rest) };
-
-    #[inline(always)]
-    fn next(&mut self) -> Option<&'a A> {
-        self.elements.next()
-    }
-
-    fn size_hint(&self) -> (usize, Option<usize>)
-        ensures lower { IsWithinCount result.0 (item_count (λ rest. rest) self.now) }
-        ensures upper { IfSome result.1 (UpTo (item_count (λ rest. rest) self.now)) }
-        ensures exact { IsExactHint result (length self.now) }
-    {
-        self.elements.size_hint()
-    }
-}
-
-impl<'a, A, D: Lengths> ExactSizeIterator for Iter<'a, A, D> {
-    fn len(&self) -> usize {
-        self.elements.len()
-    }
-}
-
-impl<'a, A> DoubleEndedIterator for Iter<'a, A, Ix1> {
-    ghost next_back_gives = { YieldsLastRef (λ rest. rest) };
-
-    fn next_back(&mut self) -> Option<&'a A> {
-        self.elements.next_back()
-    }
-}
-
-impl<'a, A, D: Lengths> Clone for Iter<'a, A, D> {
-    ghost is_clone = { λ s r. r ≡ s };
-
-    ghost is_infallible = { λ _. ⊤ };
-
-    fn clone(&self) -> Result<Iter<'a, A, D>, AllocError> {
-        Ok(Iter {
-            elements: self.elements.clone()?,
-        })
+        ElementsBase::new(self)
     }
 }

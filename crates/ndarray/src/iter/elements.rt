@@ -1,4 +1,4 @@
-//! The walk that the iterators over cells stand on.
+//! The iterator over cells.
 
 ghost use Rattle.std.specs.Prelude.{◌≡◌, [], ◌+◌, ◌<◌, ◌≤◌, ◌^◌, length, take, drop, ⊤, IfSome, MatchOption};
 ghost use Rattle.std.specs.Iterator.{YieldsFirstRef, YieldsLastRef, UpTo, item_count};
@@ -78,6 +78,9 @@ impl<'a, A, D: Lengths> ElementsBase<'a, A, D> {
         }
     }
 }
+
+/// The cells of an array that are still to come, in row order.
+pub type Iter<'a, A, D> = ElementsBase<'a, A, D>;
 
 /// A row of cells, and the index lists behind it.
 #[derive(Drop)]
