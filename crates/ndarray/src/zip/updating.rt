@@ -3,10 +3,12 @@
 ghost use Rattle.std.specs.Prelude.{◌≡◌, ℕ, List, length, map, Option, Some, Result, Ok, Err, MatchResult};
 ghost use Rattle.std.specs.Iterator.{IsFinite};
 ghost use Rattle.ndarray.specs.Calls.{can_call_by_ref2, call_gives_by_ref2};
-ghost use Rattle.ndarray.specs.Grid.{Grid, IsGrid};
+ghost use Rattle.ndarray.specs.Grid.{Grid, IsGrid, cell};
+ghost use Rattle.ndarray.specs.Index.{InBox};
 ghost use Rattle.ndarray.specs.Orders.{box_in, HasInOrder};
 ghost use Rattle.ndarray.specs.Producers.{YieldsInTurn};
 ghost use Rattle.ndarray.specs.Runs.{MayGather};
+ghost use Rattle.ndarray.specs.Writes.{with_cell};
 ghost use Rattle.ndarray.specs.Updates.{is_beside, is_cell_beside, answers, OverwritesUntil, OverwritesTo, UpdatesUntil};
 ghost use Rattle.ndarray.specs.declared.base.shape.Order.{Order};
 ghost use Rattle.std.specs.declared.alloc.AllocError.{AllocError};
@@ -16,6 +18,7 @@ use crate::base::dimension::Lengths;
 use crate::base::storage::{CellWriter, DataMut};
 use crate::order::{Order, Walk, slowest_axis};
 use crate::zip::assigning::assigning_order;
+use crate::zip::pair::PairRun;
 use crate::zip::producer::NdProducer;
 use crate::zip::turns::{Taken, note_flat};
 use std::alloc::AllocError;
@@ -82,14 +85,39 @@ fn try_update_each<P: NdProducer, A: Drop, S: DataMut<Elem = A>, C: CellCall<A, 
     ensures ran { UpdatesUntil (is_cell_beside array.old (P.yields_at other)) C.call_gives order f array.old result array.new }
     ensures whole { IsGrid array.new }
 {
-    let mut run = other.run(order).zip(Walk::new(array.raw_dim(), order));
+    let mut run = PairRun {
+        first: other.run(order),
+        second: Walk::new(array.raw_dim(), order),
+    };
     while let Some((item, index)) = run.next() {
-        let Some(cell) = array.cell_mut(&index) else {
-            unreachable!()
-        };
-        let answer = f.call(cell, item)?;
-        *cell = answer;
+        match update_cell(array, &index, item, &mut f) {
+            Ok(()) => {}
+            Err(refused) => return Err(refused),
+        }
     }
+    Ok(())
+}
+
+/// The same in one cell.
+#[inline(always)]
+fn update_cell<A: Drop, S: DataMut<Elem = A>, D: Lengths, X, C: CellCall<A, X>>(
+    array: &mut ArrayBase<S, D>,
+    index: &D,
+    item: X,
+    f: &mut C,
+) -> Result<(), AllocError>
+    requires within { InBox array.old.lengths (D.numbers index.now) }
+    requires callable { (x : A) → cell array.old (D.numbers index.now) ≡ Some x → C.can_call f.old (x, item) }
+    ensures { MatchResult result (λ _. (x : A) × (r : A) × (cell array.old (D.numbers index.now) ≡ Some x) × C.call_gives f.old (x, item) (Ok r) f.new × (array.new ≡ with_cell array.old (D.numbers index.now) r)) (λ e. (x : A) × (cell array.old (D.numbers index.now) ≡ Some x) × C.call_gives f.old (x, item) (Err e) f.new × (array.new ≡ with_cell array.old (D.numbers index.now) x)) }
+{
+    let Some(cell) = array.cell_mut(index) else {
+        unreachable!()
+    };
+    let answer = match f.call(cell, item) {
+        Ok(answer) => answer,
+        Err(refused) => return Err(refused),
+    };
+    *cell = answer;
     Ok(())
 }
 
