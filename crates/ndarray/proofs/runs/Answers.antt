@@ -2,7 +2,10 @@
 use Rattle.std.proofs.Common.{◌≡◌, ℕ, ◌+◌, ◌<◌, List, [], ◌∷◌, ◌++◌, length, Option, Some, sym, ap, arith}
 use Rattle.std.proofs.lemmas.List.{length-append}
 use Rattle.std.specs.List.{FoldsTo}
-use Rattle.ndarray.specs.Runs.{TurnAt, GatherTurn}
+use Rattle.ndarray.specs.Orders.{box_in}
+use Rattle.ndarray.specs.Runs.{MayGather, TurnAt, GatherTurn}
+use Rattle.ndarray.specs.declared.base.shape.Order.{Order}
+use Rattle.ndarray.specs.declared.base.shape.Order.TheVariants.{RowMajor, ColumnMajor}
 use Rattle.ndarray.proofs.runs.Turns.{Reached, found}
 
 module _ {F A R : Type 0} (call_gives : F → A → R → F → Type 0) (yields_at : List ℕ → A → Type 0) where
@@ -23,3 +26,9 @@ module _ {F A R : Type 0} (call_gives : F → A → R → F → Type 0) (yields_
       let n = gathered-length k.done (f, []) (g, rs) k.turns in
       let l : length (k.done ++ (k.place ∷ k.rest)) ≡ length is = ap (length {A = List ℕ}) k.parts in
       omega (arith, length-append k.done (k.place ∷ k.rest))
+
+-- what may be called in row order and in column order may be called in any order
+pub may_gather_in : {F A R : Type 0} (yields_at : List ℕ → A → Type 0) (call_gives : F → A → R → F → Type 0) (can_call : F → A → Type 0) (ns : List ℕ) (f : F)
+    → MayGather yields_at call_gives can_call (box_in RowMajor ns) f → MayGather yields_at call_gives can_call (box_in ColumnMajor ns) f → (o : Order) → MayGather yields_at call_gives can_call (box_in o ns) f
+may_gather_in yields_at call_gives can_call ns f rows columns RowMajor = rows
+may_gather_in yields_at call_gives can_call ns f rows columns ColumnMajor = columns

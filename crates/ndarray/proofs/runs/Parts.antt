@@ -1,5 +1,5 @@
 -- Turns over one part of some places, seen as turns over all of them.
-use Rattle.std.proofs.Common.{◌≡◌, ℕ, ◌+◌, ◌-◌, ◌<◌, ◌≤◌, List, [], ◌∷◌, ◌++◌, map, get_or, set, sum, Result, Ok, Err, MatchResult, refl, sym, subst, ◌∙◌, ap, arith, inl, inr}
+use Rattle.std.proofs.Common.{◌≡◌, ℕ, ◌+◌, ◌-◌, ◌*◌, ◌<◌, ◌≤◌, List, [], ◌∷◌, ◌++◌, map, get_or, set, sum, Result, Ok, Err, MatchResult, refl, sym, subst, ◌∙◌, ap, arith, inl, inr}
 use Rattle.std.specs.List.{FoldsTo, AllByRecursion}
 use Rattle.std.proofs.lemmas.Grind.{get_or-set_at}
 use Rattle.std.proofs.lemmas.List.{append_assoc, append-nil, map-append}
@@ -218,10 +218,14 @@ long-left all more = omega arith
 pub next-left : (index done len rest : ℕ) → index + done ≡ len + 1 → rest + 1 ≡ index → rest + (done + 1) ≡ len + 1
 next-left index done len rest all one = omega arith
 
--- where the first index is cut off, its part has fewer indices in all than the whole
-pub first-fewer : (first part index done len rest all : ℕ) → part ≡ first → first + index ≡ rest + 1 → index + done ≡ len + 1 → rest + done ≡ all + 1 → 1 < len → part < all
-first-fewer first part index done len rest all same cut left walked long = omega arith
+-- where the first index is cut off, its part has fewer indices in all than the whole; a producer counts for one more than the same to be cut
+pub first-fewer : (first index done len rest all : ℕ) → first + index ≡ rest + 1 → index + done ≡ len + 1 → rest + done ≡ all + 1 → 1 < len → 2 * first + 1 < 2 * all
+first-fewer first index done len rest all cut left walked long = omega arith
 
 -- and so has what is left in the end
-pub last-fewer : (done len rest all : ℕ) → rest + done ≡ all + 1 → 1 < len → len ≤ done → rest < all
+pub last-fewer : (done len rest all : ℕ) → rest + done ≡ all + 1 → 1 < len → len ≤ done → 2 * rest + 1 < 2 * all
 last-fewer done len rest all walked long ended = omega arith
+
+-- a producer to be cut has as many as the same
+pub cut-fewer : (same all : ℕ) → same ≡ all → 2 * same < 2 * all + 1
+cut-fewer same all e = omega arith

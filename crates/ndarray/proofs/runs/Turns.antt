@@ -41,6 +41,11 @@ module _ {S A P : Type 0} (next : S → Option A → S → Type 0) (yields_at : 
       → MayTurnAt (TurnAt yields_at turn) (TakesAt yields_at takes) p is → Reached is t p q → next t (Some x) u → takes q x
   may_take {takes} {x = x} m b st = let k = found b st in m.at k.done k.place k.rest _ k.parts k.turns x k.stands
 
+  -- and so it may at each item to come next
+  pub goes_on : {takes : P → A → Type 0} {is : List (List ℕ)} {t : S} {p q : P}
+      → MayTurnAt (TurnAt yields_at turn) (TakesAt yields_at takes) p is → Reached is t p q → Reached is t p q × ((x : A) (u : S) → next t (Some x) u → takes q x)
+  goes_on m b = (b, λ x u st. may_take m b st)
+
   pub next_turn : {is : List (List ℕ)} {t u : S} {p q r : P} {x : A} → Reached is t p q → next t (Some x) u → turn q x r → Reached is u p r
   next_turn {is} {x = x} b st h =
       let k = found b st in

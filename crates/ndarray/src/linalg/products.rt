@@ -1,6 +1,7 @@
 //! Products of vectors and matrices by `dot`.
 
 ghost use Rattle.std.specs.Prelude.{◌≡◌, ◌↔◌, IsTrue};
+ghost use Rattle.ndarray.specs.Limits.{IsWithinLimit};
 ghost use Rattle.ndarray.specs.Products.{HasSumsInRange, MakesColumn, MakesMatrix, MakesRow, ShapesMultiply, column_of, matrix_of, product_of, products_of, row_of};
 ghost use Rattle.ndarray.specs.Sums.{IsSummable, total};
 
@@ -41,7 +42,15 @@ pub fn dot_ok<S: Data, S2: Data, D: Lengths, E: Lengths>(
     ensures { IsTrue result ↔ ShapesMultiply left.now.lengths right.now.lengths }
 {
     let (left, right) = (left.raw_dim(), right.raw_dim());
-    let (ns, ms) = (left.slice(), right.slice());
+    shapes_multiply(left.slice(), right.slice())
+}
+
+/// Whether lengths are those of two arrays that have a product.
+fn shapes_multiply(ns: &[usize], ms: &[usize]) -> bool
+    requires left { IsWithinLimit ns.now }
+    requires right { IsWithinLimit ms.now }
+    ensures { IsTrue result ↔ ShapesMultiply ns.now ms.now }
+{
     let (n, m) = (ns.len(), ms.len());
     if n == 0 || n > 2 || m == 0 || m > 2 || ns[n - 1] != ms[0] {
         return false;

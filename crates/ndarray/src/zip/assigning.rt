@@ -88,7 +88,7 @@ impl<P: NdProducer, R: Drop, C: ItemCall<P::Item, Out = R>> CellWriter<R, ()> fo
 
     fn write(self, slice: &mut [R]) {
         let Answers { p, order, f } = self;
-        match update_parts(slice, p, order, false, Anew(f)) {
+        match update_parts(slice, p, order, Anew(f)) {
             Ok(_written) => {}
             Err(_refused) => unreachable!(),
         }

@@ -74,6 +74,7 @@ pub(crate) fn collect_in_either_order<P: NdProducer, R: Drop, C: ItemCall<P::Ite
 }
 
 /// The same of a closure that may refuse.
+#[tactic(auto, using(crate::proofs::runs::Answers::may_gather_in))]
 pub(crate) fn try_collect_in_either_order<
     P: NdProducer,
     R: Drop,

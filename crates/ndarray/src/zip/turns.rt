@@ -50,61 +50,60 @@ pub(crate) fn take_items<P: NdProducer, T: Turn<P::Item>>(
     requires can { MayTurnAt (TurnAt (P.yields_at p) T.goes) (TakesAt (P.yields_at p) T.can_take) turn (box_in order (P.lengths p)) }
     ensures ran { EndsOrStops (TurnAt (P.yields_at p) T.goes) (StopsAt (P.yields_at p) T.stops) turn (box_in order (P.lengths p)) result }
 {
-    match take_parts(p, order, false, turn) {
+    match take_parts(p, order, turn) {
         Ok(taken) => Ok(taken.turn),
         Err(stop) => Err(stop),
     }
 }
 
-/// The same of a producer that is a part of another. It is not tried whole where it is `apart`.
+/// The same, noting whether they lay side by side, all or in parts.
+#[cycle(parts)]
+#[inline(always)]
 fn take_parts<P: NdProducer, T: Turn<P::Item>>(
     p: P,
     order: Order,
-    apart: bool,
     turn: T,
 ) -> Result<Taken<T>, T::Stop>
     requires can { MayTurnAt (TurnAt (P.yields_at p) T.goes) (TakesAt (P.yields_at p) T.can_take) turn (box_in order (P.lengths p)) }
     ensures ran { MatchResult result (λ taken. EndsOrStops (TurnAt (P.yields_at p) T.goes) (StopsAt (P.yields_at p) T.stops) turn (box_in order (P.lengths p)) (Ok taken.turn)) (λ stop. EndsOrStops (TurnAt (P.yields_at p) T.goes) (StopsAt (P.yields_at p) T.stops) turn (box_in order (P.lengths p)) (Err stop)) }
 {
-    let mut p = match flat_unless(p, order, apart) {
-        Ok(flat) => return note_flat(take_run::<P, _, _>(P::run_flat(flat), turn), true),
-        Err(p) => p,
-    };
+    match p.try_flat(order) {
+        Ok(flat) => note_flat(take_run::<P, _, _>(P::run_flat(flat), turn), true),
+        Err(p) => take_cut(p, order, turn),
+    }
+}
+
+/// The same of a producer that is cut, since its items do not lie side by side.
+#[cycle(parts)]
+fn take_cut<P: NdProducer, T: Turn<P::Item>>(
+    p: P,
+    order: Order,
+    turn: T,
+) -> Result<Taken<T>, T::Stop>
+    requires can { MayTurnAt (TurnAt (P.yields_at p) T.goes) (TakesAt (P.yields_at p) T.can_take) turn (box_in order (P.lengths p)) }
+    ensures ran { MatchResult result (λ taken. EndsOrStops (TurnAt (P.yields_at p) T.goes) (StopsAt (P.yields_at p) T.stops) turn (box_in order (P.lengths p)) (Ok taken.turn)) (λ stop. EndsOrStops (TurnAt (P.yields_at p) T.goes) (StopsAt (P.yields_at p) T.stops) turn (box_in order (P.lengths p)) (Err stop)) }
+{
     let Some(cut) = slowest_axis(order, &p.raw_dim()) else {
         return note_flat(take_run::<P, _, _>(p.run(order), turn), false);
     };
     // One index of the axis after another, and no halves: a part that is flat then costs no further call of this function.
+    let mut p = p;
     let mut turn = turn;
     for done in 1..cut.len {
         let (first, rest) = p.split_at(cut.axis, 1);
         p = rest;
-        match first.try_flat(order) {
-            Ok(flat) => match take_run::<P, _, _>(P::run_flat(flat), turn) {
-                Ok(next) => turn = next,
-                Err(stop) => return Err(stop),
-            },
-            Err(first) => match take_parts(first, order, true, turn) {
-                Err(stop) => return Err(stop),
-                Ok(Taken { turn: next, flat }) => {
-                    turn = next;
-                    if !flat {
-                        // Where the first part has no flat parts, the rest is not cut again.
-                        return note_flat(take_run::<P, _, _>(p.run(order), turn), false);
-                    }
+        match take_parts(first, order, turn) {
+            Err(stop) => return Err(stop),
+            Ok(Taken { turn: next, flat }) => {
+                turn = next;
+                if !flat {
+                    // Where the first part has no flat parts, the rest is not cut again.
+                    return note_flat(take_run::<P, _, _>(p.run(order), turn), false);
                 }
-            },
+            }
         }
     }
-    take_parts(p, order, false, turn)
-}
-
-/// The flat form, where the items lie side by side in the order and the producer is not known to be `apart`.
-#[inline(always)]
-pub(crate) fn flat_unless<P: NdProducer>(p: P, order: Order, apart: bool) -> Result<P::Flat, P>
-    ensures flat { IfOk result (λ flat. P.flat_form p order flat) }
-    ensures back { IfErr result (λ q. IsRefinedBy (P.lengths p) (P.yields_at p) (P.lengths q) (P.yields_at q)) }
-{
-    if apart { Err(p) } else { p.try_flat(order) }
+    take_parts(p, order, turn)
 }
 
 /// What has taken the items of a run, which are flat or not.
@@ -121,7 +120,7 @@ pub(crate) fn note_flat<T, E>(ran: Result<T, E>, flat: bool) -> Result<Taken<T>,
 /// Has the items of a run over a producer taken, one after another.
 ///
 /// It is a function of its own, so that what takes them stays in registers: one that is passed on as well, as in
-/// [`take_parts`], is kept in memory.
+/// [`take_cut`], is kept in memory.
 #[inline(never)]
 fn take_run<P: NdProducer, R: Iterator<Item = P::Item>, T: Turn<P::Item>>(
     mut run: R,

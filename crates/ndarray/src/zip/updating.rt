@@ -3,10 +3,12 @@
 ghost use Rattle.std.specs.Prelude.{◌≡◌, ℕ, List, length, map, Option, Some, Result, Ok, Err, MatchResult};
 ghost use Rattle.std.specs.Iterator.{IsFinite};
 ghost use Rattle.ndarray.specs.Calls.{can_call_by_ref2, call_gives_by_ref2};
-ghost use Rattle.ndarray.specs.Grid.{Grid, IsGrid};
+ghost use Rattle.ndarray.specs.Grid.{Grid, IsGrid, cell};
+ghost use Rattle.ndarray.specs.Index.{InBox};
 ghost use Rattle.ndarray.specs.Orders.{box_in, HasInOrder};
 ghost use Rattle.ndarray.specs.Producers.{YieldsInTurn};
 ghost use Rattle.ndarray.specs.Runs.{MayGather};
+ghost use Rattle.ndarray.specs.Writes.{with_cell};
 ghost use Rattle.ndarray.specs.Updates.{is_beside, is_cell_beside, answers, OverwritesUntil, OverwritesTo, UpdatesUntil};
 ghost use Rattle.ndarray.specs.declared.base.shape.Order.{Order};
 ghost use Rattle.std.specs.declared.alloc.AllocError.{AllocError};
@@ -16,8 +18,9 @@ use crate::base::dimension::Lengths;
 use crate::base::storage::{CellWriter, DataMut};
 use crate::order::{Order, Walk, slowest_axis};
 use crate::zip::assigning::assigning_order;
+use crate::zip::pair::PairRun;
 use crate::zip::producer::NdProducer;
-use crate::zip::turns::{Taken, flat_unless, note_flat};
+use crate::zip::turns::{Taken, note_flat};
 use std::alloc::AllocError;
 
 /// What answers the new cell at an old one and an item beside it, or an error.
@@ -82,14 +85,39 @@ fn try_update_each<P: NdProducer, A: Drop, S: DataMut<Elem = A>, C: CellCall<A, 
     ensures ran { UpdatesUntil (is_cell_beside array.old (P.yields_at other)) C.call_gives order f array.old result array.new }
     ensures whole { IsGrid array.new }
 {
-    let mut run = other.run(order).zip(Walk::new(array.raw_dim(), order));
+    let mut run = PairRun {
+        first: other.run(order),
+        second: Walk::new(array.raw_dim(), order),
+    };
     while let Some((item, index)) = run.next() {
-        let Some(cell) = array.cell_mut(&index) else {
-            unreachable!()
-        };
-        let answer = f.call(cell, item)?;
-        *cell = answer;
+        match update_cell(array, &index, item, &mut f) {
+            Ok(()) => {}
+            Err(refused) => return Err(refused),
+        }
     }
+    Ok(())
+}
+
+/// The same in one cell.
+#[inline(always)]
+fn update_cell<A: Drop, S: DataMut<Elem = A>, D: Lengths, X, C: CellCall<A, X>>(
+    array: &mut ArrayBase<S, D>,
+    index: &D,
+    item: X,
+    f: &mut C,
+) -> Result<(), AllocError>
+    requires within { InBox array.old.lengths (D.numbers index.now) }
+    requires callable { (x : A) → cell array.old (D.numbers index.now) ≡ Some x → C.can_call f.old (x, item) }
+    ensures { MatchResult result (λ _. (x : A) × (r : A) × (cell array.old (D.numbers index.now) ≡ Some x) × C.call_gives f.old (x, item) (Ok r) f.new × (array.new ≡ with_cell array.old (D.numbers index.now) r)) (λ e. (x : A) × (cell array.old (D.numbers index.now) ≡ Some x) × C.call_gives f.old (x, item) (Err e) f.new × (array.new ≡ with_cell array.old (D.numbers index.now) x)) }
+{
+    let Some(cell) = array.cell_mut(index) else {
+        unreachable!()
+    };
+    let answer = match f.call(cell, item) {
+        Ok(answer) => answer,
+        Err(refused) => return Err(refused),
+    };
+    *cell = answer;
     Ok(())
 }
 
@@ -109,7 +137,7 @@ impl<P: NdProducer, A: Drop, C: CellCall<A, P::Item>> CellWriter<A, Result<(), A
 
     fn write(self, slice: &mut [A]) -> Result<(), AllocError> {
         let Updates { other, order, f } = self;
-        match update_parts(slice, other, order, false, f) {
+        match update_parts(slice, other, order, f) {
             Ok(_updated) => Ok(()),
             Err(refused) => Err(refused),
         }
@@ -118,29 +146,43 @@ impl<P: NdProducer, A: Drop, C: CellCall<A, P::Item>> CellWriter<A, Result<(), A
 
 /// Leaves in each element of a slice what a call answers at it and the item beside it of a producer in the order, up to
 /// the first error. A producer whose items do not lie side by side is cut along the slowest axis, index by index, down to
-/// parts whose items do, and the slice with it; it is not tried whole where it is `apart`.
+/// parts whose items do, and the slice with it.
+#[cycle(parts)]
+#[inline(always)]
 pub(crate) fn update_parts<P: NdProducer, A: Drop, C: CellCall<A, P::Item>>(
     slice: &mut [A],
     p: P,
     order: Order,
-    apart: bool,
     f: C,
 ) -> Result<Taken<C>, AllocError>
     requires can { (at : List ℕ → Option A) × ((map at (box_in order (P.lengths p)) ≡ map Some slice.old) × MayGather (is_beside at (P.yields_at p)) (answers C.call_gives) C.can_call (box_in order (P.lengths p)) f) }
     ensures ran { (at : List ℕ → Option A) → map at (box_in order (P.lengths p)) ≡ map Some slice.old → MatchResult result (λ u. OverwritesTo (is_beside at (P.yields_at p)) C.call_gives (box_in order (P.lengths p)) f slice.old (Ok u.turn) slice.new) (λ e. OverwritesTo (is_beside at (P.yields_at p)) C.call_gives (box_in order (P.lengths p)) f slice.old (Err e) slice.new) }
     ensures as_long { length slice.new ≡ length slice.old }
 {
-    let mut p = match flat_unless(p, order, apart) {
-        Ok(flat) => {
-            return note_flat(update_run::<P, _, _, _>(slice, P::run_flat(flat), f), true);
-        }
-        Err(p) => p,
-    };
+    match p.try_flat(order) {
+        Ok(flat) => note_flat(update_run::<P, _, _, _>(slice, P::run_flat(flat), f), true),
+        Err(p) => update_cut(slice, p, order, f),
+    }
+}
+
+/// The same of a producer that is cut, since its items do not lie side by side.
+#[cycle(parts)]
+fn update_cut<P: NdProducer, A: Drop, C: CellCall<A, P::Item>>(
+    slice: &mut [A],
+    p: P,
+    order: Order,
+    f: C,
+) -> Result<Taken<C>, AllocError>
+    requires can { (at : List ℕ → Option A) × ((map at (box_in order (P.lengths p)) ≡ map Some slice.old) × MayGather (is_beside at (P.yields_at p)) (answers C.call_gives) C.can_call (box_in order (P.lengths p)) f) }
+    ensures ran { (at : List ℕ → Option A) → map at (box_in order (P.lengths p)) ≡ map Some slice.old → MatchResult result (λ u. OverwritesTo (is_beside at (P.yields_at p)) C.call_gives (box_in order (P.lengths p)) f slice.old (Ok u.turn) slice.new) (λ e. OverwritesTo (is_beside at (P.yields_at p)) C.call_gives (box_in order (P.lengths p)) f slice.old (Err e) slice.new) }
+    ensures as_long { length slice.new ≡ length slice.old }
+{
     let Some(cut) = slowest_axis(order, &p.raw_dim()) else {
         return note_flat(update_run::<P, _, _, _>(slice, p.run(order), f), false);
     };
     // How many elements stand beside each index of the axis.
     let each = slice.len() / cut.len;
+    let mut p = p;
     let mut from = 0;
     let mut f = f;
     for done in 1..cut.len {
@@ -148,28 +190,22 @@ pub(crate) fn update_parts<P: NdProducer, A: Drop, C: CellCall<A, P::Item>>(
         p = rest;
         let end = from + each;
         let here = &mut slice[from..end];
-        match first.try_flat(order) {
-            Ok(flat) => match update_run::<P, _, _, _>(here, P::run_flat(flat), f) {
-                Ok(next) => f = next,
-                Err(refused) => return Err(refused),
-            },
-            Err(first) => match update_parts(here, first, order, true, f) {
-                Err(refused) => return Err(refused),
-                Ok(Taken { turn: next, flat }) => {
-                    f = next;
-                    if !flat {
-                        // Where the first part has no flat parts, the rest is not cut again.
-                        return note_flat(
-                            update_run::<P, _, _, _>(&mut slice[end..], p.run(order), f),
-                            false,
-                        );
-                    }
+        match update_parts(here, first, order, f) {
+            Err(refused) => return Err(refused),
+            Ok(Taken { turn: next, flat }) => {
+                f = next;
+                if !flat {
+                    // Where the first part has no flat parts, the rest is not cut again.
+                    return note_flat(
+                        update_run::<P, _, _, _>(&mut slice[end..], p.run(order), f),
+                        false,
+                    );
                 }
-            },
+            }
         }
         from = end;
     }
-    update_parts(&mut slice[from..], p, order, false, f)
+    update_parts(&mut slice[from..], p, order, f)
 }
 
 /// The same of a run over a producer, one item after another.

@@ -1,3 +1,4 @@
+use Rattle.std.proofs.Common.{Some}
 use Rattle.ndarray.specs.Orders.{box_in}
 use Rattle.ndarray.specs.Producers.{YieldsInTurn}
 use Rattle.ndarray.specs.declared.base.shape.Order.{Order}
@@ -10,3 +11,4 @@ invariant-loop-item g l =
     × (goal.iterator-loop-item g).is_finite l.run
     × ((p : g.row.P.Denot) (o : Order) → YieldsInTurn (goal.iterator-loop-item g).next_gives (g.P.NdProducer.yields_at p) l.fn.run (box_in o (g.P.Shaped.lengths p))
     → Reached (goal.iterator-loop-item g).next_gives (g.P.NdProducer.yields_at p) g.T.Turn.goes (box_in o (g.P.Shaped.lengths p)) l.run l.fn.turn l.turn)
+    × ((x : g.row.P-Item.Denot) (t : g.row.R.Denot) → (goal.iterator-loop-item g).next_gives l.run (Some x) t → g.T.Turn.can_take l.turn x)

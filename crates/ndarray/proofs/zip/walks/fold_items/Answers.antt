@@ -1,30 +1,24 @@
 use Rattle.std.proofs.Common.{rules}
-use Rattle.ndarray.proofs.runs.Turns.{at_start, at_end, may_take, next_turn, YieldsInTurn-less}
+use Rattle.ndarray.proofs.runs.Turns.{at_start, at_end, goes_on, next_turn, YieldsInTurn-less}
 use Rattle.ndarray.proofs.zip.walks.fold_items.Goals as goal
 use Rattle.ndarray.proofs.zip.walks.fold_items.Goals.{in-Ok+in_default, in-Err+in_default-next}
 
 pub loop-y-init : goal.loop-y-init
-loop-y-init g c = (c.run_flat-run.ensures.can, c.run_flat-run.ensures.finite, at_start _ _ _ _ (c.run_flat-run.ensures.gives _ _ c.in-Ok.ensures.flat))
-
-pub call-acc-requires : goal.call-acc-requires
-call-acc-requires g c = may_take _ _ _ c.requires.callable c.loop-y.invariant.2 c.in-Some.ensures.steps
+loop-y-init g c = (c.run_flat-run.ensures.can, c.run_flat-run.ensures.finite, goes_on _ _ _ c.requires.callable (at_start _ _ _ _ (c.run_flat-run.ensures.gives _ _ c.in-Ok.ensures.flat)))
 
 pub loop-y-preserved : goal.loop-y-preserved
-loop-y-preserved g c = (search rules, search rules, next_turn _ _ _ c.loop-y.invariant.2 c.in-Some.ensures.steps c.call-acc.ensures)
+loop-y-preserved g c = (search rules, search rules, goes_on _ _ _ c.requires.callable (next_turn _ _ _ c.loop-y.invariant.2.0 c.in-Some.ensures.steps c.call-acc.ensures))
 
 pub loop-x-init : goal.loop-x-init
-loop-x-init g c = (c.run-run.ensures.can, c.run-run.ensures.finite, at_start _ _ _ _ (YieldsInTurn-less c.args.order c.in-Err.ensures.back c.run-run.ensures.gives))
-
-pub call-acc-requires-in-Some-next : goal.call-acc-requires-in-Some-next
-call-acc-requires-in-Some-next g c = may_take _ _ _ c.requires.callable c.loop-x.invariant.2 c.in-Some-next.ensures.steps
+loop-x-init g c = (c.run-run.ensures.can, c.run-run.ensures.finite, goes_on _ _ _ c.requires.callable (at_start _ _ _ _ (YieldsInTurn-less c.args.order c.in-Err.ensures.back c.run-run.ensures.gives)))
 
 pub loop-x-preserved : goal.loop-x-preserved
-loop-x-preserved g c = (search rules, search rules, next_turn _ _ _ c.loop-x.invariant.2 c.in-Some-next.ensures.steps c.call-acc-in-Some-next.ensures)
+loop-x-preserved g c = (search rules, search rules, goes_on _ _ _ c.requires.callable (next_turn _ _ _ c.loop-x.invariant.2.0 c.in-Some-next.ensures.steps c.call-acc-in-Some-next.ensures))
 
 pub returns : goal.returns
 returns g c = record {
   ran = elim c.match-try_flat.branch [
-    | in-Ok+in_default w ↦ (w.loop-y.f, rw w.acc-is (at_end _ _ _ w.loop-y.invariant.2 (rw w.in_default.is at w.next.ensures.steps)))
-    | in-Err+in_default-next w ↦ (w.loop-x.f, rw w.acc-is (at_end _ _ _ w.loop-x.invariant.2 (rw w.in_default-next.is at w.next-in-loop-x.ensures.steps)))
+    | in-Ok+in_default w ↦ (w.loop-y.f, rw w.acc-is (at_end _ _ _ w.loop-y.invariant.2.0 (rw w.in_default.is at w.next.ensures.steps)))
+    | in-Err+in_default-next w ↦ (w.loop-x.f, rw w.acc-is (at_end _ _ _ w.loop-x.invariant.2.0 (rw w.in_default-next.is at w.next-in-loop-x.ensures.steps)))
   ];
 }

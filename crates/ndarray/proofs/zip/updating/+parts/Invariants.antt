@@ -3,13 +3,16 @@ use Rattle.std.specs.Prelude.{slice_index, Some}
 use Rattle.ndarray.specs.Orders.{box_in}
 use Rattle.ndarray.specs.order.Cuts.{IsSlowest}
 use Rattle.ndarray.proofs.runs.OverwrittenParts.{Left}
-use Rattle.ndarray.proofs.zip.updating.+update_parts.Given as goal
+use Rattle.ndarray.proofs.zip.updating.+parts.Given as goal
 
 abbrev pub decreases-update_parts : goal.decreases-update_parts
-decreases-update_parts g l = sum (g.P.Shaped.lengths l.p)
+decreases-update_parts g l = 2 * sum (g.P.Shaped.lengths l.p) + 1
 
-abbrev pub invariant-loop-done : goal.invariant-loop-done
-invariant-loop-done g l =
+abbrev pub decreases-update_cut : goal.decreases-update_cut
+decreases-update_cut g l = 2 * sum (g.P.Shaped.lengths l.p)
+
+abbrev pub invariant-update_cut-loop-done : goal.invariant-update_cut-loop-done
+invariant-update_cut-loop-done g l =
     IsSlowest l.fn.order (g.P.Shaped.lengths l.p) l.cut.axis.0
     × (slice_index (g.P.Shaped.lengths l.p) l.cut.axis.0 + l.done ≡ l.cut.len + 1)
     × (sum (g.P.Shaped.lengths l.p) + l.done ≡ sum (g.P.Shaped.lengths l.fn.p) + 1)
