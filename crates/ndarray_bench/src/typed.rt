@@ -9,7 +9,6 @@ mod layouts;
 mod ops;
 mod owned;
 mod refusing;
-mod residues;
 mod shown;
 mod writing;
 mod zip;
@@ -50,7 +49,6 @@ pub fn carry_out_all<R: Print + AllocGlobal>(rt: &R, given: Counts) -> io::Resul
 /// The tests of views to read and their iterators.
 fn of_reading<R: Print + AllocGlobal>(rt: &R, given: Counts) -> io::Result<Counts> {
     carry_out!(rt, given;
-        fixed::windows_by_tuples(alloc),
         fixed::subviews_have_one_axis_fewer(alloc),
         owned::cells_may_own_memory(alloc),
     )
@@ -73,8 +71,6 @@ fn of_callers<R: Print + AllocGlobal>(rt: &R, given: Counts) -> io::Result<Count
         ops::a_refused_update_leaves_the_cells_to_come(alloc),
         refusing::refuses_one_request(alloc),
         refusing::lists_grow_or_are_left(alloc),
-        residues::fibonacci_numbers_of_residues(alloc),
-        zip::dot_of_two_layouts(),
         zip::azip_adds(),
         zip::answers_are_written(alloc),
         zip::a_producer_is_asked(),

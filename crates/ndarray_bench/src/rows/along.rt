@@ -4,7 +4,7 @@ use crate::rows::calls::ViewCall;
 use crate::rows::layouts::Table;
 use crate::rows::operators::{View, push_answer};
 use crate::rows::reading::{apply_all, kind};
-use crate::rows::spelling::{axis, number};
+use crate::rows::spelling::numbers;
 use crate::rows::wrapped::wrap_all;
 use ndarray::Axis;
 use std::alloc::{AllocError, Global};
@@ -33,9 +33,10 @@ impl AlongCall {
     /// The call that these words spell.
     fn parse(words: &[&str]) -> Option<AlongCall> {
         let (name, arguments) = words.split_first()?;
-        match arguments {
-            [at] if *name == "cumprod" => Some(AlongCall::Cumprod(axis(*at)?)),
-            [order, at] if *name == "diff" => { Some(AlongCall::Diff(number(*order)?, axis(*at)?)) }
+        let (first, second, _third) = numbers(arguments)?;
+        match (*name, arguments.len()) {
+            ("cumprod", 1) => Some(AlongCall::Cumprod(Axis(first))),
+            ("diff", 2) => Some(AlongCall::Diff(first, Axis(second))),
             _ => None,
         }
     }

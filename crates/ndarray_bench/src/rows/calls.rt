@@ -1,6 +1,6 @@
 //! The calls of a row, as its words spell them.
 
-use crate::rows::spelling::{axis, cell, index, lengths, number, slice};
+use crate::rows::spelling::{cell, index, numbers, shape, slice_of_axis, two_shapes};
 use ndarray::{Axis, IxDyn, Lengths, Slice};
 use std::alloc::{AllocError, Global};
 
@@ -26,40 +26,25 @@ impl ViewCall {
     /// The call that these words spell.
     pub fn parse(words: &[&str]) -> Option<ViewCall> {
         let (name, arguments) = words.split_first()?;
-        match arguments {
-            [] if *name == "reversed_axes" => Some(ViewCall::ReversedAxes),
-            [argument] => ViewCall::of_one(*name, *argument),
-            [first, second] => ViewCall::of_two(*name, *first, *second),
-            [at, range, step] if *name == "slice_axis_inplace" => {
-                ViewCall::slice_of_axis(*at, *range, *step)
-            }
-            _ => None,
+        if *name == "slice_axis_inplace" {
+            let (axis, slice) = slice_of_axis(arguments)?;
+            return Some(ViewCall::SliceAxisInplace(axis, slice));
         }
+        ViewCall::of_numbers(*name, arguments)
     }
 
-    /// The call of this name with one argument.
-    fn of_one(name: &str, argument: &str) -> Option<ViewCall> {
-        match name {
-            "invert_axis" => Some(ViewCall::InvertAxis(axis(argument)?)),
-            "insert_axis" => Some(ViewCall::InsertAxis(axis(argument)?)),
-            "into_dimensionality" => Some(ViewCall::IntoDimensionality(number(argument)?)),
+    /// The call of this name whose arguments are numbers.
+    fn of_numbers(name: &str, arguments: &[&str]) -> Option<ViewCall> {
+        let (first, second, _third) = numbers(arguments)?;
+        match (name, arguments.len()) {
+            ("reversed_axes", 0) => Some(ViewCall::ReversedAxes),
+            ("invert_axis", 1) => Some(ViewCall::InvertAxis(Axis(first))),
+            ("insert_axis", 1) => Some(ViewCall::InsertAxis(Axis(first))),
+            ("into_dimensionality", 1) => Some(ViewCall::IntoDimensionality(first)),
+            ("swap_axes", 2) => Some(ViewCall::SwapAxes(first, second)),
+            ("index_axis_move", 2) => Some(ViewCall::IndexAxisMove(Axis(first), second)),
             _ => None,
         }
-    }
-
-    /// The call of this name with two arguments.
-    fn of_two(name: &str, first: &str, second: &str) -> Option<ViewCall> {
-        match name {
-            "swap_axes" => Some(ViewCall::SwapAxes(number(first)?, number(second)?)),
-            "slice_axis_inplace" => ViewCall::slice_of_axis(first, second, "1"),
-            "index_axis_move" => Some(ViewCall::IndexAxisMove(axis(first)?, number(second)?)),
-            _ => None,
-        }
-    }
-
-    /// A slice of an axis, with a range and a step.
-    fn slice_of_axis(at: &str, range: &str, step: &str) -> Option<ViewCall> {
-        Some(ViewCall::SliceAxisInplace(axis(at)?, slice(range, step)?))
     }
 }
 
@@ -75,31 +60,22 @@ pub enum PartCall {
 impl PartCall {
     /// The call of this name with these arguments.
     pub fn parse(name: &str, arguments: &[&str]) -> Option<PartCall> {
-        match arguments {
-            [] => PartCall::without_arguments(name),
-            [at, index] if name == "index_axis" => {
-                Some(PartCall::IndexAxis(axis(*at)?, number(*index)?))
-            }
-            [at, range] if name == "slice_axis" => PartCall::slice_of_axis(*at, *range, "1"),
-            [at, range, step] if name == "slice_axis" => PartCall::slice_of_axis(
-                *at, *range, *step,
-            ),
-            _ => None,
+        if name == "slice_axis" {
+            let (axis, slice) = slice_of_axis(arguments)?;
+            return Some(PartCall::SliceAxis(axis, slice));
         }
+        PartCall::of_numbers(name, arguments)
     }
 
-    /// The call of this name that borrows all of the view.
-    fn without_arguments(name: &str) -> Option<PartCall> {
-        match name {
-            "view" => Some(PartCall::View),
-            "t" => Some(PartCall::Transposed),
+    /// The call of this name whose arguments are numbers.
+    fn of_numbers(name: &str, arguments: &[&str]) -> Option<PartCall> {
+        let (first, second, _third) = numbers(arguments)?;
+        match (name, arguments.len()) {
+            ("view", 0) => Some(PartCall::View),
+            ("t", 0) => Some(PartCall::Transposed),
+            ("index_axis", 2) => Some(PartCall::IndexAxis(Axis(first), second)),
             _ => None,
         }
-    }
-
-    /// A slice of an axis, with a range and a step.
-    fn slice_of_axis(at: &str, range: &str, step: &str) -> Option<PartCall> {
-        Some(PartCall::SliceAxis(axis(at)?, slice(range, step)?))
     }
 }
 
@@ -126,72 +102,40 @@ impl Pieces {
         name: &str,
         arguments: &[&str],
     ) -> Result<Option<Pieces>, AllocError> {
-        match arguments {
-            [] => Ok(Pieces::of_view(name)),
-            [shape] if name == "exact_chunks" => {
-                Ok(lengths(alloc, *shape)?.map(Pieces::ExactChunks))
-            }
-            [shape] if name == "windows" => Ok(lengths(alloc, *shape)?.map(Pieces::Windows)),
-            [window, strides] if name == "windows_with_stride" => {
-                Pieces::windows_with_stride(alloc, *window, *strides)
-            }
-            arguments => Ok(Pieces::along_axis(name, arguments)),
-        }
-    }
-
-    /// The call of this name without arguments.
-    fn of_view(name: &str) -> Option<Pieces> {
         match name {
-            "outer_iter" => Some(Pieces::OuterIter),
-            "rows" => Some(Pieces::Rows),
-            "columns" => Some(Pieces::Columns),
-            _ => None,
+            "exact_chunks" => Ok(shape(alloc, arguments)?.map(Pieces::ExactChunks)),
+            "windows" => Ok(shape(alloc, arguments)?.map(Pieces::Windows)),
+            "windows_with_stride" => Pieces::windows_with_stride(alloc, arguments),
+            name => Ok(Pieces::of_numbers(name, arguments)),
         }
     }
 
-    /// Windows of these lengths, with these steps between them.
+    /// Windows of spelled lengths, with spelled steps between them.
     fn windows_with_stride(
         alloc: Global,
-        window: &str,
-        strides: &str,
+        arguments: &[&str],
     ) -> Result<Option<Pieces>, AllocError> {
-        let Some(window) = lengths(alloc, window)? else {
-            return Ok(None);
-        };
-        match lengths(alloc, strides)? {
-            Some(strides) => Ok(Some(Pieces::WindowsWithStride(window, strides))),
+        match two_shapes(alloc, arguments)? {
+            Some((window, strides)) => Ok(Some(Pieces::WindowsWithStride(window, strides))),
             None => Ok(None),
         }
     }
 
-    /// The call of this name along an axis, which is the first argument.
-    fn along_axis(name: &str, arguments: &[&str]) -> Option<Pieces> {
-        let (at, rest) = arguments.split_first()?;
-        let axis = axis(*at)?;
-        match rest {
-            [] => Pieces::along(name, axis),
-            [size] => Pieces::of_size(name, axis, number(*size)?),
-            [window, stride] if name == "axis_windows_with_stride" => Some(
-                Pieces::AxisWindowsWithStride(axis, number(*window)?, number(*stride)?),
-            ),
-            _ => None,
-        }
-    }
-
-    /// The call of this name along an axis alone.
-    fn along(name: &str, axis: Axis) -> Option<Pieces> {
-        match name {
-            "axis_iter" => Some(Pieces::AxisIter(axis)),
-            "lanes" => Some(Pieces::Lanes(axis)),
-            _ => None,
-        }
-    }
-
-    /// The call of this name for so many items along an axis.
-    fn of_size(name: &str, axis: Axis, size: usize) -> Option<Pieces> {
-        match name {
-            "axis_chunks_iter" => Some(Pieces::AxisChunksIter(axis, size)),
-            "axis_windows" => Some(Pieces::AxisWindows(axis, size)),
+    /// The call of this name whose arguments are numbers, of which the first is an axis.
+    fn of_numbers(name: &str, arguments: &[&str]) -> Option<Pieces> {
+        let (first, second, third) = numbers(arguments)?;
+        let axis = Axis(first);
+        match (name, arguments.len()) {
+            ("outer_iter", 0) => Some(Pieces::OuterIter),
+            ("rows", 0) => Some(Pieces::Rows),
+            ("columns", 0) => Some(Pieces::Columns),
+            ("axis_iter", 1) => Some(Pieces::AxisIter(axis)),
+            ("lanes", 1) => Some(Pieces::Lanes(axis)),
+            ("axis_chunks_iter", 2) => Some(Pieces::AxisChunksIter(axis, second)),
+            ("axis_windows", 2) => Some(Pieces::AxisWindows(axis, second)),
+            ("axis_windows_with_stride", 3) => {
+                Some(Pieces::AxisWindowsWithStride(axis, second, third))
+            }
             _ => None,
         }
     }
@@ -275,10 +219,12 @@ impl WriteCall {
 
     /// The parts of an axis before and from an index on.
     fn split_at(arguments: &[&str]) -> Option<WriteCall> {
-        let [at, index] = arguments else {
-            return None;
-        };
-        Some(WriteCall::SplitAt(axis(*at)?, number(*index)?))
+        let (axis, index, _third) = numbers(arguments)?;
+        if arguments.len() == 2 {
+            Some(WriteCall::SplitAt(Axis(axis), index))
+        } else {
+            None
+        }
     }
 
     /// The call whose name is this one with `_mut`.

@@ -6,7 +6,7 @@ use crate::rows::layouts::{LAYOUTS, Layout, Table};
 use crate::rows::operators::push_text;
 use crate::rows::reading::{apply_all, kind};
 use crate::rows::shown::as_text;
-use crate::rows::spelling::axis;
+use crate::rows::spelling::{axis, whole_number};
 use ndarray::{Array, ArrayView, Axis, IxDyn, StackError, concatenate, stack};
 use std::alloc::{AllocError, Global};
 
@@ -58,8 +58,8 @@ impl JoinCall {
         match name {
             "concatenate" => Some(JoinCall::Concatenate(axis(argument)?)),
             "stack" => Some(JoinCall::Stack(axis(argument)?)),
-            "triu" => Some(JoinCall::Triu(argument.parse::<isize>().ok()?)),
-            "tril" => Some(JoinCall::Tril(argument.parse::<isize>().ok()?)),
+            "triu" => Some(JoinCall::Triu(whole_number(argument)?)),
+            "tril" => Some(JoinCall::Tril(whole_number(argument)?)),
             _ => None,
         }
     }

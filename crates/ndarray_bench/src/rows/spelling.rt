@@ -13,35 +13,94 @@ pub fn axis(word: &str) -> Option<Axis> {
     Some(Axis(number(word)?))
 }
 
+/// Up to three numbers, and 0 for each that no word spells.
+pub fn numbers(words: &[&str]) -> Option<(usize, usize, usize)> {
+    if words.len() > 3 {
+        return None;
+    }
+    Some((
+        number_at(words, 0)?,
+        number_at(words, 1)?,
+        number_at(words, 2)?,
+    ))
+}
+
+/// The number that the word at a place spells, and 0 where there is no such word.
+fn number_at(words: &[&str], place: usize) -> Option<usize> {
+    match words.get(place) {
+        Some(word) => number(*word),
+        None => Some(0),
+    }
+}
+
+/// A whole number, which may be negative.
+pub fn whole_number(word: &str) -> Option<isize> {
+    word.parse::<isize>().ok()
+}
+
+/// An axis and a slice of it: a range, and a step, which is 1 where it is left out.
+pub fn slice_of_axis(words: &[&str]) -> Option<(Axis, Slice)> {
+    let (at, words) = words.split_first()?;
+    let axis = axis(*at)?;
+    let (range, step) = words.split_first()?;
+    Some((axis, slice(*range, step_of(step)?)?))
+}
+
+/// The word of a step, which is 1 where it is left out.
+fn step_of<'a>(words: &[&'a str]) -> Option<&'a str> {
+    match words {
+        [] => Some("1"),
+        [step] => Some(*step),
+        _ => None,
+    }
+}
+
 /// A slice: a range, as `1..4`, `-2..`, `..-1` or `..`, and a step.
-pub fn slice(range: &str, step: &str) -> Option<Slice> {
+fn slice(range: &str, step: &str) -> Option<Slice> {
     let (start, end) = range.split_once("..")?;
-    let step = step.parse::<isize>().ok()?;
+    let step = whole_number(step)?;
     let start = if start.is_empty() {
         0
     } else {
-        start.parse::<isize>().ok()?
+        whole_number(start)?
     };
     let end = if end.is_empty() {
         None
     } else {
-        Some(end.parse::<isize>().ok()?)
+        Some(whole_number(end)?)
     };
     Some(Slice::new(start, end, step))
 }
 
 /// Lengths joined by `x`, or `.` for none.
 pub fn lengths(alloc: Global, word: &str) -> Result<Option<IxDyn>, AllocError> {
-    let mut numbers = Vec::new(alloc);
-    if word != "." {
-        for piece in word.split('x') {
-            let Some(length) = number(piece) else {
-                return Ok(None);
-            };
-            numbers.push(length)?;
-        }
+    if word == "." {
+        return index(alloc, &[]);
     }
-    Ok(dimension(numbers.as_slice()))
+    let words: Vec<&str> = word.split('x').collect(alloc)?;
+    index(alloc, words.as_slice())
+}
+
+/// The lengths that a single word spells.
+pub fn shape(alloc: Global, words: &[&str]) -> Result<Option<IxDyn>, AllocError> {
+    match words {
+        [word] => lengths(alloc, *word),
+        _ => Ok(None),
+    }
+}
+
+/// Two lists of lengths, each of which a word spells.
+pub fn two_shapes(alloc: Global, words: &[&str]) -> Result<Option<(IxDyn, IxDyn)>, AllocError> {
+    let Some((first, rest)) = words.split_first() else {
+        return Ok(None);
+    };
+    let Some(first) = lengths(alloc, *first)? else {
+        return Ok(None);
+    };
+    match shape(alloc, rest)? {
+        Some(second) => Ok(Some((first, second))),
+        None => Ok(None),
+    }
 }
 
 /// The dimension of these numbers, of which there are at most 32.

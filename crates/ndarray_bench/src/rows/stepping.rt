@@ -97,6 +97,20 @@ impl Answers {
         Ok(())
     }
 
+    /// Takes the first so many items, and gives the iterator of the rest; `None` where there are fewer.
+    fn split<I: BothEnds>(&mut self, items: I, count: usize) -> Result<Option<I>, AllocError>
+    where
+        I::Item: Item,
+        requires can { (it : I) → I.can_next it }
+        requires ends { (it : I) → IsFinite (I.remaining it) }
+    {
+        let Some((first, second)) = items.split(count) else {
+            return Ok(None);
+        };
+        self.take_part(first)?;
+        Ok(Some(second))
+    }
+
     /// Carries out a step that any iterator has, and answers whether it is one.
     fn step<I: Iterator>(&mut self, items: &mut I, step: Step) -> Result<bool, AllocError>
     where
@@ -231,11 +245,10 @@ where
     let mut answers = Answers::new(alloc);
     for step in steps {
         if let Step::SplitAt(count) = *step {
-            let Some((first, second)) = items.split(count) else {
+            let Some(rest) = answers.split(items, count)? else {
                 return Ok(Ending::Refused);
             };
-            answers.take_part(first)?;
-            items = second;
+            items = rest;
         } else if !answers.step_from_ends(&mut items, *step)? {
             return answers.last_step(items, *step);
         }
@@ -262,11 +275,10 @@ where
             Step::Clone => answers.take_part(items.clone()?)?,
             Step::Nth(count) => answers.take(items.after(count))?,
             Step::SplitAt(count) => {
-                let Some((first, second)) = items.split(count) else {
+                let Some(rest) = answers.split(items, count)? else {
                     return Ok(Ending::Refused);
                 };
-                answers.take_part(first)?;
-                items = second;
+                items = rest;
             }
             step => {
                 if !answers.step_from_ends(&mut items, step)? {

@@ -29,15 +29,24 @@ pub enum Step {
 impl Step {
     /// The step that a word spells.
     fn parse(word: &str) -> Option<Step> {
-        if let Some((name, count)) = word.split_once(':') {
-            let count = number(count)?;
-            return match name {
-                "nth" => Some(Step::Nth(count)),
-                "split_at" => Some(Step::SplitAt(count)),
-                _ => None,
-            };
+        match word.split_once(':') {
+            Some((name, count)) => Step::of_count(name, number(count)?),
+            None => Step::by_name(word),
         }
-        match word {
+    }
+
+    /// The step of this name with a number of items.
+    fn of_count(name: &str, count: usize) -> Option<Step> {
+        match name {
+            "nth" => Some(Step::Nth(count)),
+            "split_at" => Some(Step::SplitAt(count)),
+            _ => None,
+        }
+    }
+
+    /// The step of this name.
+    fn by_name(name: &str) -> Option<Step> {
+        match name {
             "next" => Some(Step::Next),
             "next_back" => Some(Step::NextBack),
             "left" => Some(Step::Left),

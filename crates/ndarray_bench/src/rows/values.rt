@@ -4,7 +4,7 @@ ghost use Rattle.std.specs.Prelude.{◌<◌, length};
 
 use crate::rows::reading::View;
 use crate::rows::shown::{as_text, push_lengths, push_view};
-use crate::rows::spelling::{axis, index, lengths, number, slice};
+use crate::rows::spelling::{index, numbers, shape, slice_of_axis, two_shapes};
 use ndarray::Axis;
 use std::alloc::{AllocError, Global};
 
@@ -17,16 +17,29 @@ pub fn answer(
     let Some((name, arguments)) = words.split_first() else {
         return Ok(None);
     };
-    if *name == "get" {
-        return cell_at(alloc, view, arguments);
+    match *name {
+        "get" => cell_at(alloc, view, arguments),
+        "slice_ok" => is_so(alloc, slice_fits(view, arguments)),
+        "chunks_ok" => is_so(alloc, chunks_fit(alloc, view, arguments)?),
+        "windows_ok" => is_so(alloc, windows_fit(alloc, view, arguments)?),
+        name => of_numbers(alloc, view, name, arguments),
     }
-    match arguments {
-        [] => of_view(alloc, view, *name),
-        [argument] => of_one(alloc, view, *name, *argument),
-        [first, second] => of_two(alloc, view, *name, *first, *second),
-        [at, range, step] if *name == "slice_ok" => {
-            is_so(alloc, slice_fits(view, *at, *range, *step))
-        }
+}
+
+/// What a call answers whose arguments are numbers.
+fn of_numbers(
+    alloc: Global,
+    view: &View<'_>,
+    name: &str,
+    arguments: &[&str],
+) -> Result<Option<String>, AllocError> {
+    let Some((first, second, _third)) = numbers(arguments) else {
+        return Ok(None);
+    };
+    match arguments.len() {
+        0 => of_view(alloc, view, name),
+        1 => along(alloc, view, name, Axis(first)),
+        2 => of_two(alloc, view, name, first, second),
         _ => Ok(None),
     }
 }
@@ -42,7 +55,7 @@ fn is_so(alloc: Global, answer: Option<bool>) -> Result<Option<String>, AllocErr
 /// What a call without arguments answers.
 fn of_view(alloc: Global, view: &View<'_>, name: &str) -> Result<Option<String>, AllocError> {
     match name {
-        "shape" => shape(alloc, view).map(Some),
+        "shape" => lengths(alloc, view).map(Some),
         "ndim" => view.ndim().to_string(alloc).map(Some),
         "len" => view.len().to_string(alloc).map(Some),
         "sums_fit" => view.sums_fit().to_string(alloc).map(Some),
@@ -50,25 +63,6 @@ fn of_view(alloc: Global, view: &View<'_>, name: &str) -> Result<Option<String>,
         "products_fit" => view.products_fit().to_string(alloc).map(Some),
         "product" => product(alloc, view).map(Some),
         _ => Ok(None),
-    }
-}
-
-/// What a call with one argument answers.
-fn of_one(
-    alloc: Global,
-    view: &View<'_>,
-    name: &str,
-    argument: &str,
-) -> Result<Option<String>, AllocError> {
-    if name == "chunks_ok" {
-        return match lengths(alloc, argument)? {
-            Some(chunk) => is_so(alloc, Some(view.chunks_ok(&chunk))),
-            None => Ok(None),
-        };
-    }
-    match axis(argument) {
-        Some(axis) => along(alloc, view, name, axis),
-        None => Ok(None),
     }
 }
 
@@ -90,67 +84,43 @@ fn along(
     }
 }
 
-/// What a call with two arguments answers.
+/// What a call with two numbers answers.
 fn of_two(
     alloc: Global,
     view: &View<'_>,
     name: &str,
-    first: &str,
-    second: &str,
+    first: usize,
+    second: usize,
 ) -> Result<Option<String>, AllocError> {
     match name {
-        "slice_ok" => is_so(alloc, slice_fits(view, first, second, "1")),
-        "chunk_ok" => is_so(alloc, chunk_fits(view, first, second)),
-        "diff_ok" => is_so(alloc, diff_fits(view, first, second)),
-        "windows_ok" => windows_fit(alloc, view, first, second),
-        "split_at" => split_at(alloc, view, first, second),
+        "chunk_ok" => view
+            .chunk_ok(Axis(first), second)
+            .to_string(alloc)
+            .map(Some),
+        "diff_ok" => view.diff_ok(first, Axis(second)).to_string(alloc).map(Some),
+        "split_at" => split(alloc, view, Axis(first), second).map(Some),
         _ => Ok(None),
     }
 }
 
 /// What `slice_ok` answers of a spelled slice.
-fn slice_fits(view: &View<'_>, at: &str, range: &str, step: &str) -> Option<bool> {
-    Some(view.slice_ok(axis(at)?, &slice(range, step)?))
+fn slice_fits(view: &View<'_>, words: &[&str]) -> Option<bool> {
+    let (axis, slice) = slice_of_axis(words)?;
+    Some(view.slice_ok(axis, &slice))
 }
 
-/// What `chunk_ok` answers of a spelled axis and size.
-fn chunk_fits(view: &View<'_>, at: &str, size: &str) -> Option<bool> {
-    Some(view.chunk_ok(axis(at)?, number(size)?))
-}
-
-/// What `diff_ok` answers of a spelled order and axis.
-fn diff_fits(view: &View<'_>, order: &str, at: &str) -> Option<bool> {
-    Some(view.diff_ok(number(order)?, axis(at)?))
-}
-
-/// What `windows_ok` answers of spelled lengths and steps.
-fn windows_fit(
-    alloc: Global,
-    view: &View<'_>,
-    window: &str,
-    strides: &str,
-) -> Result<Option<String>, AllocError> {
-    let Some(window) = lengths(alloc, window)? else {
-        return Ok(None);
-    };
-    match lengths(alloc, strides)? {
-        Some(strides) => is_so(alloc, Some(view.windows_ok(&window, &strides))),
+/// What `chunks_ok` answers of spelled lengths.
+fn chunks_fit(alloc: Global, view: &View<'_>, words: &[&str]) -> Result<Option<bool>, AllocError> {
+    match shape(alloc, words)? {
+        Some(chunk) => Ok(Some(view.chunks_ok(&chunk))),
         None => Ok(None),
     }
 }
 
-/// Both parts of a view that is split at a spelled place; `None` where that is misspelled.
-fn split_at(
-    alloc: Global,
-    view: &View<'_>,
-    at: &str,
-    index: &str,
-) -> Result<Option<String>, AllocError> {
-    let Some(axis) = axis(at) else {
-        return Ok(None);
-    };
-    match number(index) {
-        Some(index) => split(alloc, view, axis, index).map(Some),
+/// What `windows_ok` answers of spelled lengths and steps.
+fn windows_fit(alloc: Global, view: &View<'_>, words: &[&str]) -> Result<Option<bool>, AllocError> {
+    match two_shapes(alloc, words)? {
+        Some((window, strides)) => Ok(Some(view.windows_ok(&window, &strides))),
         None => Ok(None),
     }
 }
@@ -168,7 +138,7 @@ fn split(alloc: Global, view: &View<'_>, axis: Axis, index: usize) -> Result<Str
 }
 
 /// The lengths.
-fn shape(alloc: Global, view: &View<'_>) -> Result<String, AllocError> {
+fn lengths(alloc: Global, view: &View<'_>) -> Result<String, AllocError> {
     let mut text = String::new(alloc);
     push_lengths(&mut text, view.shape())?;
     Ok(text)

@@ -3,15 +3,10 @@
 
 use crate::typed::checks::Checks;
 use crate::typed::layouts::{array, table};
-use crate::walked::products_of_two_layouts;
 use ndarray::zip::{One, Parts};
 use ndarray::{Array, ArrayView1, FoldWhile, Ix1, Ix2, NdProducer, Zip, azip};
 use std::alloc::{AllocError, Global};
 use std::cell::Cell;
-
-pub fn dot_of_two_layouts(checks: &mut Checks) {
-    checks.same(products_of_two_layouts(), 88);
-}
 
 pub fn azip_adds(checks: &mut Checks) {
     let a = table();
