@@ -49,6 +49,7 @@ pub fn carry_out_all<R: Print + AllocGlobal>(rt: &R, given: Counts) -> io::Resul
 /// The tests of views to read and their iterators.
 fn of_reading<R: Print + AllocGlobal>(rt: &R, given: Counts) -> io::Result<Counts> {
     carry_out!(rt, given;
+        fixed::windows_by_tuples(alloc),
         fixed::subviews_have_one_axis_fewer(alloc),
         owned::cells_may_own_memory(alloc),
     )
