@@ -1,5 +1,8 @@
-//! Functions that a user would write over the library, each with what it computes as its contract. docs/CALLING.md
-//! goes through them.
+//! Functions that a user would write over the library, each with what it computes as its contract; those of `reading` and
+//! `writing` are proved safe. docs/CALLING.md goes through them.
+
+pub mod reading;
+pub mod writing;
 
 ghost use Rattle.std.specs.Prelude.{◌≡◌, ◌↔◌, ◌<◌, ◌≤◌, ◌^◌, ◌∷◌, [], ◌++◌, ◌+ℤ◌, ◌-ℤ◌, ℕ, ℤ, List, Some, length, max, nat_lt, pos, replicate, slice_index, false, IfOk, IfSome, IsTrue, FitsSigned};
 ghost use Rattle.std.specs.Int.{w64};

@@ -1,9 +1,9 @@
-//! How many tests passed.
+//! How many rows passed.
 
 use std::fmt;
 use std::process::ExitCode;
 
-/// How many rows and typed tests passed, and how many failed.
+/// How many rows passed, and how many failed.
 #[derive(Clone, Copy)]
 pub struct Counts {
     passed: u64,
@@ -11,7 +11,7 @@ pub struct Counts {
 }
 
 impl Counts {
-    /// No test yet.
+    /// No row yet.
     pub fn new() -> Counts {
         Counts {
             passed: 0,
@@ -19,7 +19,7 @@ impl Counts {
         }
     }
 
-    /// One test more.
+    /// One row more.
     pub fn with(self, passed: bool) -> Counts {
         if passed {
             Counts {
@@ -34,7 +34,7 @@ impl Counts {
         }
     }
 
-    /// The exit status: 0 where some test passed and none failed.
+    /// The exit status: 0 where some row passed and none failed.
     pub fn status(&self) -> ExitCode {
         if self.failed == 0 && self.passed > 0 {
             ExitCode::SUCCESS

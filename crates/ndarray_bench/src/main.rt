@@ -1,9 +1,8 @@
-//! What the library is tried with: a program that carries out rows of calls on tables and compares what they give, and
-//! the tests that rows cannot say; and functions that a user would write and prove.
+//! What the library is tried with: a program that carries out rows of calls on tables and compares what they give; and
+//! functions that a user would write and prove.
 //!
-//! `ndarray_bench FILE..` carries out the typed tests and then the rows of the files, as docs/DEVELOPMENT.md describes
-//! both, prints the name of each test that fails and each row that gives another answer, and ends with `N passed, M
-//! failed`; its status is 1 where one failed.
+//! `ndarray_bench FILE..` carries out the rows of the files, as docs/DEVELOPMENT.md describes them, prints each that gives
+//! another answer, and ends with `N passed, M failed`; its status is 1 where one failed.
 #![tactic(auto)]
 
 pub mod callers;
@@ -12,7 +11,6 @@ pub mod fibonacci;
 pub mod refusing;
 pub mod residue;
 mod rows;
-mod typed;
 pub mod walked;
 
 use crate::counts::Counts;
@@ -20,7 +18,7 @@ use std::process::ExitCode;
 use std::{env, fs, io};
 
 fn main(rt: HostRuntime) -> io::Result<ExitCode> {
-    let mut counts = typed::carry_out_all(&rt, Counts::new())?;
+    let mut counts = Counts::new();
     for name in env::args(&rt)?.skip(1) {
         let text = fs::read_to_string(&rt, name.as_str())?;
         counts = rows::compare(&rt, name.as_str(), text.as_str(), counts)?;
