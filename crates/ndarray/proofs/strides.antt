@@ -11,6 +11,7 @@ pub mod NestedMoves
 pub mod NestedPlaces
 pub mod Nesting
 pub mod OneAxisSlices
+pub mod OrderedCells
 pub mod OtherElements
 pub mod Reach
 pub mod Rows

@@ -6,7 +6,7 @@ use Rattle.std.specs.List.{list_all}
 use Rattle.std.proofs.Math.Seq.{drop-cons}
 use Rattle.std.proofs.lemmas.Bool.{cases_lt, and_left, and_parts, le-ltb, lt-ltb, not_from_false, not_from_true}
 use Rattle.std.proofs.lemmas.List.Elements.{All-cons}
-use Rattle.std.proofs.lemmas.List.{get_or-set_same, get_or_default, length-map, length-set, set-set, set-get_or}
+use Rattle.std.proofs.lemmas.List.{at_drop_all, get_or-set_same, get_or_default, length-map, length-set, set-set, set-get_or}
 use Rattle.ndarray.specs.Grid.{Grid, IsGrid, same_index}
 use Rattle.ndarray.specs.Joining.{concatenate_error, concatenated_lengths, is_same_but_along, is_within_limit, shapes_of, stack_error, stacked_lengths}
 use Rattle.ndarray.specs.Limits.{IsWithinLimit, nonzero_size}
@@ -105,6 +105,13 @@ module _ {A : Type 0} where
         (let e : k ≡ i = omega (arith, after, below) in
         subst IsGrid (is ∙ (get_or_default gs i g d lt ∙ ap (λ n. get_or gs n d) (sym e))) w)
   ]
+
+  -- at the end none fails, and all are whole
+  pub shapes-all : (p : List ℕ → Bool) (gs : List (Grid A)) (i : ℕ) → length gs ≤ i → list_all p (shapes_of (drop i gs)) ≡ list_all p (shapes_of gs) → true ≡ list_all p (shapes_of gs)
+  shapes-all p gs i end so_far = sym (at_drop_all (λ l. list_all p (shapes_of l)) gs i end) ∙ so_far
+
+  pub whole-all : (gs : List (Grid A)) (i : ℕ) → length gs ≤ i → ((k : ℕ) (d : Grid A) → k < i → IsGrid (get_or gs k d)) → All IsGrid gs
+  whole-all gs i end so_far k d lt = so_far k d (omega arith)
 
   -- ---- the error of shapes of which only the size is left to see
 

@@ -87,6 +87,7 @@ fn write_part<A, R, W: CellWriter<A, R>>(slice: &mut [A], from: usize, len: usiz
 
 impl<S: DataMut, D: Lengths> ArrayBase<S, D> {
     /// Has a writer write all cells in an order as one slice, where they are one; else the writer comes back.
+    #[tactic(auto, using(crate::proofs::strides::OrderedCells::cells_in_rows, crate::proofs::strides::OrderedCells::cells_in_columns))]
     pub(crate) fn write_cells_in<R, W: CellWriter<S::Elem, R>>(
         &mut self,
         order: Order,

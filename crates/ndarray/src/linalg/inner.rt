@@ -62,7 +62,7 @@ fn inner_of_slices<A: LinalgScalar>(xs: &[A], ys: &[A]) -> A
 
 /// A sum, and a product added to it.
 #[inline(always)]
-fn add_product<A: LinalgScalar>(sum: A, x: A, y: A) -> A
+pub(crate) fn add_product<A: LinalgScalar>(sum: A, x: A, y: A) -> A
     requires product { A.InRange (A.multiplication.op (A.meaning x) (A.meaning y)) }
     requires added { A.InRange (A.addition.op (A.meaning sum) (A.multiplication.op (A.meaning x) (A.meaning y))) }
     ensures { A.meaning result ≡ A.addition.op (A.meaning sum) (A.multiplication.op (A.meaning x) (A.meaning y)) }

@@ -8,6 +8,7 @@ use crate::base::array::{ArrayBase, ArrayView};
 use crate::base::dimension::Lengths;
 use crate::base::storage::{Data, DataMut};
 use crate::elements::LinalgScalar;
+use crate::linalg::inner::add_product;
 use crate::zip::producer::IntoBroadcast;
 use crate::zip::updating::{CellCall, try_update};
 use std::alloc::AllocError;
@@ -47,6 +48,6 @@ impl<'b, A: LinalgScalar> CellCall<A, &'b A> for ScaledAddition<A> {
     ghost call_gives = { λ c t r d. MatchResult r (AddsProduct A.Valued c.alpha t.0 t.1.now) (λ _. ⊥) × (d ≡ c) };
 
     fn call(&mut self, cell: &A, item: &'b A) -> Result<A, AllocError> {
-        Ok(*cell + self.alpha * *item)
+        Ok(add_product(*cell, self.alpha, *item))
     }
 }

@@ -2,9 +2,6 @@
 use Rattle.std.proofs.Common.{◌∙◌, ap, subst, sym}
 use Rattle.ndarray.proofs.linalg.inner.add_product.Goals as goal
 
-pub mul-requires : goal.mul-requires
-mul-requires g c = g.met.A.ProductElem.mul_in_range c.args.x c.args.y c.requires.product
-
 pub add-requires : goal.add-requires
 add-requires g c =
     let v = g.A.Valued in

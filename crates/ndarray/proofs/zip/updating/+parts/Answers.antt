@@ -1,6 +1,6 @@
 use Rattle.std.proofs.Common.{◌≡◌, ◌∙◌, ◌+◌, ◌-◌, ◌*◌, ◌/◌, ◌<◌, ◌≤◌, ℕ, List, Option, arith, ap, sym, subst, refl, length, map, take, drop, sum, Some}
 use Rattle.std.specs.Prelude.{slice_index}
-use Rattle.std.proofs.Math.Nat.{le_of_lt}
+use Rattle.std.proofs.Math.Nat.{le-add_right, le_of_lt}
 use Rattle.std.proofs.lemmas.Nat.{mul-le}
 use borrow.Rule.Slice.PartMut.{put_mid, same_len_mid}
 use Rattle.ndarray.specs.Orders.{box_in}
@@ -19,6 +19,13 @@ cut-back from each = omega arith
 -- where `index` parts of `each` elements are left from a place on
 from-within : (from index each many : ℕ) → from + index * each ≡ many → from ≤ many
 from-within from index each many all = omega arith
+
+-- what is within a list is within one as long, and its end is
+within-same : (end many len : ℕ) → many ≡ len → end ≤ len → end ≤ many
+within-same end many len same le = omega arith
+
+within-itself : (many : ℕ) → many ≤ many
+within-itself many = omega arith
 
 next-place : (from index each many rest now : ℕ) → from + index * each ≡ many → rest + 1 ≡ index → now ≡ many → from + each + rest * each ≡ now
 next-place from index each many rest now all one same = let wide = ap (λ n. n * each) one in omega arith
@@ -86,22 +93,15 @@ update_cut-overflow_add-end g t c =
     omega (arith, within, i.3)
 
 pub update_cut-slice_bounds-here-count : goal.update_cut-slice_bounds-here-count
-update_cut-slice_bounds-here-count g t c =
-    let i = c.loop-done.invariant in
-    let within = next-within c.loop-done.from (slice_index (g.P.Shaped.lengths c.loop-done.p) c.in-Some.cut.axis.0) (length c.args.slice.now / c.in-Some.cut.len) (length c.loop-done.slice) c.loop-done.done c.in-Some.cut.len i.1 c.loop-done-test.true i.4 in
-    omega (arith, within, i.3)
+update_cut-slice_bounds-here-count g t c = le-add_right c.loop-done.from (length c.args.slice.now / c.in-Some.cut.len)
 
 pub update_cut-slice_bounds-here-start : goal.update_cut-slice_bounds-here-start
-update_cut-slice_bounds-here-start g t c =
-    let i = c.loop-done.invariant in
-    let within = next-within c.loop-done.from (slice_index (g.P.Shaped.lengths c.loop-done.p) c.in-Some.cut.axis.0) (length c.args.slice.now / c.in-Some.cut.len) (length c.loop-done.slice) c.loop-done.done c.in-Some.cut.len i.1 c.loop-done-test.true i.4 in
-    omega (arith, within, i.3)
+update_cut-slice_bounds-here-start g t c = le-add_right c.loop-done.from (length c.args.slice.now / c.in-Some.cut.len)
 
 pub update_cut-slice_bounds-here-end : goal.update_cut-slice_bounds-here-end
 update_cut-slice_bounds-here-end g t c =
     let i = c.loop-done.invariant in
-    let within = next-within c.loop-done.from (slice_index (g.P.Shaped.lengths c.loop-done.p) c.in-Some.cut.axis.0) (length c.args.slice.now / c.in-Some.cut.len) (length c.loop-done.slice) c.loop-done.done c.in-Some.cut.len i.1 c.loop-done-test.true i.4 in
-    omega (arith, within, i.3)
+    next-within c.loop-done.from (slice_index (g.P.Shaped.lengths c.loop-done.p) c.in-Some.cut.axis.0) (length c.args.slice.now / c.in-Some.cut.len) (length c.loop-done.slice) c.loop-done.done c.in-Some.cut.len i.1 c.loop-done-test.true i.4
 
 pub update_cut-update_parts-requires : goal.update_cut-update_parts-requires
 update_cut-update_parts-requires g t c κs within =
@@ -151,20 +151,23 @@ update_cut-returns-in-Err-clause-ran g t c = λ at along.
 pub update_cut-slice_bounds-update_run-count : goal.update_cut-slice_bounds-update_run-count
 update_cut-slice_bounds-update_run-count g t c =
     let i = c.loop-done.invariant in
-    let within = next-within c.loop-done.from (slice_index (g.P.Shaped.lengths c.loop-done.p) c.in-Some.cut.axis.0) (length c.args.slice.now / c.in-Some.cut.len) (length c.loop-done.slice) c.loop-done.done c.in-Some.cut.len i.1 c.loop-done-test.true i.4 in
-    omega (arith, within, i.3)
+    let each = length c.args.slice.now / c.in-Some.cut.len in
+    let after : List g.row.A.Denot = put_mid c.loop-done.from (c.loop-done.from + each - c.loop-done.from) c.loop-done.slice c.update_parts.new.slice in
+    within-same (c.loop-done.from + each) (length after) (length c.loop-done.slice) (same_len_mid c.loop-done.from (c.loop-done.from + each - c.loop-done.from) c.loop-done.slice c.update_parts.new.slice c.in-Ok.ensures.as_long)
+    (next-within c.loop-done.from (slice_index (g.P.Shaped.lengths c.loop-done.p) c.in-Some.cut.axis.0) (length c.args.slice.now / c.in-Some.cut.len) (length c.loop-done.slice) c.loop-done.done c.in-Some.cut.len i.1 c.loop-done-test.true i.4)
 
 pub update_cut-slice_bounds-update_run-start : goal.update_cut-slice_bounds-update_run-start
 update_cut-slice_bounds-update_run-start g t c =
     let i = c.loop-done.invariant in
-    let within = next-within c.loop-done.from (slice_index (g.P.Shaped.lengths c.loop-done.p) c.in-Some.cut.axis.0) (length c.args.slice.now / c.in-Some.cut.len) (length c.loop-done.slice) c.loop-done.done c.in-Some.cut.len i.1 c.loop-done-test.true i.4 in
-    omega (arith, within, i.3)
+    let each = length c.args.slice.now / c.in-Some.cut.len in
+    let after : List g.row.A.Denot = put_mid c.loop-done.from (c.loop-done.from + each - c.loop-done.from) c.loop-done.slice c.update_parts.new.slice in
+    within-same (c.loop-done.from + each) (length after) (length c.loop-done.slice) (same_len_mid c.loop-done.from (c.loop-done.from + each - c.loop-done.from) c.loop-done.slice c.update_parts.new.slice c.in-Ok.ensures.as_long)
+    (next-within c.loop-done.from (slice_index (g.P.Shaped.lengths c.loop-done.p) c.in-Some.cut.axis.0) (length c.args.slice.now / c.in-Some.cut.len) (length c.loop-done.slice) c.loop-done.done c.in-Some.cut.len i.1 c.loop-done-test.true i.4)
 
 pub update_cut-slice_bounds-update_run-end : goal.update_cut-slice_bounds-update_run-end
 update_cut-slice_bounds-update_run-end g t c =
-    let i = c.loop-done.invariant in
-    let within = next-within c.loop-done.from (slice_index (g.P.Shaped.lengths c.loop-done.p) c.in-Some.cut.axis.0) (length c.args.slice.now / c.in-Some.cut.len) (length c.loop-done.slice) c.loop-done.done c.in-Some.cut.len i.1 c.loop-done-test.true i.4 in
-    omega (arith, within, i.3)
+    let each = length c.args.slice.now / c.in-Some.cut.len in
+    within-itself (length (put_mid c.loop-done.from (c.loop-done.from + each - c.loop-done.from) c.loop-done.slice c.update_parts.new.slice))
 
 pub update_cut-update_run-requires-then-not-flat-clause-can : goal.update_cut-update_run-requires-then-not-flat-clause-can
 update_cut-update_run-requires-then-not-flat-clause-can g t c =
@@ -260,13 +263,13 @@ update_cut-loop-done-preserved g t c =
     )
 
 pub update_cut-slice_bounds-update_parts-count : goal.update_cut-slice_bounds-update_parts-count
-update_cut-slice_bounds-update_parts-count g t c = let i = c.loop-done.invariant in omega (arith, i.3, i.4)
+update_cut-slice_bounds-update_parts-count g t c = from-within c.loop-done.from (slice_index (g.P.Shaped.lengths c.loop-done.p) c.in-Some.cut.axis.0) (length c.args.slice.now / c.in-Some.cut.len) (length c.loop-done.slice) c.loop-done.invariant.4
 
 pub update_cut-slice_bounds-update_parts-start : goal.update_cut-slice_bounds-update_parts-start
-update_cut-slice_bounds-update_parts-start g t c = let i = c.loop-done.invariant in omega (arith, i.3, i.4)
+update_cut-slice_bounds-update_parts-start g t c = from-within c.loop-done.from (slice_index (g.P.Shaped.lengths c.loop-done.p) c.in-Some.cut.axis.0) (length c.args.slice.now / c.in-Some.cut.len) (length c.loop-done.slice) c.loop-done.invariant.4
 
 pub update_cut-slice_bounds-update_parts-end : goal.update_cut-slice_bounds-update_parts-end
-update_cut-slice_bounds-update_parts-end g t c = let i = c.loop-done.invariant in omega (arith, i.3, i.4)
+update_cut-slice_bounds-update_parts-end g t c = within-itself (length c.loop-done.slice)
 
 pub update_cut-update_parts-requires-2 : goal.update_cut-update_parts-requires-2
 update_cut-update_parts-requires-2 g t c κs within =

@@ -24,14 +24,6 @@ came_back : {A W U : Type 0} (w : W) (g h k f : Grid A) (r : Result U W) → IsG
 came_back w g h k f (Ok u) whole e t b = b
 came_back w g h k f (Err v) whole e t b = (b.0, t ∙ (ap transposed (b.1 ∙ e) ∙ transposed-transposed g whole (transposed-whole g whole)))
 
-pub write_cells-requires : goal.write_cells-requires
-write_cells-requires g c = subst (g.W.CellWriter.can_write c.args.writer) (rw c.in-RowMajor.is (row-cells c.args.self.now c.requires.whole)) c.requires.can
-
-pub write_cells-written-requires : goal.write_cells-written-requires
-write_cells-written-requires g c =
-    let before : c.reverse_axes.new.self.cells ≡ cells_in ColumnMajor c.args.self.now = ap (λ v. v.cells) c.reverse_axes.ensures.value ∙ transposed-cells c.args.self.now in
-    subst (g.W.CellWriter.can_write c.args.writer) (sym before) (rw c.in-ColumnMajor.is at c.requires.can)
-
 pub returns-in-RowMajor-clause-done : goal.returns-in-RowMajor-clause-done
 returns-in-RowMajor-clause-done g c =
     let before = row-cells c.args.self.now c.requires.whole in

@@ -2,9 +2,6 @@ use Rattle.std.proofs.Common.{◌≢◌, ◌∙◌, ap, refl, subst, sym}
 use Rattle.std.proofs.lemmas.Bool.{iff_false}
 use Rattle.ndarray.proofs.linalg.general.AccumulationCellCall.call.Goals as goal
 
-pub mul-added-requires : goal.mul-added-requires
-mul-added-requires g c = g.met.A.ProductElem.mul_in_range c.args.self.now.alpha c.entry.result (c.requires.1 c.entry.result c.entry.ensures).scaled
-
 pub returns-then-is_zero : goal.returns-then-is_zero
 returns-then-is_zero g c =
     let k = c.requires.1 c.entry.result c.entry.ensures in
