@@ -1,14 +1,23 @@
 -- What the functions of src/callers compute.
-use Rattle.std.specs.Prelude.{ℕ, ℤ, pos, ◌-◌, ◌+ℤ◌, ◌/◌, Bool, false, List, [], ◌∷◌, Option, Some, None, drop, max}
+use Rattle.std.specs.Prelude.{ℕ, ℤ, pos, ◌-◌, ◌+ℤ◌, ◌/◌, ◌==◌, if◌then◌else◌, Bool, false, List, [], ◌∷◌, Option, Some, None, drop, max, slice_index}
 use Rattle.std.specs.List.{fold}
 use Rattle.ndarray.specs.Grid.{Grid, cell}
 use Rattle.ndarray.specs.Subviews.{window}
+use Rattle.ndarray.specs.Views.{broadcast_to}
 use Rattle.ndarray_bench.specs.PairedProducts.{number}
 use Rattle.ndarray_bench.specs.Residue.{Below, modulus_pos, residue_products, residue_sums}
 
 -- half of the cell at an index list
 abbrev pub half_at : Grid ℕ → List ℕ → ℕ
 half_at g is = number (cell g is) / 2
+
+-- the cell at an index list of a table, and 0 on the diagonal
+abbrev pub off_diagonal : Grid ℕ → List ℕ → ℕ
+off_diagonal g is = if slice_index is 0 == slice_index is 1 then 0 else number (cell g is)
+
+-- the greater one of the cell at an index list and the cell there of another array, which is broadcast
+abbrev pub greater_at : Grid ℕ → Grid ℕ → List ℕ → ℕ
+greater_at g h is = max (number (cell g is)) (number (cell (broadcast_to h g.lengths) is))
 
 -- the greatest pixel of the square of three by three pixels that begins at an index list
 abbrev pub greatest_in_square : Grid ℕ → List ℕ → ℕ

@@ -4,10 +4,11 @@
 pub mod reading;
 pub mod writing;
 
-ghost use Rattle.std.specs.Prelude.{◌≡◌, ◌↔◌, ◌<◌, ◌≤◌, ◌^◌, ◌∷◌, [], ◌++◌, ◌+ℤ◌, ◌-ℤ◌, ℕ, ℤ, List, Some, length, max, nat_lt, pos, replicate, slice_index, false, IfOk, IfSome, IsTrue, FitsSigned};
+ghost use Rattle.std.specs.Prelude.{◌≡◌, ◌↔◌, ◌<◌, ◌≤◌, ◌^◌, ◌∷◌, [], ◌++◌, ◌+ℤ◌, ◌-ℤ◌, ◌/◌, ℕ, ℤ, List, Some, length, map, max, nat_lt, pos, replicate, slice_index, false, IfOk, IfSome, IsTrue, FitsSigned};
 ghost use Rattle.std.specs.Int.{w64};
 ghost use Rattle.std.specs.List.{fold, list_all, list_any};
 ghost use Rattle.ndarray.specs.AlongAxis.{Cumulates, IsDifference, one_further};
+ghost use Rattle.ndarray.specs.Broadcast.{BroadcastsTo};
 ghost use Rattle.ndarray.specs.Elementwise.{CanCombine, Combines};
 ghost use Rattle.ndarray.specs.Grid.{IsGrid, arranged, cell, one_axis};
 ghost use Rattle.ndarray.specs.Index.{InBox};
@@ -17,11 +18,12 @@ ghost use Rattle.ndarray.specs.Products.{column_of, matrix_of, product_of, produ
 ghost use Rattle.ndarray.specs.Subviews.{lane, window_counts};
 ghost use Rattle.ndarray.specs.Sums.{IsSummable, total, total_by};
 ghost use Rattle.ndarray.specs.Views.{axis_item};
-ghost use Rattle.ndarray_bench.specs.Callers.{greatest_in_square, half_at, multiple_added, rest_at, sum_at, sum_below};
+ghost use Rattle.ndarray_bench.specs.Callers.{greater_at, greatest_in_square, half_at, multiple_added, off_diagonal, rest_at, sum_at, sum_below};
 ghost use Rattle.ndarray_bench.specs.Residue.{Below, modulus, modulus_pos, residue_products, residue_sums};
 
 use crate::residue::Residue;
-use ndarray::linalg::{dot_ok, general_mat_vec_mul, mat_vec_ok};
+use ndarray::iter::{to_vec, to_vec_mapped};
+use ndarray::linalg::{dot_ok, general_mat_mul, general_mat_vec_mul, mat_mul_ok, mat_vec_ok};
 use ndarray::reduce::dot_fits;
 use ndarray::{
     Array, ArrayBase, ArrayView, Axis, Data, DataMut, DimMax, Ix1, Ix2, Lengths, StackError,
@@ -48,6 +50,50 @@ pub fn halve_in_place<S: DataMut<Elem = u64>, D: Lengths>(a: &mut ArrayBase<S, D
     for x in a.iter_mut() {
         *x /= 2;
     }
+}
+
+/// A copy of a table, with zeros on its diagonal.
+pub fn clear_diagonal<S: Data<Elem = u64>>(
+    alloc: Global,
+    a: &ArrayBase<S, Ix2>,
+) -> Result<Array<u64, Ix2>, AllocError>
+    ensures { IfOk result (λ b. b ≡ arranged a.now.lengths (off_diagonal a.now)) }
+{
+    Zip::indexed(a).map_collect(alloc, |(i, j), x| if i == j { 0 } else { *x })
+}
+
+/// Each cell, raised to a limit where it is below it. The limits are broadcast, as one for each column.
+pub fn raise_to<S: Data<Elem = u64>, T: Data<Elem = u64>, D: Lengths, E: Lengths>(
+    alloc: Global,
+    a: &ArrayBase<S, D>,
+    limits: &ArrayBase<T, E>,
+) -> Result<Array<u64, D>, AllocError>
+    requires { BroadcastsTo limits.now.lengths a.now.lengths }
+    ensures { IfOk result (λ b. b ≡ arranged a.now.lengths (greater_at a.now limits.now)) }
+{
+    Zip::from(a)
+        .and_broadcast(limits)
+        .map_collect(alloc, |x, y| (*x).max(*y))
+}
+
+/// References to the cells, in row order.
+pub fn list_cells<'a, S: Data<Elem = u64>, D: Lengths>(
+    alloc: Global,
+    a: &'a ArrayBase<S, D>,
+) -> Result<Vec<&'a u64>, AllocError>
+    ensures { IfOk result (λ v. map (λ x. x.now) v.items ≡ a.now.cells) }
+{
+    to_vec(alloc, a.iter())
+}
+
+/// Half of each cell, rounded down, in row order.
+pub fn list_halves<S: Data<Elem = u64>, D: Lengths>(
+    alloc: Global,
+    a: &ArrayBase<S, D>,
+) -> Result<Vec<u64>, AllocError>
+    ensures { IfOk result (λ v. v.items ≡ map (λ x. x / 2) a.now.cells) }
+{
+    to_vec_mapped(alloc, a.iter(), |x| *x / 2)
 }
 
 /// Whether each cell fits a byte.
@@ -306,6 +352,25 @@ pub fn multiply_into(
         return false;
     }
     general_mat_vec_mul(Residue::one(), a, x, Residue::zero(), y);
+    true
+}
+
+/// Adds the product of two matrices to the cells of a third, in residues modulo 5; or answers `false`, where the shapes do not
+/// meet, and leaves it as it is.
+pub fn add_product(
+    a: &Array<Residue<5>, Ix2>,
+    b: &Array<Residue<5>, Ix2>,
+    c: &mut Array<Residue<5>, Ix2>,
+) -> bool
+    ensures shapes { IsTrue result ↔ ShapesMultiplyInto a.now.lengths b.now.lengths c.old.lengths }
+    ensures unchanged { result ≡ false → c.new ≡ c.old }
+    ensures lengths { c.new.lengths ≡ c.old.lengths }
+    ensures sum { IsTrue result → (i j : ℕ) (old new : Below 5) → cell c.old (i ∷ j ∷ []) ≡ Some old → cell c.new (i ∷ j ∷ []) ≡ Some new → new ≡ (residue_sums 5 (modulus_pos 5)).op old ((product_of ⟦<Residue<5> as Valued>⟧ (matrix_of ⟦<Residue<5> as Valued>⟧ a.now) (matrix_of ⟦<Residue<5> as Valued>⟧ b.now)).cell i j) }
+{
+    if !mat_mul_ok(a, b, c) {
+        return false;
+    }
+    general_mat_mul(Residue::one(), a, b, Residue::one(), c);
     true
 }
 

@@ -1,6 +1,6 @@
 use Rattle.std.proofs.Common.{◌≡◌, ◌∙◌, ◌+◌, ◌-◌, ◌*◌, ◌/◌, ◌<◌, ◌≤◌, ℕ, List, Option, arith, ap, sym, subst, refl, length, map, take, drop, sum, Some}
 use Rattle.std.specs.Prelude.{slice_index}
-use Rattle.std.proofs.Math.Nat.{le-add_right, le_of_lt}
+use Rattle.std.proofs.Math.Nat.{le-add_right, le_of_lt, le_refl}
 use Rattle.std.proofs.lemmas.Nat.{mul-le}
 use borrow.Rule.Slice.PartMut.{put_mid, same_len_mid}
 use Rattle.ndarray.specs.Orders.{box_in}
@@ -23,9 +23,6 @@ from-within from index each many all = omega arith
 -- what is within a list is within one as long, and its end is
 within-same : (end many len : ℕ) → many ≡ len → end ≤ len → end ≤ many
 within-same end many len same le = omega arith
-
-within-itself : (many : ℕ) → many ≤ many
-within-itself many = omega arith
 
 next-place : (from index each many rest now : ℕ) → from + index * each ≡ many → rest + 1 ≡ index → now ≡ many → from + each + rest * each ≡ now
 next-place from index each many rest now all one same = let wide = ap (λ n. n * each) one in omega arith
@@ -167,7 +164,7 @@ update_cut-slice_bounds-update_run-start g t c =
 pub update_cut-slice_bounds-update_run-end : goal.update_cut-slice_bounds-update_run-end
 update_cut-slice_bounds-update_run-end g t c =
     let each = length c.args.slice.now / c.in-Some.cut.len in
-    within-itself (length (put_mid c.loop-done.from (c.loop-done.from + each - c.loop-done.from) c.loop-done.slice c.update_parts.new.slice))
+    le_refl (length (put_mid c.loop-done.from (c.loop-done.from + each - c.loop-done.from) c.loop-done.slice c.update_parts.new.slice))
 
 pub update_cut-update_run-requires-then-not-flat-clause-can : goal.update_cut-update_run-requires-then-not-flat-clause-can
 update_cut-update_run-requires-then-not-flat-clause-can g t c =
@@ -269,7 +266,7 @@ pub update_cut-slice_bounds-update_parts-start : goal.update_cut-slice_bounds-up
 update_cut-slice_bounds-update_parts-start g t c = from-within c.loop-done.from (slice_index (g.P.Shaped.lengths c.loop-done.p) c.in-Some.cut.axis.0) (length c.args.slice.now / c.in-Some.cut.len) (length c.loop-done.slice) c.loop-done.invariant.4
 
 pub update_cut-slice_bounds-update_parts-end : goal.update_cut-slice_bounds-update_parts-end
-update_cut-slice_bounds-update_parts-end g t c = within-itself (length c.loop-done.slice)
+update_cut-slice_bounds-update_parts-end g t c = le_refl (length c.loop-done.slice)
 
 pub update_cut-update_parts-requires-2 : goal.update_cut-update_parts-requires-2
 update_cut-update_parts-requires-2 g t c κs within =
