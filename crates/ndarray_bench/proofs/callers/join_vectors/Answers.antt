@@ -1,8 +1,7 @@
-use Rattle.std.proofs.Common.{◌≡◌, ◌∙◌, ◌∷◌, ◌++◌, [], append-nil, ap, arith, length, subst}
-use Rattle.std.specs.Prelude.{IfOk}
+use Rattle.std.proofs.Common.{◌≡◌, ◌∙◌, ◌∷◌, ◌++◌, [], append-nil, ap, length}
 use Rattle.std.proofs.lemmas.List.Elements.{All-cons, All-nil}
 use Rattle.ndarray.specs.Grid.{IsGrid, one_axis}
-use Rattle.ndarray.specs.Joining.{concatenate_error, concatenated, shapes_of}
+use Rattle.ndarray.specs.Joining.{concatenate_error, shapes_of}
 use Rattle.ndarray.specs.declared.stacking.error.StackError.TheVariants.{Shape}
 use Rattle.ndarray.specs.Errors.{refusal}
 use Rattle.ndarray.proofs.callers.Collecting.{if_ok-both}

@@ -1,4 +1,4 @@
-use Rattle.std.proofs.Common.{◌≡◌, ◌∙◌, ◌∷◌, [], ap, arith, subst}
+use Rattle.std.proofs.Common.{◌∙◌, ◌∷◌, [], ap, arith, subst}
 use Rattle.std.specs.Prelude.{pos, int_le}
 use Rattle.std.proofs.lemmas.Int.{ints}
 use Rattle.ndarray.specs.Grid.{IsGrid, cell}

@@ -1,6 +1,6 @@
-use Rattle.std.proofs.Common.{rules, ◌≡◌, ◌∙◌, ◌∷◌, [], Some, ap, max}
+use Rattle.std.proofs.Common.{rules, ◌≡◌, ◌∙◌, ◌∷◌, [], ap, max}
 use Rattle.std.specs.List.{fold}
-use Rattle.ndarray.specs.Grid.{Grid, arranged, cell}
+use Rattle.ndarray.specs.Grid.{arranged}
 use Rattle.ndarray.specs.Subviews.{window, window_counts, windows_of}
 use Rattle.ndarray.proofs.callers.Collecting.{arranged-at, collected, if_ok-both}
 use Rattle.ndarray_bench.specs.Callers.{greatest_in_square}
