@@ -10,7 +10,7 @@ ghost use Rattle.std.specs.List.{fold, list_all, list_any};
 ghost use Rattle.ndarray.specs.AlongAxis.{Cumulates, IsDifference, one_further};
 ghost use Rattle.ndarray.specs.Broadcast.{BroadcastsTo};
 ghost use Rattle.ndarray.specs.Elementwise.{CanCombine, Combines};
-ghost use Rattle.ndarray.specs.Grid.{IsGrid, arranged, cell, one_axis};
+ghost use Rattle.ndarray.specs.Grid.{Grid, IsGrid, arranged, cell, one_axis};
 ghost use Rattle.ndarray.specs.Index.{InBox};
 ghost use Rattle.ndarray.specs.Integers.{int_products, int_sums};
 ghost use Rattle.ndarray.specs.Joining.{stacked};
@@ -26,8 +26,8 @@ use ndarray::iter::{to_vec, to_vec_mapped};
 use ndarray::linalg::{dot_ok, general_mat_mul, general_mat_vec_mul, mat_mul_ok, mat_vec_ok};
 use ndarray::reduce::dot_fits;
 use ndarray::{
-    Array, ArrayBase, ArrayView, Axis, Data, DataMut, DimMax, Ix1, Ix2, Lengths, StackError,
-    Valued, Zip, concatenate, scalar_left, stack,
+    Array, ArrayBase, ArrayView, Axis, Data, DataMut, DimMax, Ix1, Ix2, Lengths, NdProducer,
+    StackError, Valued, Zip, concatenate, scalar_left, stack,
 };
 use num_traits::{One, Zero};
 use std::alloc::{AllocError, Global};
@@ -117,6 +117,16 @@ pub fn greatest<S: Data<Elem = u64>, D: Lengths>(a: &ArrayBase<S, D>) -> u64
     Zip::from(a.view()).fold(0, |most, x| most.max(*x))
 }
 
+/// The greatest cell of each view of a producer, as windows or chunks of a table, and 0 where a view has none.
+pub fn greatest_of_each<'a, N: NdProducer<Item = ArrayView<'a, u64, Ix2>>>(
+    alloc: Global,
+    views: N,
+) -> Result<Array<u64, N::Dim>, AllocError>
+    ensures { IfOk result (λ d. (view_at : List ℕ → Grid ℕ) → ((is : List ℕ) (v : Grid ℕ) → InBox (N.lengths views) is → N.yields_at views is v → v ≡ view_at is) → d ≡ arranged (N.lengths views) (λ is. fold max 0 (view_at is).cells)) }
+{
+    Zip::from(views).map_collect(alloc, |view| greatest(&view))
+}
+
 /// The greatest pixel of each whole square of three by three pixels; the answer has no pixel where a side of the image is
 /// shorter.
 pub fn maximum_filter<S: Data<Elem = u64>>(
@@ -126,7 +136,7 @@ pub fn maximum_filter<S: Data<Elem = u64>>(
     ensures { IfOk result (λ d. d ≡ arranged (window_counts image.now.lengths (3 ∷ 3 ∷ []) (1 ∷ 1 ∷ [])) (greatest_in_square image.now)) }
 {
     let _axes = image.ndim();
-    Zip::from(image.windows((3, 3))).map_collect(alloc, |square| greatest(&square))
+    greatest_of_each(alloc, image.windows((3, 3)))
 }
 
 /// The sum of residues, which never leaves the range.
