@@ -1,6 +1,5 @@
 -- What is true of lists of any elements.
 pub mod CellLookup
-pub mod Clones
 pub mod Collections
 pub mod Decisions
 pub mod Elements

@@ -1,16 +1,16 @@
 //! Arrays of their own from arrays and views of any kind.
 
-ghost use Rattle.std.specs.Prelude.{◌≡◌, ◌⊎◌, IfOk, IsOk, length};
+ghost use Rattle.std.specs.Prelude.{◌≡◌, ◌⊎◌, IfOk, IsOk, length, ⊤};
 ghost use Rattle.std.specs.List.{AllZip};
 ghost use Rattle.ndarray.specs.Grid.{IsGrid};
 ghost use Rattle.ndarray.specs.Index.{size};
 
 use crate::base::array::{Array, ArrayBase, ArrayView};
-use crate::base::builder::ArrayBuilder;
 use crate::base::dimension::Lengths;
 use crate::base::shape::Order;
 use crate::base::storage::Data;
-use crate::iter::ElementsBase;
+use crate::zip::calls::ItemCall;
+use crate::zip::collecting::try_collect_items;
 use std::alloc::{AllocError, Global};
 
 impl<A: Clone, S: Data<Elem = A>, D: Lengths> ArrayBase<S, D> {
@@ -63,25 +63,30 @@ fn clone_of<A: Clone, D: Lengths>(
     ensures same { IfOk result (λ a. ((x y : A) → A.is_clone x y → y ≡ x) → a ≡ array.now) }
     ensures empty { size array.now.lengths ≡ 0 → IsOk result }
 {
-    let order = array.fast_order();
-    if let Some(cells) = array.view().slice_in(order) {
-        let items = clones_of(alloc, cells)?;
-        return Ok(ArrayBase::from_elements(array.raw_dim(), order, items));
-    }
-    let mut builder = ArrayBuilder::with_capacity(alloc, array.raw_dim(), Order::RowMajor)?;
-    for cell in ElementsBase::new(array.view()) {
-        builder.push(cell.clone()?);
-    }
-    Ok(builder.finish())
+    try_collect_items(alloc, array.view(), order_in_memory(array), Clones)
 }
 
-/// A vector of clones of the elements of a slice. Of none it allocates nothing.
-fn clones_of<A: Clone>(alloc: Global, cells: &[A]) -> Result<Vec<A>, AllocError>
-    ensures ok { IfOk result (λ v. AllZip A.is_clone cells.now v.items) }
-    ensures empty { length cells.now ≡ 0 → IsOk result }
-{
-    if cells.is_empty() {
-        return Ok(Vec::new(alloc));
+/// The order in which a view's cells lie side by side, and row order where they do not.
+fn order_in_memory<A, D: Lengths>(array: &ArrayView<'_, A, D>) -> Order {
+    let order = array.fast_order();
+    match array.slice_in(order) {
+        Some(_) => order,
+        None => Order::RowMajor,
     }
-    cells.to_vec(alloc)
+}
+
+/// A clone of a cell, as a call.
+#[derive(Drop)]
+struct Clones;
+
+impl<'a, A: Clone> ItemCall<&'a A> for Clones {
+    type Out = Result<A, AllocError>;
+
+    ghost can_call = { λ _ _. ⊤ };
+
+    ghost call_gives = { λ _ x r _. IfOk r (λ y. A.is_clone x.now y) };
+
+    fn call(&mut self, item: &'a A) -> Result<A, AllocError> {
+        item.clone()
+    }
 }

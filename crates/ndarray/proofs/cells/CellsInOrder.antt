@@ -89,7 +89,7 @@ module _ {A : Type 0} (R : A → A → Type 0) where
           rw (x.1, y.1) (alike is b x.0 y.0 x.1 y.1, along ys (All-tail (InBox g.lengths) is ys w))
 
       -- and back
-      at_places : AllZip R g.cells h.cells
+      pub at_places : AllZip R g.cells h.cells
       at_places =
           let inside : All (InBox g.lengths) (row_order g.lengths) = box_in-within RowMajor g.lengths in
           let e : filter_map (cell h) (row_order g.lengths) ≡ h.cells = ap (λ ns. filter_map (cell h) (row_order ns)) (sym same_lengths) ∙ along-row_order h wh in
