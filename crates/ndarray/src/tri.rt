@@ -1,9 +1,9 @@
 //! Triangles of the last two axes.
 
-ghost use Rattle.std.specs.Prelude.{◌≡◌, ◌<◌, ◌≤◌, ◌^◌, ◌&&◌, if◌then◌else◌, int_le, length, All, IfOk, IsOk};
+ghost use Rattle.std.specs.Prelude.{◌≡◌, ◌<◌, ◌≤◌, ◌^◌, ◌&&◌, if◌then◌else◌, int_le, length, All, IfOk, IsOk, Some};
 ghost use Rattle.ndarray.specs.Elementwise.{ClonesAreEqual};
-ghost use Rattle.ndarray.specs.Grid.{IsGrid};
-ghost use Rattle.ndarray.specs.Index.{size};
+ghost use Rattle.ndarray.specs.Grid.{IsGrid, cell};
+ghost use Rattle.ndarray.specs.Index.{InBox, size};
 ghost use Rattle.ndarray.specs.Limits.{IsWithinLimit};
 ghost use Rattle.ndarray.specs.Triangles.{column_minus_row, diagonals_kept, lower_triangle, upper_triangle};
 
@@ -11,7 +11,6 @@ use crate::base::array::{Array, ArrayBase, ArrayView};
 use crate::base::builder::ArrayBuilder;
 use crate::base::dimension::Lengths;
 use crate::base::storage::Data;
-use crate::iter::ElementsBase;
 use crate::order::{Order, Walk};
 use num_traits::Zero;
 use std::alloc::{AllocError, Global};
@@ -75,23 +74,53 @@ fn diagonals<A: Clone + Zero, D: Lengths>(
     ensures axes { IfOk result (λ r. D.has_axes (length r.lengths)) }
     ensures empty { size array.now.lengths ≡ 0 → IsOk result }
 {
-    let dim = array.raw_dim();
-    if dim.ndim() < 2 {
-        return array.to_owned(alloc);
+    if array.raw_dim().ndim() < 2 {
+        array.to_owned(alloc)
+    } else {
+        diagonals_of_matrices(alloc, array, first, last)
     }
+}
+
+/// The same of an array with two axes at least.
+fn diagonals_of_matrices<A: Clone + Zero, D: Lengths>(
+    alloc: Global,
+    array: &ArrayView<'_, A, D>,
+    first: isize,
+    last: isize,
+) -> Result<Array<A, D>, AllocError>
+    requires clones { ClonesAreEqual A.is_clone }
+    requires axes { 2 ≤ length array.now.lengths }
+    ensures cells { IfOk result (λ r. r ≡ diagonals_kept (λ d. int_le first d && int_le d last) A.zero array.now) }
+    ensures whole { IfOk result IsGrid }
+    ensures axes { IfOk result (λ r. D.has_axes (length r.lengths)) }
+    ensures empty { size array.now.lengths ≡ 0 → IsOk result }
+{
     let mut kept = ArrayBuilder::with_capacity(alloc, array.raw_dim(), Order::RowMajor)?;
-    for (index, cell) in Walk::new(dim, Order::RowMajor).zip(ElementsBase::new(array.view())) {
-        kept.push(cell_or_zero(cell, is_kept(&index, first, last))?);
+    for index in Walk::new(array.raw_dim(), Order::RowMajor) {
+        kept.push(cell_or_zero(array, &index, first, last)?);
     }
     Ok(kept.finish())
 }
 
-/// A clone of the cell, or zero where it is not kept.
-fn cell_or_zero<A: Clone + Zero>(cell: &A, is_kept: bool) -> Result<A, AllocError>
+/// A clone of the cell at an index list, or zero where its diagonal is not kept.
+fn cell_or_zero<A: Clone + Zero, D: Lengths>(
+    array: &ArrayView<'_, A, D>,
+    index: &D,
+    first: isize,
+    last: isize,
+) -> Result<A, AllocError>
     requires clones { ClonesAreEqual A.is_clone }
-    ensures { IfOk result (λ x. x ≡ (if is_kept then cell.now else A.zero)) }
+    requires limit { IsWithinLimit array.now.lengths }
+    requires axes { 2 ≤ length array.now.lengths }
+    requires inside { InBox array.now.lengths (D.numbers index.now) }
+    ensures { IfOk result (λ x. (if int_le first (column_minus_row (D.numbers index.now)) && int_le (column_minus_row (D.numbers index.now)) last
+        then cell array.now (D.numbers index.now) else Some A.zero) ≡ Some x) }
 {
-    if is_kept { cell.clone() } else { Ok(A::zero()) }
+    if is_kept(index, first, last) {
+        array.item(index).clone()
+    } else {
+        Ok(A::zero())
+    }
 }
 
 /// Whether the last index less the one before it is between two numbers.

@@ -1,11 +1,10 @@
 -- Diagonals of the last two axes that are kept.
-use Rattle.std.proofs.Common.{◌≡◌, ◌-◌, ◌<◌, ◌≤◌, ◌^◌, ◌⊎◌, inl, inr, ℕ, List, [], ◌∷◌, Option, Some, Bool, true, false, length, get_or, refl, sym, ◌∙◌, ap, arith, subst}
+use Rattle.std.proofs.Common.{◌≡◌, ◌-◌, ◌<◌, ◌≤◌, ◌^◌, inl, inr, ℕ, List, ◌∷◌, Option, Some, Bool, true, false, length, get_or, refl, sym, ◌∙◌, ap, arith}
 use Rattle.std.specs.Prelude.{ℤ, pos, negsuc, ◌≤ℤ◌, int_le, T, ◌&&◌, All, filter_map, if◌then◌else◌}
 use Rattle.std.proofs.Math.Bool.{and-true}
 use Rattle.std.proofs.lemmas.Bool.{cases_lt, false_from_ne_true, le-ltb, lt-ltb}
 use Rattle.std.proofs.lemmas.Float.{T_from_true}
 use Rattle.std.proofs.lemmas.Int.{ints}
-use Rattle.std.proofs.lemmas.List.Elements.{All-head}
 use Rattle.ndarray.specs.Grid.{Grid, IsGrid, cell, grid, tabulate, tabulated}
 use Rattle.ndarray.specs.Index.{InBox, row_order, size}
 use Rattle.ndarray.specs.Limits.{nonzero_size}
@@ -13,7 +12,7 @@ use Rattle.ndarray.specs.Triangles.{column_minus_row, diagonals_kept, lower_tria
 use Rattle.ndarray.proofs.boxes.Boxes.{InBox-length, InBox-get}
 use Rattle.ndarray.proofs.boxes.Orders.{length-row_order, row_order-is}
 use Rattle.ndarray.proofs.boxes.Sizes.{length-fits}
-use Rattle.ndarray.proofs.cells.Cells.{along-first, cell-Some, length-along, tabulate-same}
+use Rattle.ndarray.proofs.cells.Cells.{cell-Some, tabulate-same}
 use Rattle.ndarray.proofs.lists.Elements.{length-filter_map_all}
 use Rattle.std.proofs.lemmas.List.{get_or_default}
 
@@ -36,32 +35,9 @@ module _ {A : Type 0} (keeps : ℤ → Bool) (zero_cell : A) (g : Grid A) where
     pub length-all_kept : length (filter_map kept_at (row_order g.lengths)) ≡ size g.lengths
     length-all_kept = length-kept (row_order g.lengths) (row_order-is g.lengths).within ∙ length-row_order g.lengths
 
-    -- the next cell, and the one that takes its place
-    pub next-cell : (ys later : List (List ℕ)) (is : List ℕ) (x : A) (xs rest : List A) → All (InBox g.lengths) ys → ys ≡ is ∷ later → xs ≡ filter_map (cell g) ys → xs ≡ x ∷ rest → InBox g.lengths is × (cell g is ≡ Some x) × (rest ≡ filter_map (cell g) later)
-    next-cell ys later is x xs rest within e cells f =
-        let b : InBox g.lengths is = All-head (InBox g.lengths) is later (subst (All (InBox g.lengths)) e within) in
-        let (y, at) = cell-Some g whole is b in
-        let same : x ∷ rest ≡ y ∷ filter_map (cell g) later = sym f ∙ (cells ∙ along-first g ys later is y e at) in
-        let here : x ≡ y = cc in
-        (b, at ∙ ap (λ v. Some v) (sym here), (cc))
-
+    -- what is kept at the next index list
     pub next-kept : (ys later : List (List ℕ)) (is : List ℕ) (y : A) → ys ≡ is ∷ later → kept_at is ≡ Some y → filter_map kept_at ys ≡ y ∷ filter_map kept_at later
     next-kept ys later is y e s = rw (e, s) refl
-
-    -- nothing is left
-    pub none-kept : (ys : List (List ℕ)) (xs : List A) → All (InBox g.lengths) ys → xs ≡ filter_map (cell g) ys → (ys ≡ []) ⊎ (xs ≡ []) → filter_map kept_at ys ≡ []
-    none-kept ys xs within cells none =
-        let kept = length-kept ys within in
-        let long = length-along g whole ys within in
-        empty (filter_map kept_at ys)
-        (elim none [
-          | inl e ↦ (let z = ap length e in omega (arith, kept, z))
-          | inr e ↦ (let z = ap length (sym cells ∙ e) in omega (arith, kept, long, z))
-        ])
-      where
-        empty : (zs : List A) → length zs ≡ 0 → zs ≡ []
-        empty [] e = refl
-        empty (z ∷ zs) e = absurd (omega (arith, e))
 
     -- the array of all of them
     pub diagonals-of : (r : Grid A) → 2 ≤ length g.lengths → r.lengths ≡ g.lengths → r.cells ≡ filter_map kept_at (row_order g.lengths) → r ≡ diagonals_kept keeps zero_cell g
@@ -70,13 +46,6 @@ module _ {A : Type 0} (keeps : ℤ → Bool) (zero_cell : A) (g : Grid A) where
         ap (λ ns. grid ns r.cells) lengths
         ∙ (ap (grid g.lengths) cells
         ∙ sym (ap (λ t. if t then g else grid g.lengths (filter_map kept_at (row_order g.lengths))) (le-ltb (length g.lengths) 2 axes)))
-
-  pub kept-one : (is : List ℕ) (x : A) → cell g is ≡ Some x → kept_at is ≡ Some (if keeps (column_minus_row is) then x else zero_cell)
-  kept-one is x e = either (keeps (column_minus_row is))
-    where
-      either : (t : Bool) → (if t then cell g is else Some zero_cell) ≡ Some (if t then x else zero_cell)
-      either true = e
-      either false = refl
 
 -- indices of a shape within the limit fit a signed word
 pub indices-fit : (ns is : List ℕ) → nonzero_size ns < 2 ^ 63 → InBox ns is → All (λ i. i < 2 ^ 63) is
