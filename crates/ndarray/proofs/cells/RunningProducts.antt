@@ -1,5 +1,5 @@
 -- The products of each lane, as they are pushed in row order.
-use Rattle.std.proofs.Common.{◌≡◌, ◌+◌, ◌-◌, ◌*◌, ◌<◌, ◌≤◌, ℕ, zero, suc, List, [], ◌∷◌, ◌++◌, ◌⊎◌, Some, length, drop, get_or, set, refl, ap, sym, ◌∙◌, subst, arith, inl, inr, remove}
+use Rattle.std.proofs.Common.{◌≡◌, ◌+◌, ◌-◌, ◌*◌, ◌<◌, ◌≤◌, ℕ, zero, suc, List, [], ◌∷◌, ◌++◌, Some, length, drop, get_or, set, refl, ap, sym, ◌∙◌, subst, arith, inl, inr, remove}
 use Rattle.std.specs.Prelude.{slice_get}
 use Rattle.std.proofs.Math.Nat.{suc-mul}
 use Rattle.std.proofs.lemmas.Bool.{cases_lt}
@@ -55,10 +55,9 @@ module _ {A : Type 0} (gives : A → A → A → Type 0) (g : Grid A) (k : ℕ) 
     first : (x : A) → get_or is k 0 ≡ 0 → cell g is ≡ Some x → slice_get ms (rank g.lengths is) ≡ Some x
     next : (v : ℕ) (x p : A) → get_or is k 0 ≡ suc v → cell g is ≡ Some x → slice_get ms (rank g.lengths (set is k v)) ≡ Some p → (z : A) × (slice_get ms (rank g.lengths is) ≡ Some z) × gives x p z
 
-  -- these products have been pushed, and these index lists and cells are left
-  pub record RunningProducts (ms : List A) (left : List (List ℕ)) (xs : List A) : Type 0 where
+  -- these products have been pushed, and these index lists are left
+  pub record RunningProducts (ms : List A) (left : List (List ℕ)) : Type 0 where
     pub indices : left ≡ drop (length ms) (row_order g.lengths)
-    pub cells : xs ≡ drop (length ms) g.cells
     so_far : (is : List ℕ) → InBox g.lengths is → rank g.lengths is < length ms → AtProduct ms is
 
 -- neighbours along the axis k are block places apart in row order
@@ -109,30 +108,30 @@ module _ {A : Type 0} (g : Grid A) (k block : ℕ) (blocks : AreBlocks g k block
       omega (arith, s, is_block)
 
 module _ {A : Type 0} (gives : A → A → A → Type 0) (g : Grid A) (k block : ℕ) (blocks : AreBlocks g k block) where
-  pub products-start : (left : List (List ℕ)) (xs : List A) → left ≡ row_order g.lengths → xs ≡ g.cells → RunningProducts gives g k [] left xs
-  products-start left xs e f = record { indices = e; cells = f; so_far = λ is b r. absurd (omega arith) }
+  pub products-start : (left : List (List ℕ)) → left ≡ row_order g.lengths → RunningProducts gives g k [] left
+  products-start left e = record { indices = e; so_far = λ is b r. absurd (omega arith) }
 
-  -- the next index list is i, and its cell is x
-  module _ (ms : List A) (i : List ℕ) (x : A) (left left' : List (List ℕ)) (xs xs' : List A) (h : RunningProducts gives g k ms left xs) (next_i : left ≡ i ∷ left') (next_x : xs ≡ x ∷ xs') where
+  -- the next index list is i
+  module _ (ms : List A) (i : List ℕ) (left left' : List (List ℕ)) (h : RunningProducts gives g k ms left) (next_i : left ≡ i ∷ left') where
     record Here : Type 0 where
       within : InBox g.lengths i
       place : rank g.lengths i ≡ length ms
-      value : cell g i ≡ Some x
       room : length ms < size g.lengths
       indices : left' ≡ drop (suc (length ms)) (row_order g.lengths)
-      cells : xs' ≡ drop (suc (length ms)) g.cells
 
     here : Here
     here =
         let (lt_i, at_i, rest_i) = drop-head (row_order g.lengths) (length ms) i left' (sym h.indices ∙ next_i) in
-        let (lt_x, at_x, rest_x) = drop-head g.cells (length ms) x xs' (sym h.cells ∙ next_x) in
         let long = length-box_in RowMajor g.lengths in
         let below : length ms < size g.lengths = omega (arith, long, lt_i) in
         let (b, r) = box_in-back RowMajor g.lengths (length ms) below in
         let same : get_or (row_order g.lengths) (length ms) [] ≡ i = get_or_from_slice_get (row_order g.lengths) (length ms) i [] at_i in
         let within : InBox g.lengths i = subst (InBox g.lengths) same b in
         let place : rank g.lengths i ≡ length ms = ap (rank g.lengths) (sym same) ∙ r in
-        record { within = within; place = place; value = cell-within g blocks.whole i within ∙ (ap (slice_get g.cells) place ∙ at_x); room = below; indices = rest_i; cells = rest_x }
+        record { within = within; place = place; room = below; indices = rest_i }
+
+    pub products-within : InBox g.lengths i
+    products-within = here.within
 
     pub products-room : length ms < size g.lengths
     products-room = here.room
@@ -153,24 +152,23 @@ module _ {A : Type 0} (gives : A → A → A → Type 0) (g : Grid A) (k block :
     only-one : (is : List ℕ) → InBox g.lengths is → rank g.lengths is ≡ length ms → is ≡ i
     only-one is b r = sym (box_in-at RowMajor g.lengths is [] b) ∙ (ap (λ q. get_or (row_order g.lengths) q []) (r ∙ sym here.place) ∙ box_in-at RowMajor g.lengths i [] here.within)
 
-    pub products-next : (z : A) → (get_or i k 0 ≡ 0 → z ≡ x) → ((p : A) → 0 < get_or i k 0 → slice_get ms (length ms - block) ≡ Some p → gives x p z) → RunningProducts gives g k (ms ++ z ∷ []) left' xs'
-    products-next z is_first is_next =
+    pub products-next : (x z : A) → cell g i ≡ Some x → (get_or i k 0 ≡ 0 → z ≡ x) → (0 < get_or i k 0 → (p : A) → slice_get ms (length ms - block) ≡ Some p → gives x p z) → RunningProducts gives g k (ms ++ z ∷ []) left'
+    products-next x z here_x is_first is_next =
         let long : length (ms ++ z ∷ []) ≡ suc (length ms) = length-append ms (z ∷ []) ∙ omega arith in
         let old : (j : ℕ) → j < length ms → slice_get (ms ++ z ∷ []) j ≡ slice_get ms j = λ j below. slice_get-before ms (z ∷ []) j below in
         let last : slice_get (ms ++ z ∷ []) (rank g.lengths i) ≡ Some z = ap (slice_get (ms ++ z ∷ [])) here.place ∙ slice_get-seam ms z [] in
         let at_here : AtProduct gives g k (ms ++ z ∷ []) i = record {
-          first = λ y zero e. last ∙ (ap Some (is_first zero) ∙ (sym here.value ∙ e));
+          first = λ y zero e. last ∙ (ap Some (is_first zero) ∙ (sym here_x ∙ e));
           next = λ v y p some e q.
               let at = before v some in
               let pos = block-pos g k block blocks i here.within in
               let far = products-back (omega arith) in
-              let same : y ≡ x = (let w = sym e ∙ here.value in cc) in
+              let same : y ≡ x = (let w = sym e ∙ here_x in cc) in
               let q' : slice_get ms (length ms - block) ≡ Some p = sym (old (length ms - block) (omega (arith, pos, far.1))) ∙ (ap (slice_get (ms ++ z ∷ [])) (sym at) ∙ q) in
-              (z, last, subst (λ w. gives w p z) (sym same) (is_next p (omega arith) q'));
+              (z, last, subst (λ w. gives w p z) (sym same) (is_next (omega arith) p q'));
         } in
         record {
           indices = here.indices ∙ ap (λ n. drop n (row_order g.lengths)) (sym long);
-          cells = here.cells ∙ ap (λ n. drop n g.cells) (sym long);
           so_far = λ is b r. elim (cases_lt (rank g.lengths is) (length ms)) [
             | inl earlier ↦
                 (let a = h.so_far is b earlier in
@@ -186,8 +184,8 @@ module _ {A : Type 0} (gives : A → A → A → Type 0) (g : Grid A) (k block :
         }
 
     -- and its cell may be multiplied by it
-    pub products-can : (can : A → A → Type 0) → CanMap (λ l. CanCumulate can gives l.cells) (lanes_of g k) → 0 < get_or i k 0 → (p : A) → slice_get ms (length ms - block) ≡ Some p → can x p
-    products-can can may some p at_p =
+    pub products-can : (x : A) → cell g i ≡ Some x → (can : A → A → Type 0) → CanMap (λ l. CanCumulate can gives l.cells) (lanes_of g k) → 0 < get_or i k 0 → (p : A) → slice_get ms (length ms - block) ≡ Some p → can x p
+    products-can x here_x can may some p at_p =
         let v : ℕ = get_or i k 0 - 1 in
         let ev : get_or i k 0 ≡ suc v = omega arith in
         let b = here.within in
@@ -217,23 +215,19 @@ module _ {A : Type 0} (gives : A → A → A → Type 0) (g : Grid A) (k block :
         let step = (h.so_far (n (suc j)) (box (suc j) (omega arith)) (low (suc j) (omega arith))).next j y (value j) (index (suc j)) cell_at (ap (λ l. slice_get ms (rank g.lengths l)) (set-set i k (suc j) j) ∙ at j (omega arith)) in
         let same : step.0 ≡ value (suc j) = (let s = sym step.1 ∙ at (suc j) (omega arith) in cc) in
         subst (gives y (value j)) same step.2)
-        x (lane_at (suc v) (omega (arith, fits)) ∙ (ap (cell g) (ap (set i k) (sym ev) ∙ set-get_or i k 0) ∙ here.value)))
+        x (lane_at (suc v) (omega (arith, fits)) ∙ (ap (cell g) (ap (set i k) (sym ev) ∙ set-get_or i k 0) ∙ here_x)))
 
   -- nothing is left
-  pub products-all : (ms : List A) (left : List (List ℕ)) (xs : List A) → RunningProducts gives g k ms left xs → length ms ≤ size g.lengths → (left ≡ []) ⊎ (xs ≡ []) → length ms ≡ size g.lengths
-  products-all ms left xs h le none =
+  pub products-all : (ms : List A) (left : List (List ℕ)) → RunningProducts gives g k ms left → length ms ≤ size g.lengths → left ≡ [] → length ms ≡ size g.lengths
+  products-all ms left h le none =
       let long = length-box_in RowMajor g.lengths in
       let dropped = length-drop (length ms) (row_order g.lengths) in
-      let dropped_cells = length-drop (length ms) g.cells in
-      let w = blocks.whole in
-      elim none [
-        | inl e ↦ (let z = ap length (sym h.indices ∙ e) in omega (arith, z, dropped, long, le))
-        | inr e ↦ (let z = ap length (sym h.cells ∙ e) in omega (arith, z, dropped_cells, w, le))
-      ]
+      let z = ap length (sym h.indices ∙ none) in
+      omega (arith, z, dropped, long, le)
 
   -- the array of all of them
-  pub cumulates-of : (ms : List A) (left : List (List ℕ)) (xs : List A) (r : Grid A) → RunningProducts gives g k ms left xs → length ms ≡ size g.lengths → IsGrid r → r.lengths ≡ g.lengths → cells_in RowMajor r ≡ ms → Cumulates gives k g r
-  cumulates-of ms left xs r h full whole_r same list =
+  pub cumulates-of : (ms : List A) (left : List (List ℕ)) (r : Grid A) → RunningProducts gives g k ms left → length ms ≡ size g.lengths → IsGrid r → r.lengths ≡ g.lengths → cells_in RowMajor r ≡ ms → Cumulates gives k g r
+  cumulates-of ms left r h full whole_r same list =
       let cells : r.cells ≡ ms = sym (along-row_order r whole_r) ∙ list in
       let at : (is : List ℕ) → InBox g.lengths is → cell r is ≡ slice_get ms (rank g.lengths is) =
       λ is b. cell-within r whole_r is (subst (λ ns. InBox ns is) (sym same) b) ∙ (ap (slice_get r.cells) (ap (λ ns. rank ns is) same) ∙ ap (λ l. slice_get l (rank g.lengths is)) cells) in

@@ -1,6 +1,6 @@
 //! Running products along an axis.
 
-ghost use Rattle.std.specs.Prelude.{◌≡◌, ◌<◌, length, IfOk, IsOk};
+ghost use Rattle.std.specs.Prelude.{◌≡◌, ◌<◌, ◌≤◌, ◌-◌, length, slice_get, IfOk, IsOk, Some};
 ghost use Rattle.ndarray.specs.AlongAxis.{CanCumulate, Cumulates};
 ghost use Rattle.ndarray.specs.Elementwise.{CanMap};
 ghost use Rattle.ndarray.specs.Index.{size};
@@ -55,13 +55,29 @@ fn running_products<A: Copy + Mul<A, Output = A>, D: Lengths>(
     // How many cells there are from one to the next along the axis.
     let step = default_strides(&dim, Order::RowMajor).axis(axis.0);
     let mut products = ArrayBuilder::with_capacity(alloc, array.raw_dim(), Order::RowMajor)?;
-    for (index, cell) in Walk::new(dim, Order::RowMajor).zip(array.iter()) {
-        let product = if index.axis(axis.0) == 0 {
-            *cell
-        } else {
-            *cell * *products.back(step)
-        };
+    for index in Walk::new(dim, Order::RowMajor) {
+        let product = next_product(array.item(&index), index.axis(axis.0), &products, step);
         products.push(product);
     }
     Ok(products.finish())
+}
+
+/// The product at a cell: the cell itself at index 0 of the axis, else times the product that was pushed `step` pushes ago.
+fn next_product<A: Copy + Mul<A, Output = A>, D: Lengths>(
+    cell: &A,
+    index: usize,
+    products: &ArrayBuilder<A, D>,
+    step: usize,
+) -> A
+    requires some { 0 < index → 1 ≤ step }
+    requires within { 0 < index → step ≤ length products.now.cells }
+    requires defined { 0 < index → (p : A) → slice_get products.now.cells (length products.now.cells - step) ≡ Some p → A.can_mul cell.now p }
+    ensures first { index ≡ 0 → result ≡ cell.now }
+    ensures next { 0 < index → (p : A) → slice_get products.now.cells (length products.now.cells - step) ≡ Some p → A.mul_gives cell.now p result }
+{
+    if index == 0 {
+        *cell
+    } else {
+        *cell * *products.back(step)
+    }
 }

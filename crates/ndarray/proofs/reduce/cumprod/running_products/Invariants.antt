@@ -9,5 +9,5 @@ invariant-loop-index g l = record {
   lengths : l.products.lengths ≡ l.array.lengths;
   order : l.products.order ≡ RowMajor;
   room : length l.products.cells ≤ size l.array.lengths;
-  pushed : RunningProducts g.A.Mul.mul_gives l.array l.axis.0 l.products.cells l.index-iterator.a l.index-iterator.b;
+  pushed : RunningProducts g.A.Mul.mul_gives l.array l.axis.0 l.products.cells l.index-iterator;
 }
