@@ -1,8 +1,9 @@
 -- Sums of absolute values, and the sums of all selections.
-use Rattle.std.proofs.Common.{◌≡◌, ℕ, suc, Bool, true, false, cond, List, [], ◌∷◌, ◌+◌, ◌≤◌, refl, sym, ap, ◌∙◌, subst, arith}
+use Rattle.std.proofs.Common.{◌≡◌, ℕ, suc, Bool, true, false, cond, List, [], ◌∷◌, Option, None, Some, ◌+◌, ◌≤◌, refl, sym, ap, ◌∙◌, subst, arith}
 use Rattle.std.specs.Prelude.{ℤ, pos, negsuc, neg_ℤ, ◌+ℤ◌, ◌*ℤ◌, ◌≤ℤ◌, unsigned_abs}
 use Rattle.std.specs.List.{AllByRecursion}
 use Rattle.std.proofs.lemmas.Int.{ints}
+use Rattle.num_traits.specs.Laws.{Checks}
 use Rattle.ndarray.specs.Integers.{int_sums}
 use Rattle.ndarray.specs.Products.{magnitude_sum}
 use Rattle.ndarray.specs.Sums.{total, select, IsSummable}
@@ -78,14 +79,14 @@ module _ (fits : ℤ → Type 0) (whole now rest : List ℤ) (z sum : ℤ) (next
   total-next : (h.number + unsigned_abs z) + magnitude_sum rest ≡ magnitude_sum whole
   total-next = let p = ap magnitude_sum next in let t = h.total_is in omega (arith, p, t)
 
-  sum-is : (size : ℤ) → size ≡ pos (unsigned_abs z) → sum +ℤ size ≡ pos (h.number + unsigned_abs z)
-  sum-is size e = ap (λ t. t +ℤ size) h.is_number ∙ ap (λ t. pos h.number +ℤ t) e
+  sum-is : sum +ℤ pos (unsigned_abs z) ≡ pos (h.number + unsigned_abs z)
+  sum-is = ap (λ t. t +ℤ pos (unsigned_abs z)) h.is_number
 
-  pub added-next : (size more : ℤ) → size ≡ pos (unsigned_abs z) → more ≡ sum +ℤ size → fits (sum +ℤ size) → AddedSoFar fits whole rest more
-  added-next size more e f g = record {
+  pub added-next : (more : ℤ) → more ≡ sum +ℤ pos (unsigned_abs z) → fits (sum +ℤ pos (unsigned_abs z)) → AddedSoFar fits whole rest more
+  added-next more e f = record {
     number = h.number + unsigned_abs z;
-    is_number = f ∙ sum-is size e;
-    in_range = subst fits (sym f) g;
+    is_number = e ∙ sum-is;
+    in_range = subst fits (sym e) f;
     total_is = total-next;
     signs = λ k. h.signs (subst (AllByRecursion (NegativeFits fits)) (sym next) (sign, k));
   }
@@ -94,12 +95,16 @@ module _ (fits : ℤ → Type 0) (whole now rest : List ℤ) (z sum : ℤ) (next
     below : (n m : ℕ) → n ≤ m → fits (pos m) → fits (pos n)
     below n m le f = between (pos 0) (pos n) (pos m) zero_fits f (omega (arith, ints)) (omega (arith, ints))
 
-    -- the sum with the next number is too large, and so is the whole one
-    pub added-excess : (size : ℤ) → size ≡ pos (unsigned_abs z) → (fits (sum +ℤ size) → ⊥) → fits (pos (magnitude_sum whole)) → ⊥
-    added-excess size e excess f =
+    -- the absolute value or the sum with it is too large, and so is the whole sum
+    pub added-excess : (fits (pos (unsigned_abs z)) × fits (sum +ℤ pos (unsigned_abs z)) → ⊥) → fits (pos (magnitude_sum whole)) → ⊥
+    added-excess excess f =
         let t = total-next in
-        excess (subst fits (sym (sum-is size e)) (below (h.number + unsigned_abs z) (magnitude_sum whole) (omega (arith, t)) f))
+        excess (
+          below (unsigned_abs z) (magnitude_sum whole) (omega (arith, t)) f,
+          subst fits (sym sum-is) (below (h.number + unsigned_abs z) (magnitude_sum whole) (omega (arith, t)) f),
+        )
 
-    -- the number has no absolute value in the type
-    pub size-excess : (fits (pos (unsigned_abs z)) → ⊥) → fits (pos (magnitude_sum whole)) → ⊥
-    size-excess excess f = let t = total-next in excess (below (unsigned_abs z) (magnitude_sum whole) (omega (arith, t)) f)
+-- what a checked sum with an absolute value that fits answers
+pub checked-sum : {A : Type 0} (value : A → ℤ) (fits : ℤ → Type 0) (sum size : ℤ) (n : ℕ) (r : Option A) → size ≡ pos n → fits (pos n) → Checks value fits (sum +ℤ size) r → Checks value (λ z. fits (pos n) × fits z) (sum +ℤ pos n) r
+checked-sum value fits sum size n None e f h = λ both. h (subst (λ t. fits (sum +ℤ t)) (sym e) both.1)
+checked-sum value fits sum size n (Some y) e f h = ((f, subst (λ t. fits (sum +ℤ t)) e h.0), h.1 ∙ ap (λ t. sum +ℤ t) e)

@@ -1,10 +1,13 @@
 -- Products of the absolute values of the numbers that are not zero, and of all selections.
-use Rattle.std.proofs.Common.{◌≡◌, ◌≢◌, ℕ, zero, suc, Bool, true, false, cond, List, [], ◌∷◌, ◌*◌, ◌≤◌, refl, sym, ap, ◌∙◌, subst, arith}
+use Rattle.std.proofs.Common.{◌≡◌, ◌≢◌, ℕ, zero, suc, Bool, true, false, cond, List, [], ◌∷◌, Option, None, Some, ◌*◌, ◌≤◌, refl, sym, ap, ◌∙◌, subst, arith}
 use Rattle.std.specs.Prelude.{ℤ, pos, negsuc, neg_ℤ, ◌*ℤ◌, ◌≤ℤ◌, unsigned_abs}
 use Rattle.std.specs.List.{AllByRecursion}
+use Rattle.std.proofs.Math.IntN.{*ℤ_comm}
 use Rattle.std.proofs.Math.Nat.{mul_assoc}
 use Rattle.std.proofs.lemmas.Int.{ints, unsigned_abs-mul}
 use Rattle.std.proofs.lemmas.Nat.{mul-le}
+use Rattle.num_traits.specs.Laws.{Checks}
+use Rattle.ndarray.specs.IntegerProducts.{one-times}
 use Rattle.ndarray.specs.Integers.{int_products, magnitude_product, nonzero_magnitude}
 use Rattle.ndarray.specs.Sums.{total, select, IsSummable}
 
@@ -13,7 +16,7 @@ magnitude-some (pos zero) = omega arith
 magnitude-some (pos (suc n)) = omega arith
 magnitude-some (negsuc n) = omega arith
 
-magnitude-nonzero : (z : ℤ) → z ≢ pos 0 → nonzero_magnitude z ≡ unsigned_abs z
+pub magnitude-nonzero : (z : ℤ) → z ≢ pos 0 → nonzero_magnitude z ≡ unsigned_abs z
 magnitude-nonzero (pos zero) h = absurd (h refl)
 magnitude-nonzero (pos (suc n)) h = refl
 magnitude-nonzero (negsuc n) h = refl
@@ -102,27 +105,15 @@ module _ (fits : ℤ → Type 0) (whole now rest : List ℤ) (z product : ℤ) (
   each-next : AllByRecursion fits rest → AllByRecursion fits whole
   each-next f = h.each (subst (AllByRecursion fits) (sym next) (z_fits, f))
 
-  pub multiplied-zero : z ≡ pos 0 → MultipliedSoFar fits whole rest product
-  multiplied-zero e = record {
-    number = h.number;
-    is_number = h.is_number;
-    in_range = h.in_range;
-    total_is = ap (λ m. m * magnitude_product rest) ((let k = ap (λ y. h.number * nonzero_magnitude y) e in omega (arith, k))) ∙ total-next;
-    each = each-next;
-  }
+  times-is : product *ℤ pos (nonzero_magnitude z) ≡ pos (h.number * nonzero_magnitude z)
+  times-is = ap (λ t. t *ℤ pos (nonzero_magnitude z)) h.is_number
 
-  times-nonzero_magnitude : z ≢ pos 0 → h.number * nonzero_magnitude z ≡ h.number * unsigned_abs z
-  times-nonzero_magnitude nz = ap (λ m. h.number * m) (magnitude-nonzero z nz)
-
-  times-is : (factor : ℤ) → factor ≡ pos (unsigned_abs z) → product *ℤ factor ≡ pos (h.number * unsigned_abs z)
-  times-is factor e = ap (λ t. t *ℤ factor) h.is_number ∙ ap (λ t. pos h.number *ℤ t) e
-
-  pub multiplied-next : z ≢ pos 0 → (factor more : ℤ) → factor ≡ pos (unsigned_abs z) → more ≡ product *ℤ factor → fits (product *ℤ factor) → MultipliedSoFar fits whole rest more
-  multiplied-next nz factor more e f g = record {
-    number = h.number * unsigned_abs z;
-    is_number = f ∙ times-is factor e;
-    in_range = subst fits (sym f) g;
-    total_is = ap (λ m. m * magnitude_product rest) (sym (times-nonzero_magnitude nz)) ∙ total-next;
+  pub multiplied-next : (more : ℤ) → more ≡ product *ℤ pos (nonzero_magnitude z) → fits (product *ℤ pos (nonzero_magnitude z)) → MultipliedSoFar fits whole rest more
+  multiplied-next more e f = record {
+    number = h.number * nonzero_magnitude z;
+    is_number = e ∙ times-is;
+    in_range = subst fits (sym e) f;
+    total_is = total-next;
     each = each-next;
   }
 
@@ -130,23 +121,27 @@ module _ (fits : ℤ → Type 0) (whole now rest : List ℤ) (z product : ℤ) (
     below : (n m : ℕ) → n ≤ m → fits (pos m) → fits (pos n)
     below n m le f = between (pos 0) (pos n) (pos m) zero_fits f (omega (arith, ints)) (omega (arith, ints))
 
-    -- the product with the next number is too large, and so is the whole one
-    pub multiplied-excess : z ≢ pos 0 → (factor : ℤ) → factor ≡ pos (unsigned_abs z) → (fits (product *ℤ factor) → ⊥) → fits (pos (magnitude_product whole)) → ⊥
-    multiplied-excess nz factor e excess f =
-        let s = product-some rest in
-        let t = total-next in
-        let k : (h.number * nonzero_magnitude z) * 1 ≤ (h.number * nonzero_magnitude z) * magnitude_product rest = mul-le (h.number * nonzero_magnitude z) 1 (h.number * nonzero_magnitude z) (magnitude_product rest) (omega arith) s in
-        let m = times-nonzero_magnitude nz in
-        excess (subst fits (sym (times-is factor e)) (below (h.number * unsigned_abs z) (magnitude_product whole) (omega (arith, k, t, m)) f))
-
-    -- the number has no absolute value in the type
-    pub magnitude-excess : z ≢ pos 0 → (fits (pos (unsigned_abs z)) → ⊥) → fits (pos (magnitude_product whole)) → ⊥
-    magnitude-excess nz excess f =
+    -- the absolute value or the product with it is too large, and so is the whole product
+    pub multiplied-excess : (fits (pos (nonzero_magnitude z)) × fits (product *ℤ pos (nonzero_magnitude z)) → ⊥) → fits (pos (magnitude_product whole)) → ⊥
+    multiplied-excess excess f =
         let s = product-some rest in
         let w = product-some whole in
         let t = total-next in
-        let m = magnitude-nonzero z nz in
-        let pos_number : 1 ≤ h.number = some-factor h.number (nonzero_magnitude z) (magnitude_product rest) (omega (arith, t, w)) in
-        let k : 1 * nonzero_magnitude z ≤ h.number * nonzero_magnitude z = mul-le 1 (nonzero_magnitude z) h.number (nonzero_magnitude z) pos_number (omega arith) in
+        let some : 1 ≤ h.number = some-factor h.number (nonzero_magnitude z) (magnitude_product rest) (omega (arith, t, w)) in
+        let k : 1 * nonzero_magnitude z ≤ h.number * nonzero_magnitude z = mul-le 1 (nonzero_magnitude z) h.number (nonzero_magnitude z) some (omega arith) in
         let l : (h.number * nonzero_magnitude z) * 1 ≤ (h.number * nonzero_magnitude z) * magnitude_product rest = mul-le (h.number * nonzero_magnitude z) 1 (h.number * nonzero_magnitude z) (magnitude_product rest) (omega arith) s in
-        excess (below (unsigned_abs z) (magnitude_product whole) (omega (arith, k, l, t, m)) f)
+        excess (
+          below (nonzero_magnitude z) (magnitude_product whole) (omega (arith, k, l, t)) f,
+          subst fits (sym times-is) (below (h.number * nonzero_magnitude z) (magnitude_product whole) (omega (arith, l, t)) f),
+        )
+
+-- what a checked product with an absolute value that fits answers
+pub checked-product : {A : Type 0} (value : A → ℤ) (fits : ℤ → Type 0) (product factor : ℤ) (n : ℕ) (r : Option A) → factor ≡ pos n → fits (pos n) → Checks value fits (product *ℤ factor) r → Checks value (λ z. fits (pos n) × fits z) (product *ℤ pos n) r
+checked-product value fits product factor n None e f h = λ both. h (subst (λ t. fits (product *ℤ t)) (sym e) both.1)
+checked-product value fits product factor n (Some y) e f h = ((f, subst (λ t. fits (product *ℤ t)) e h.0), h.1 ∙ ap (λ t. product *ℤ t) e)
+
+-- and a product with zero left out
+pub product-kept : {A : Type 0} (value : A → ℤ) (fits : ℤ → Type 0) (y : A) (z : ℤ) → z ≡ pos 0 → fits (pos 1) → fits (value y) → Checks value (λ t. fits (pos (nonzero_magnitude z)) × fits t) (value y *ℤ pos (nonzero_magnitude z)) (Some y)
+product-kept value fits y z e one_fits f =
+    let same : value y ≡ value y *ℤ pos (nonzero_magnitude z) = sym (*ℤ_comm (value y) (pos 1) ∙ one-times (value y)) ∙ ap (λ t. value y *ℤ pos (nonzero_magnitude t)) (sym e) in
+    ((subst (λ t. fits (pos (nonzero_magnitude t))) (sym e) one_fits, subst fits same f), same)

@@ -1,5 +1,5 @@
 -- Positive and negative whole numbers that are added apart, one after the other.
-use Rattle.std.proofs.Common.{◌≡◌, List, [], ◌∷◌, refl, sym, ap, ◌∙◌, subst, arith}
+use Rattle.std.proofs.Common.{◌≡◌, List, [], ◌∷◌, refl, sym, ap, ◌∙◌, ◌⊎◌, inl, inr, subst, arith}
 use Rattle.std.specs.Prelude.{ℤ, pos, negsuc, ◌+ℤ◌, ◌≤ℤ◌, ◌<ℤ◌}
 use Rattle.std.proofs.lemmas.Int.{ints}
 use Rattle.ndarray.specs.Integers.{positive_sum, negative_sum}
@@ -21,6 +21,10 @@ up_front (negsuc n) zs h = absurd (omega (arith, ints))
 down_front : (z : ℤ) (zs : List ℤ) → z <ℤ pos 0 → (positive_sum (z ∷ zs) ≡ positive_sum zs) × (negative_sum (z ∷ zs) ≡ z +ℤ negative_sum zs)
 down_front (pos n) zs h = absurd (omega (arith, ints))
 down_front (negsuc n) zs h = (refl, refl)
+
+either-sign : (z : ℤ) → (pos 0 ≤ℤ z) ⊎ (z <ℤ pos 0)
+either-sign (pos n) = inl (omega (arith, ints))
+either-sign (negsuc n) = inr (omega (arith, ints))
 
 -- up and down are the sums of the positive and of the negative numbers of whole before rest, and both fit
 pub record AddedApart (fits : ℤ → Type 0) (whole rest : List ℤ) (up down : ℤ) : Type 0 where
@@ -54,7 +58,7 @@ AddedApart-end fits whole rest up down e h =
 
 -- the next number is z
 module _ (fits : ℤ → Type 0) (whole now rest : List ℤ) (z up down : ℤ) (next : now ≡ z ∷ rest) (h : AddedApart fits whole now up down) where
-  pub AddedApart-up : pos 0 ≤ℤ z → (sum : ℤ) → sum ≡ up +ℤ z → fits (up +ℤ z) → AddedApart fits whole rest sum down
+  AddedApart-up : pos 0 ≤ℤ z → (sum : ℤ) → sum ≡ up +ℤ z → fits (up +ℤ z) → AddedApart fits whole rest sum down
   AddedApart-up positive sum e f =
       let front = up_front z rest positive in
       let p = ap positive_sum next ∙ front.0 in
@@ -68,7 +72,7 @@ module _ (fits : ℤ → Type 0) (whole now rest : List ℤ) (z up down : ℤ) (
         down_fits = h.down_fits;
       }
 
-  pub AddedApart-down : z <ℤ pos 0 → (sum : ℤ) → sum ≡ down +ℤ z → fits (down +ℤ z) → AddedApart fits whole rest up sum
+  AddedApart-down : z <ℤ pos 0 → (sum : ℤ) → sum ≡ down +ℤ z → fits (down +ℤ z) → AddedApart fits whole rest up sum
   AddedApart-down negative sum e f =
       let front = down_front z rest negative in
       let p = ap positive_sum next ∙ front.0 in
@@ -82,16 +86,28 @@ module _ (fits : ℤ → Type 0) (whole now rest : List ℤ) (z up down : ℤ) (
         down_fits = subst fits (sym e) f;
       }
 
+  -- it is added to the sum of its sign
+  pub AddedApart-next : (higher lower : ℤ) → (pos 0 ≤ℤ z → (fits (up +ℤ z) × (higher ≡ up +ℤ z)) × (lower ≡ down)) → (z <ℤ pos 0 → (fits (down +ℤ z) × (lower ≡ down +ℤ z)) × (higher ≡ up)) → AddedApart fits whole rest higher lower
+  AddedApart-next higher lower positive negative =
+      elim (either-sign z) [
+        | inl p ↦ (let (t, same) = positive p in subst (AddedApart fits whole rest higher) (sym same) (AddedApart-up p higher t.1 t.0))
+        | inr n ↦ (let (t, same) = negative n in subst (λ u. AddedApart fits whole rest u lower) (sym same) (AddedApart-down n lower t.1 t.0))
+      ]
+
   -- where each number between two that fit does fit, an excess at z is one of the whole
   module _ (zero_fits : fits (pos 0)) (between : (x y z : ℤ) → fits x → fits z → x ≤ℤ y → y ≤ℤ z → fits y) where
-    pub AddedApart-up_excess : pos 0 ≤ℤ z → (fits (up +ℤ z) → ⊥) → fits (positive_sum whole) → ⊥
+    AddedApart-up_excess : pos 0 ≤ℤ z → (fits (up +ℤ z) → ⊥) → fits (positive_sum whole) → ⊥
     AddedApart-up_excess positive excess f =
         let r = positive_sum-positive rest in
         let p = ap positive_sum next ∙ (up_front z rest positive).0 in
         excess (between (pos 0) (up +ℤ z) (positive_sum whole) zero_fits f (omega (arith, ints, h.up_positive)) (omega (arith, ints, h.up_sum, p)))
 
-    pub AddedApart-down_excess : z <ℤ pos 0 → (fits (down +ℤ z) → ⊥) → fits (negative_sum whole) → ⊥
+    AddedApart-down_excess : z <ℤ pos 0 → (fits (down +ℤ z) → ⊥) → fits (negative_sum whole) → ⊥
     AddedApart-down_excess negative excess f =
         let r = negative_sum-negative rest in
         let n = ap negative_sum next ∙ (down_front z rest negative).1 in
         excess (between (negative_sum whole) (down +ℤ z) (pos 0) f zero_fits (omega (arith, ints, h.down_sum, n)) (omega (arith, ints, h.down_negative)))
+
+    pub AddedApart-excess : (pos 0 ≤ℤ z → fits (up +ℤ z) → ⊥) → (z <ℤ pos 0 → fits (down +ℤ z) → ⊥) → fits (positive_sum whole) × fits (negative_sum whole) → ⊥
+    AddedApart-excess positive negative both =
+        elim (either-sign z) [ inl p ↦ AddedApart-up_excess p (positive p) both.0 | inr n ↦ AddedApart-down_excess n (negative n) both.1 ]

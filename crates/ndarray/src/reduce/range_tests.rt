@@ -1,10 +1,10 @@
 //! Whether the sums and the products of an array's cells stay in their integer type.
 
-ghost use Rattle.std.specs.Prelude.{◌≡◌, ◌↔◌, ◌*ℤ◌, IsTrue, map, pos, unsigned_abs};
+ghost use Rattle.std.specs.Prelude.{◌≡◌, ◌↔◌, ◌+ℤ◌, ◌*ℤ◌, ◌<ℤ◌, ◌≤ℤ◌, IfSome, IsTrue, map, pos, unsigned_abs};
 ghost use Rattle.num_traits.specs.Laws.{Checks};
 ghost use Rattle.ndarray.specs.Products.{magnitude_sum, products_of};
 ghost use Rattle.ndarray.specs.Sums.{IsSummable, IsSummableBy};
-ghost use Rattle.ndarray.specs.Integers.{int_products, int_sums, magnitude_product, negative_sum, positive_sum};
+ghost use Rattle.ndarray.specs.Integers.{int_products, int_sums, magnitude_product, negative_sum, nonzero_magnitude, positive_sum};
 
 use crate::base::array::{ArrayBase, ArrayView};
 use crate::base::dimension::{Dimension, Ix1, Lengths};
@@ -57,22 +57,43 @@ fn sums_stay_in_range<A: Zero + CheckedAdd, D: Lengths>(array: &ArrayView<'_, A,
     ensures bounds { IsTrue result ↔ (A.fits (positive_sum (map A.value array.now.cells))
         × A.fits (negative_sum (map A.value array.now.cells))) }
 {
-    let mut up = A::zero();
-    let mut down = A::zero();
+    let mut sums = SignedSums {
+        up: A::zero(),
+        down: A::zero(),
+    };
     for x in array.iter() {
-        if *x < A::zero() {
-            match down.checked_add(x) {
-                Some(sum) => down = sum,
-                None => return false,
-            }
-        } else {
-            match up.checked_add(x) {
-                Some(sum) => up = sum,
-                None => return false,
-            }
-        }
+        let Some(more) = add_by_sign(sums, x) else {
+            return false;
+        };
+        sums = more;
     }
     true
+}
+
+/// The sum of positive numbers, and that of negative ones.
+#[derive(Drop)]
+struct SignedSums<A> {
+    up: A,
+    down: A,
+}
+
+/// The sums with a number added to that of its sign, where the type has it.
+fn add_by_sign<A: Zero + CheckedAdd>(sums: SignedSums<A>, x: &A) -> Option<SignedSums<A>>
+    ensures up { pos 0 ≤ℤ A.value x.now → Checks (λ s. A.value s.up) A.fits (A.value sums.up +ℤ A.value x.now) result × IfSome result (λ s. s.down ≡ sums.down) }
+    ensures down { A.value x.now <ℤ pos 0 → Checks (λ s. A.value s.down) A.fits (A.value sums.down +ℤ A.value x.now) result × IfSome result (λ s. s.up ≡ sums.up) }
+{
+    let SignedSums { up, down } = sums;
+    if *x < A::zero() {
+        match down.checked_add(x) {
+            Some(down) => Some(SignedSums { up, down }),
+            None => None,
+        }
+    } else {
+        match up.checked_add(x) {
+            Some(up) => Some(SignedSums { up, down }),
+            None => None,
+        }
+    }
 }
 
 /// The same of a view, for [`ArrayBase::products_fit`].
@@ -82,18 +103,28 @@ fn products_stay_in_range<A: IntegerElem, D: Lengths>(array: &ArrayView<'_, A, D
 {
     let mut product = A::one();
     for x in array.iter() {
-        x.tell_fits();
-        if !x.is_zero() {
-            let Some(factor) = magnitude(*x) else {
-                return false;
-            };
-            let Some(next) = product.checked_mul(&factor) else {
-                return false;
-            };
-            product = next;
-        }
+        let Some(more) = times_magnitude(product, *x) else {
+            return false;
+        };
+        product = more;
     }
     true
+}
+
+/// A product times the absolute value of a number, where the type has both; the product itself for zero.
+fn times_magnitude<A: IntegerElem>(product: A, x: A) -> Option<A>
+    ensures product { Checks A.value (λ z. A.fits (pos (nonzero_magnitude (A.value x))) × A.fits z) (A.value product *ℤ pos (nonzero_magnitude (A.value x))) result }
+    ensures fits { A.fits (A.value x) }
+{
+    product.tell_fits();
+    x.tell_fits();
+    if x.is_zero() {
+        return Some(product);
+    }
+    let Some(factor) = magnitude(x) else {
+        return None;
+    };
+    product.checked_mul(&factor)
 }
 
 /// Whether two vectors have the same length, and the absolute values of the products of their cells, place by place, add up to
@@ -132,17 +163,26 @@ fn dot_stays_in_range<A: IntegerElem>(x: &ArrayView<'_, A, Ix1>, y: &ArrayView<'
         second: y.iter(),
     };
     while let Some((a, b)) = pairs.next() {
-        a.tell_fits();
-        b.tell_fits();
-        let Some(size) = product_magnitude(*a, *b) else {
-            return false;
-        };
-        let Some(more) = sum.checked_add(&size) else {
+        let Some(more) = add_product_magnitude(sum, *a, *b) else {
             return false;
         };
         sum = more;
     }
     true
+}
+
+/// A sum and the absolute value of a product, where the type has both.
+fn add_product_magnitude<A: IntegerElem>(sum: A, x: A, y: A) -> Option<A>
+    ensures sum { Checks A.value (λ z. A.fits (pos (unsigned_abs (A.value x *ℤ A.value y))) × A.fits z) (A.value sum +ℤ pos (unsigned_abs (A.value x *ℤ A.value y))) result }
+    ensures first { A.fits (A.value x) }
+    ensures second { A.fits (A.value y) }
+{
+    x.tell_fits();
+    y.tell_fits();
+    let Some(size) = product_magnitude(x, y) else {
+        return None;
+    };
+    sum.checked_add(&size)
 }
 
 /// The absolute value of a product, where the type has it.

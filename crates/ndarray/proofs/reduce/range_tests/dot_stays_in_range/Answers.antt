@@ -1,9 +1,9 @@
-use Rattle.std.proofs.Common.{◌∙◌, ◌∷◌, [], None, Some, ap, arith, get_or, inl, inr, sym}
+use Rattle.std.proofs.Common.{◌∙◌, ◌∷◌, [], ap, arith, get_or, inl, inr, sym}
 use Rattle.ndarray.specs.Integers.{int_products}
 use Rattle.ndarray.specs.Products.{products_of}
 use Rattle.ndarray.proofs.lists.Decisions.{says_no, says_yes}
 use Rattle.ndarray.proofs.sums.InnerSums.{products-ended, products-next}
-use Rattle.ndarray.proofs.sums.MagnitudeSums.{added-end, added-excess, added-next, added-start, magnitudes-summable, negative-of_fits, size-excess}
+use Rattle.ndarray.proofs.sums.MagnitudeSums.{added-end, added-excess, added-next, added-start, magnitudes-summable, negative-of_fits}
 use Rattle.ndarray.proofs.reduce.range_tests.dot_stays_in_range.Goals as goal
 
 pub returns-then-n-m-clause-magnitudes : goal.returns-then-n-m-clause-magnitudes
@@ -24,36 +24,22 @@ pub loop-a-preserved : goal.loop-a-preserved
 loop-a-preserved g c =
     let v = g.A.Number.value in
     let fits = g.A.Number.fits in
-    let exact = g.met.A.Integral.exact_law in
     let a = c.in-Some.a.now in
     let b = c.in-Some.b.now in
     let next = products-next int_products v c.loop-a.pairs.first c.loop-a.pairs.second c.next.new.self.first c.next.new.self.second a b c.in-Some.ensures.steps.0 c.in-Some.ensures.steps.1 in
-    let sign = negative-of_fits fits (v a) (v b) c.tell_fits.ensures c.tell_fits-in-Some.ensures in
-    let more = g.met.A.CheckedAdd.checked_add_law c.loop-a.sum c.in-Some-product_magnitude.size (Some c.in-Some-checked_add.more) c.in-Some-checked_add.ensures in
-    added-next fits _ _ _ _ (v c.loop-a.sum) next sign c.loop-a.invariant (v c.in-Some-product_magnitude.size) (v c.in-Some-checked_add.more) c.in-Some-product_magnitude.ensures.1 more.1 more.0
+    let added = c.in-Some-add_product_magnitude.ensures in
+    added-next fits _ _ _ _ (v c.loop-a.sum) next (negative-of_fits fits (v a) (v b) added.first added.second) c.loop-a.invariant (v c.in-Some-add_product_magnitude.more) added.sum.1 added.sum.0.1
 
-pub returns-in_default-product_magnitude-clause-magnitudes : goal.returns-in_default-product_magnitude-clause-magnitudes
-returns-in_default-product_magnitude-clause-magnitudes g c =
+pub returns-in_default-add_product_magnitude-clause-magnitudes : goal.returns-in_default-add_product_magnitude-clause-magnitudes
+returns-in_default-add_product_magnitude-clause-magnitudes g c =
     let v = g.A.Number.value in
     let fits = g.A.Number.fits in
     let exact = g.met.A.Integral.exact_law in
     let a = c.in-Some.a.now in
     let b = c.in-Some.b.now in
     let next = products-next int_products v c.loop-a.pairs.first c.loop-a.pairs.second c.next.new.self.first c.next.new.self.second a b c.in-Some.ensures.steps.0 c.in-Some.ensures.steps.1 in
-    let sign = negative-of_fits fits (v a) (v b) c.tell_fits.ensures c.tell_fits-in-Some.ensures in
-    says_no _ (λ h. size-excess fits _ _ _ _ (v c.loop-a.sum) next sign c.loop-a.invariant (λ x y z. g.A.Number.between_law x y z exact) (g.met.A.Zero.zero_fits_law exact) c.in_default-product_magnitude.ensures h.1)
-
-pub returns-in_default-checked_add-clause-magnitudes : goal.returns-in_default-checked_add-clause-magnitudes
-returns-in_default-checked_add-clause-magnitudes g c =
-    let v = g.A.Number.value in
-    let fits = g.A.Number.fits in
-    let exact = g.met.A.Integral.exact_law in
-    let a = c.in-Some.a.now in
-    let b = c.in-Some.b.now in
-    let next = products-next int_products v c.loop-a.pairs.first c.loop-a.pairs.second c.next.new.self.first c.next.new.self.second a b c.in-Some.ensures.steps.0 c.in-Some.ensures.steps.1 in
-    let sign = negative-of_fits fits (v a) (v b) c.tell_fits.ensures c.tell_fits-in-Some.ensures in
-    let excess = g.met.A.CheckedAdd.checked_add_law c.loop-a.sum c.in-Some-product_magnitude.size None c.in_default-checked_add.ensures in
-    says_no _ (λ h. added-excess fits _ _ _ _ (v c.loop-a.sum) next sign c.loop-a.invariant (λ x y z. g.A.Number.between_law x y z exact) (g.met.A.Zero.zero_fits_law exact) (v c.in-Some-product_magnitude.size) c.in-Some-product_magnitude.ensures.1 excess h.1)
+    let excess = c.in_default-add_product_magnitude.ensures in
+    says_no _ (λ h. added-excess fits _ _ _ _ (v c.loop-a.sum) next (negative-of_fits fits (v a) (v b) excess.first excess.second) c.loop-a.invariant (λ x y z. g.A.Number.between_law x y z exact) (g.met.A.Zero.zero_fits_law exact) excess.sum h.1)
 
 pub returns-clause-magnitudes : goal.returns-clause-magnitudes
 returns-clause-magnitudes g c =

@@ -1,7 +1,6 @@
-use Rattle.std.proofs.Common.{◌≡◌, ◌≢◌, ◌∙◌, ◌∷◌, [], ap, refl, pos, map, None, Some}
-use Rattle.std.proofs.lemmas.Bool.{false≢true}
+use Rattle.std.proofs.Common.{◌≡◌, ◌∙◌, ◌∷◌, [], ap, map}
 use Rattle.ndarray.proofs.lists.Decisions.{says_no, says_yes}
-use Rattle.ndarray.proofs.sums.NonzeroProducts.{magnitude-excess, multiplied-start, multiplied-end, multiplied-excess, multiplied-next, multiplied-zero, products-summable}
+use Rattle.ndarray.proofs.sums.NonzeroProducts.{multiplied-start, multiplied-end, multiplied-excess, multiplied-next, products-summable}
 use Rattle.ndarray.proofs.sums.Selections.{IsSummableBy-map}
 use Rattle.ndarray.specs.Integers.{int_products}
 use Rattle.ndarray.proofs.reduce.range_tests.products_stay_in_range.Goals as goal
@@ -18,36 +17,16 @@ returns-in_default-clause-magnitudes g c =
     let v = g.A.Number.value in
     let exact = g.met.A.Integral.exact_law in
     let next : c.loop-x.x-iterator ≡ c.in-Some.x.now ∷ c.next.new.self = c.in-Some.ensures.steps in
-    let nz : v c.in-Some.x.now ≢ pos 0 = λ e. false≢true ((c.if-not-is_zero.ensures.value exact).1 e) in
-    says_no _ (magnitude-excess g.A.Number.fits _ _ (map v c.next.new.self) (v c.in-Some.x.now) (v c.loop-x.product) (ap (map v) next) c.tell_fits.ensures c.loop-x.invariant
-    (λ x y z. g.A.Number.between_law x y z exact) (g.met.A.Zero.zero_fits_law exact) nz c.in_default.ensures)
-
-pub returns-in_default-checked_mul-clause-magnitudes : goal.returns-in_default-checked_mul-clause-magnitudes
-returns-in_default-checked_mul-clause-magnitudes g c =
-    let v = g.A.Number.value in
-    let exact = g.met.A.Integral.exact_law in
-    let next : c.loop-x.x-iterator ≡ c.in-Some.x.now ∷ c.next.new.self = c.in-Some.ensures.steps in
-    let nz : v c.in-Some.x.now ≢ pos 0 = λ e. false≢true ((c.if-not-is_zero.ensures.value exact).1 e) in
-    let excess = g.met.A.CheckedMul.checked_mul_law c.loop-x.product c.in-Some-magnitude.factor None c.in_default-checked_mul.ensures in
-    says_no _ (multiplied-excess g.A.Number.fits _ _ (map v c.next.new.self) (v c.in-Some.x.now) (v c.loop-x.product) (ap (map v) next) c.tell_fits.ensures c.loop-x.invariant
-    (λ x y z. g.A.Number.between_law x y z exact) (g.met.A.Zero.zero_fits_law exact) nz (v c.in-Some-magnitude.factor) c.in-Some-magnitude.ensures.1 excess)
-
-pub loop-x-preserved-then-not-is_zero : goal.loop-x-preserved-then-not-is_zero
-loop-x-preserved-then-not-is_zero g c =
-    let v = g.A.Number.value in
-    let exact = g.met.A.Integral.exact_law in
-    let next : c.loop-x.x-iterator ≡ c.in-Some.x.now ∷ c.next.new.self = c.in-Some.ensures.steps in
-    let nz : v c.in-Some.x.now ≢ pos 0 = λ e. false≢true ((c.if-not-is_zero.ensures.value exact).1 e) in
-    let more = g.met.A.CheckedMul.checked_mul_law c.loop-x.product c.in-Some-magnitude.factor (Some c.in-Some-checked_mul.next) c.in-Some-checked_mul.ensures in
-    multiplied-next g.A.Number.fits _ _ (map v c.next.new.self) (v c.in-Some.x.now) (v c.loop-x.product) (ap (map v) next) c.tell_fits.ensures c.loop-x.invariant
-    nz (v c.in-Some-magnitude.factor) (v c.in-Some-checked_mul.next) c.in-Some-magnitude.ensures.1 more.1 more.0
+    says_no _ (multiplied-excess g.A.Number.fits _ _ (map v c.next.new.self) (v c.in-Some.x.now) (v c.loop-x.product) (ap (map v) next) c.in_default.ensures.fits c.loop-x.invariant
+    (λ x y z. g.A.Number.between_law x y z exact) (g.met.A.Zero.zero_fits_law exact) c.in_default.ensures.product)
 
 pub loop-x-preserved : goal.loop-x-preserved
 loop-x-preserved g c =
     let v = g.A.Number.value in
-    let exact = g.met.A.Integral.exact_law in
     let next : c.loop-x.x-iterator ≡ c.in-Some.x.now ∷ c.next.new.self = c.in-Some.ensures.steps in
-    multiplied-zero g.A.Number.fits _ _ (map v c.next.new.self) (v c.in-Some.x.now) (v c.loop-x.product) (ap (map v) next) c.tell_fits.ensures c.loop-x.invariant ((c.if-not-is_zero.ensures.value exact).0 refl)
+    let times = c.in-Some-times_magnitude.ensures in
+    multiplied-next g.A.Number.fits _ _ (map v c.next.new.self) (v c.in-Some.x.now) (v c.loop-x.product) (ap (map v) next) times.fits c.loop-x.invariant
+    (v c.in-Some-times_magnitude.more) times.product.1 times.product.0.1
 
 pub returns-clause-magnitudes : goal.returns-clause-magnitudes
 returns-clause-magnitudes g c =
