@@ -8,9 +8,8 @@ ghost use Rattle.ndarray.specs.Limits.{IsWithinLimit};
 use crate::base::array::Array;
 use crate::base::dimension::Dimension;
 use crate::base::index_lists::Indices;
-use crate::order::Order;
 use crate::zip::calls::ItemCall;
-use crate::zip::collecting::collect_items;
+use crate::zip::collecting::collect_in_either_order;
 use std::alloc::{AllocError, Global};
 
 /// What computes an element at each pattern of an index list.
@@ -58,5 +57,5 @@ pub(crate) fn array_of<A: Drop, D: Dimension, C: Entries<D::Pattern, Elem = A>>(
     ensures axes { IfOk result (λ r. D.has_axes (length r.lengths)) }
     ensures empty { size (D.numbers dim) ≡ 0 → IsOk result }
 {
-    collect_items(alloc, Indices::of(dim), Order::RowMajor, EachEntry(entries))
+    collect_in_either_order(alloc, Indices::of(dim), EachEntry(entries))
 }

@@ -10,7 +10,7 @@ ghost use Rattle.ndarray.specs.declared.base.shape.Order.{Order};
 use crate::base::array::{Array, ArrayBase};
 use crate::base::dimension::Lengths;
 use crate::base::storage::DataMut;
-use crate::zip::assigning::{assign_items, assigning_order};
+use crate::zip::assigning::assign_items;
 use crate::zip::calls::{FoldCall, ItemCall};
 use crate::zip::collecting::collect_items;
 use crate::zip::fold_while::FoldWhile;
@@ -103,7 +103,6 @@ impl<N: NdProducer<Dim = D>, D: Lengths, K> Zip<Parts<N, K>, D> {
         ensures whole { IsGrid into.new }
     {
         let nested = self.parts.nested;
-        let order = assigning_order(&nested, into);
-        assign_items(nested, order, into, f)
+        assign_items(nested, into, f)
     }
 }

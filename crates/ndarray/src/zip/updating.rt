@@ -3,9 +3,9 @@
 ghost use Rattle.std.specs.Prelude.{◌≡◌, ℕ, List, length, map, Option, Some, Result, Ok, Err, MatchResult};
 ghost use Rattle.std.specs.Iterator.{IsFinite};
 ghost use Rattle.ndarray.specs.Calls.{can_call_by_ref2, call_gives_by_ref2};
-ghost use Rattle.ndarray.specs.Grid.{Grid, IsGrid, cell};
+ghost use Rattle.ndarray.specs.Grid.{IsGrid, cell};
 ghost use Rattle.ndarray.specs.Index.{InBox};
-ghost use Rattle.ndarray.specs.Orders.{box_in, HasInOrder};
+ghost use Rattle.ndarray.specs.Orders.{box_in};
 ghost use Rattle.ndarray.specs.Producers.{YieldsInTurn};
 ghost use Rattle.ndarray.specs.Runs.{MayGather};
 ghost use Rattle.ndarray.specs.Writes.{with_cell};
@@ -131,9 +131,9 @@ struct Updates<P, C> {
 
 impl<P: NdProducer, A: Drop, C: CellCall<A, P::Item>> CellWriter<A, Result<(), AllocError>>
     for Updates<P, C> {
-    ghost can_write = { λ w xs. (g : Grid A) × ((P.lengths w.other ≡ g.lengths) × HasInOrder w.order g xs × MayGather (is_cell_beside g (P.yields_at w.other)) (answers C.call_gives) C.can_call (box_in w.order g.lengths) w.f) };
+    ghost can_write = { λ w xs. (at : List ℕ → Option A) × ((map at (box_in w.order (P.lengths w.other)) ≡ map Some xs) × MayGather (is_beside at (P.yields_at w.other)) (answers C.call_gives) C.can_call (box_in w.order (P.lengths w.other)) w.f) };
 
-    ghost writes = { λ w xs r ys. (g : Grid A) → P.lengths w.other ≡ g.lengths → HasInOrder w.order g xs → OverwritesUntil (is_cell_beside g (P.yields_at w.other)) C.call_gives (box_in w.order g.lengths) w.f xs r ys };
+    ghost writes = { λ w xs r ys. (at : List ℕ → Option A) → map at (box_in w.order (P.lengths w.other)) ≡ map Some xs → OverwritesUntil (is_beside at (P.yields_at w.other)) C.call_gives (box_in w.order (P.lengths w.other)) w.f xs r ys };
 
     fn write(self, slice: &mut [A]) -> Result<(), AllocError> {
         let Updates { other, order, f } = self;
@@ -149,13 +149,13 @@ impl<P: NdProducer, A: Drop, C: CellCall<A, P::Item>> CellWriter<A, Result<(), A
 /// parts whose items do, and the slice with it.
 #[cycle(parts)]
 #[inline(always)]
-pub(crate) fn update_parts<P: NdProducer, A: Drop, C: CellCall<A, P::Item>>(
+fn update_parts<P: NdProducer, A: Drop, C: CellCall<A, P::Item>>(
     slice: &mut [A],
     p: P,
     order: Order,
     f: C,
 ) -> Result<Taken<C>, AllocError>
-    requires can { (at : List ℕ → Option A) × ((map at (box_in order (P.lengths p)) ≡ map Some slice.old) × MayGather (is_beside at (P.yields_at p)) (answers C.call_gives) C.can_call (box_in order (P.lengths p)) f) }
+    requires { (at : List ℕ → Option A) × ((map at (box_in order (P.lengths p)) ≡ map Some slice.old) × MayGather (is_beside at (P.yields_at p)) (answers C.call_gives) C.can_call (box_in order (P.lengths p)) f) }
     ensures ran { (at : List ℕ → Option A) → map at (box_in order (P.lengths p)) ≡ map Some slice.old → MatchResult result (λ u. OverwritesTo (is_beside at (P.yields_at p)) C.call_gives (box_in order (P.lengths p)) f slice.old (Ok u.turn) slice.new) (λ e. OverwritesTo (is_beside at (P.yields_at p)) C.call_gives (box_in order (P.lengths p)) f slice.old (Err e) slice.new) }
     ensures as_long { length slice.new ≡ length slice.old }
 {
@@ -173,7 +173,7 @@ fn update_cut<P: NdProducer, A: Drop, C: CellCall<A, P::Item>>(
     order: Order,
     f: C,
 ) -> Result<Taken<C>, AllocError>
-    requires can { (at : List ℕ → Option A) × ((map at (box_in order (P.lengths p)) ≡ map Some slice.old) × MayGather (is_beside at (P.yields_at p)) (answers C.call_gives) C.can_call (box_in order (P.lengths p)) f) }
+    requires { (at : List ℕ → Option A) × ((map at (box_in order (P.lengths p)) ≡ map Some slice.old) × MayGather (is_beside at (P.yields_at p)) (answers C.call_gives) C.can_call (box_in order (P.lengths p)) f) }
     ensures ran { (at : List ℕ → Option A) → map at (box_in order (P.lengths p)) ≡ map Some slice.old → MatchResult result (λ u. OverwritesTo (is_beside at (P.yields_at p)) C.call_gives (box_in order (P.lengths p)) f slice.old (Ok u.turn) slice.new) (λ e. OverwritesTo (is_beside at (P.yields_at p)) C.call_gives (box_in order (P.lengths p)) f slice.old (Err e) slice.new) }
     ensures as_long { length slice.new ≡ length slice.old }
 {

@@ -1,30 +1,32 @@
-use Rattle.std.proofs.Common.{◌∙◌, sym, subst, refl}
-use Rattle.ndarray.specs.Orders.{cells_in}
-use Rattle.ndarray.specs.Runs.{Collects}
-use Rattle.ndarray.proofs.cells.Cells.{cells_in-HasInOrder}
+use Rattle.std.proofs.Common.{MatchResult, Err, subst, sym}
+use Rattle.std.specs.declared.alloc.AllocError.{AllocError}
+use Rattle.ndarray.specs.Orders.{box_in}
+use Rattle.ndarray.specs.Runs.{MayGather}
+use Rattle.ndarray.specs.Updates.{is_cell_beside}
+use Rattle.ndarray.proofs.cells.UpdatedCells.{updates-collect, updates-ok}
+use Rattle.ndarray.proofs.runs.RunsThrough.{Collects-known, MayUpdate-via}
 use Rattle.ndarray.proofs.zip.assigning.assign_items.Goals as goal
 
-pub write_cells_in-requires-clause-can : goal.write_cells_in-requires-clause-can
-write_cells_in-requires-clause-can g c =
-    let o = c.args.order in
+pub try_update-requires-clause-callable : goal.try_update-requires-clause-callable
+try_update-requires-clause-callable g c = λ o.
+    let yields_at = g.P.NdProducer.yields_at c.args.p in
     let v = c.args.into.now in
-    (v, (c.requires.same, cells_in-HasInOrder o v c.requires.whole, c.requires.callable))
+    MayUpdate-via {E = AllocError} (is_cell_beside v yields_at) yields_at
+    (λ a t r d. MatchResult r (λ x. g.C.ItemCall.call_gives a.0 t.1 x d.0) (λ _. ⊥)) (λ f x r h. MatchResult r (λ a. g.C.ItemCall.call_gives f x a h) (λ _. ⊥))
+    (λ a. a.0) (λ x. x.1) (λ i x s. s.1) (λ f x r h e. e) _ (λ a t. g.C.ItemCall.can_call a.0 t.1) g.C.ItemCall.can_call (λ h x s. s) (box_in o v.lengths)
+    (subst (λ ns. MayGather yields_at g.C.ItemCall.call_gives g.C.ItemCall.can_call (box_in o ns) c.args.f) c.requires.same (c.requires.callable o))
 
-pub returns-in-Ok-clause-ran : goal.returns-in-Ok-clause-ran
-returns-in-Ok-clause-ran g c =
-    let o = c.args.order in
+pub unreachable-requires : goal.unreachable-requires
+unreachable-requires g c =
+    let (o, u) = c.in-Err.ensures.ran in
+    let ok = updates-ok _ _ o _ c.args.into.now _ (λ _. Unit {0}) (λ g x a h n k. tt) tt (λ i g x e h n s k. k) (Err _) u in
+    cc
+
+pub returns-clause-ran : goal.returns-clause-ran
+returns-clause-ran g c =
+    let yields_at = g.P.NdProducer.yields_at c.args.p in
     let v = c.args.into.now in
-    let done = c.in-Ok.ensures.done in
-    let new = c.write_cells_in.new.self in
-    record {
-      lengths = done.0 ∙ sym c.requires.same;
-      answers = cells_in o new;
-      cells = cells_in-HasInOrder o new done.2;
-      list = refl;
-      gathered = done.1 v c.requires.same (cells_in-HasInOrder o v c.requires.whole);
-    }
-
-pub returns-in-Err-clause-ran : goal.returns-in-Err-clause-ran
-returns-in-Err-clause-ran g c =
-    let back = c.in-Err.ensures.back in
-    subst (λ w. Collects (g.P.NdProducer.yields_at w.p) g.C.ItemCall.call_gives c.args.order (g.P.Shaped.lengths w.p) w.f c.assign_each.new.into) back.0 c.assign_each.ensures.ran
+    let new = c.try_update.new.array in
+    let (o, u) = c.in-Ok.ensures.ran in
+    let ran = updates-collect (is_cell_beside v yields_at) (λ a t r d. MatchResult r (λ x. g.C.ItemCall.call_gives a.0 t.1 x d.0) (λ _. ⊥)) o _ v new c.in-Ok.ensures.whole u in
+    (o, Collects-known (is_cell_beside v yields_at) yields_at (λ a t r d. g.C.ItemCall.call_gives a.0 t.1 r d.0) g.C.ItemCall.call_gives (λ a. a.0) (λ x. x.1) (λ _. Unit {0}) (λ i x s. s.1) (λ f x r h n e. (e, tt)) _ tt o v.lengths (g.P.Shaped.lengths c.args.p) (sym c.requires.same) new ran)

@@ -37,7 +37,7 @@ next-within from index each many done len left more all =
 pub update_parts-update_cut-requires : goal.update_parts-update_cut-requires
 update_parts-update_cut-requires g t c κs within =
     let o = c.args.order in
-    let q = c.requires.can in
+    let q = c.requires in
     let part = c.in-Err.p in
     let back = c.in-Err.ensures.back in
     let along = subst (λ ns. map q.0 (box_in o ns) ≡ map Some c.args.slice.now) (sym back.lengths) q.1.0 in
@@ -56,13 +56,32 @@ update_parts-returns-in-Err-clause-ran g t c = λ at along.
     (λ r w. overwrote-less o back at g.C.CellCall.call_gives c.args.f xs r ys w)
     (c.update_cut.ensures.ran at (subst (λ ns. map at (box_in o ns) ≡ map Some xs) (sym back.lengths) along))
 
+-- a part that has no axis to cut, or whose items lie side by side, is one run
+pub update_cut-update_run-requires-clause-can : goal.update_cut-update_run-requires-clause-can
+update_cut-update_run-requires-clause-can g t c = let q = c.requires in (c.args.p, (c.args.order, (q.0, (c.run.ensures.gives, q.1.0, q.1.1))))
+
+pub update_cut-returns-in_default-clause-ran : goal.update_cut-returns-in_default-clause-ran
+update_cut-returns-in_default-clause-ran g t c = λ at along.
+    noted (λ n. n.turn) c.update_run.result c.note_flat.result c.note_flat.ensures
+    (λ r. OverwritesTo (is_beside at (g.P.NdProducer.yields_at c.args.p)) g.C.CellCall.call_gives (box_in c.args.order (g.P.Shaped.lengths c.args.p)) c.args.f c.args.slice.now r c.update_run.new.slice)
+    (c.update_run.ensures.ran c.args.p c.args.order at c.run.ensures.gives along)
+
+pub update_parts-update_run-requires-clause-can : goal.update_parts-update_run-requires-clause-can
+update_parts-update_run-requires-clause-can g t c = let q = c.requires in (c.args.p, (c.args.order, (q.0, (c.run_flat.ensures.gives _ _ c.in-Ok.ensures.flat, q.1.0, q.1.1))))
+
+pub update_parts-returns-in-Ok-clause-ran : goal.update_parts-returns-in-Ok-clause-ran
+update_parts-returns-in-Ok-clause-ran g t c = λ at along.
+    noted (λ n. n.turn) c.update_run.result c.note_flat.result c.note_flat.ensures
+    (λ r. OverwritesTo (is_beside at (g.P.NdProducer.yields_at c.args.p)) g.C.CellCall.call_gives (box_in c.args.order (g.P.Shaped.lengths c.args.p)) c.args.f c.args.slice.now r c.update_run.new.slice)
+    (c.update_run.ensures.ran c.args.p c.args.order at (c.run_flat.ensures.gives _ _ c.in-Ok.ensures.flat) along)
+
 pub update_cut-loop-done-init : goal.update_cut-loop-done-init
 update_cut-loop-done-init g t c =
     let o = c.args.order in
     let axis = c.in-Some.cut.axis.0 in
     let cut = subst (λ ns. IsCut o ns axis c.in-Some.cut.len) c.raw_dim.ensures.lengths c.in-Some.ensures in
     let whole = cut.whole in
-    let q = c.requires.can in
+    let q = c.requires in
     let xs = c.args.slice.now in
     let ks = g.P.Shaped.lengths c.args.p in
     let along : map q.0 (box_in o ks) ≡ map Some xs = q.1.0 in
@@ -75,13 +94,12 @@ update_cut-loop-done-init g t c =
       λ at along. left-all o (g.P.Shaped.lengths c.args.p) (g.P.NdProducer.yields_at c.args.p) g.C.CellCall.call_gives g.C.CellCall.can_call c.args.f xs at shows-own along,
     )
 
-pub update_cut-split_at-first-requires : goal.update_cut-split_at-first-requires
-update_cut-split_at-first-requires g t c =
-    let i = c.loop-done.invariant in
-    record {
-      axis_below = slowest-below c.args.order (g.P.Shaped.lengths c.loop-done.p) c.in-Some.cut.axis.0 i.0;
-      index_at_most = le_of_lt (long-left {index = slice_index (g.P.Shaped.lengths c.loop-done.p) c.in-Some.cut.axis.0} {done = c.loop-done.done} {len = c.in-Some.cut.len} i.1 c.loop-done-test.true);
-    }
+pub update_cut-split_at-first-requires-clause-axis_below : goal.update_cut-split_at-first-requires-clause-axis_below
+update_cut-split_at-first-requires-clause-axis_below g t c = slowest-below c.args.order (g.P.Shaped.lengths c.loop-done.p) c.in-Some.cut.axis.0 c.loop-done.invariant.0
+
+pub update_cut-split_at-first-requires-clause-index_at_most : goal.update_cut-split_at-first-requires-clause-index_at_most
+update_cut-split_at-first-requires-clause-index_at_most g t c =
+    le_of_lt (long-left {index = slice_index (g.P.Shaped.lengths c.loop-done.p) c.in-Some.cut.axis.0} {done = c.loop-done.done} {len = c.in-Some.cut.len} c.loop-done.invariant.1 c.loop-done-test.true)
 
 pub update_cut-overflow_add-end : goal.update_cut-overflow_add-end
 update_cut-overflow_add-end g t c =
@@ -117,7 +135,7 @@ update_cut-update_parts-requires g t c κs within =
     let wide : c.loop-done.from + slice_index ns axis * each ≡ length c.loop-done.slice = i.4 in
     let part : ℕ = c.loop-done.from + each - c.loop-done.from in
     let all-of : part ≡ each = cut-back c.loop-done.from each in
-    let q = c.requires.can in
+    let q = c.requires in
     let left : Left o (g.P.Shaped.lengths c.args.p) (g.P.NdProducer.yields_at c.args.p) g.C.CellCall.call_gives g.C.CellCall.can_call c.args.f c.args.slice.now q.0 ns shown c.loop-done.f c.loop-done.slice c.loop-done.from = i.5 q.0 q.1.0 in
     let less = first-sum o slowest long low high in
     let seen : List ℕ → Option g.row.A.Denot = λ is. left.seen (counted_from axis 0 is) in
@@ -183,7 +201,7 @@ update_cut-update_run-requires-then-not-flat-clause-can g t c =
     let wide : c.loop-done.from + slice_index ns axis * each ≡ length c.loop-done.slice = i.4 in
     let part : ℕ = c.loop-done.from + each - c.loop-done.from in
     let all-of : part ≡ each = cut-back c.loop-done.from each in
-    let q = c.requires.can in
+    let q = c.requires in
     let left : Left o (g.P.Shaped.lengths c.args.p) (g.P.NdProducer.yields_at c.args.p) g.C.CellCall.call_gives g.C.CellCall.can_call c.args.f c.args.slice.now q.0 ns shown c.loop-done.f c.loop-done.slice c.loop-done.from = i.5 q.0 q.1.0 in
     let seen : List ℕ → Option g.row.A.Denot = λ is. left.seen (counted_from axis 0 is) in
     let here = first-along left slowest long low high each wide part all-of in
@@ -271,7 +289,7 @@ update_cut-slice_bounds-update_parts-end g t c = le_refl (length c.loop-done.sli
 pub update_cut-update_parts-requires-2 : goal.update_cut-update_parts-requires-2
 update_cut-update_parts-requires-2 g t c κs within =
     let i = c.loop-done.invariant in
-    let q = c.requires.can in
+    let q = c.requires in
     let o = c.args.order in
     let ns = g.P.Shaped.lengths c.loop-done.p in
     let shown = g.P.NdProducer.yields_at c.loop-done.p in

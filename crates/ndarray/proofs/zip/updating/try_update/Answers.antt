@@ -1,20 +1,36 @@
-use Rattle.std.proofs.Common.{subst, rules}
-use Rattle.ndarray.specs.Updates.{is_cell_beside, UpdatesUntil}
+use Rattle.std.proofs.Common.{◌≡◌, ◌∙◌, Some, ap, map, subst, sym, rules}
+use Rattle.ndarray.specs.Grid.{cell}
+use Rattle.ndarray.specs.Orders.{box_in, cells_in}
+use Rattle.ndarray.specs.Runs.{MayGather}
+use Rattle.ndarray.specs.Updates.{answers, is_cell_beside, OverwritesUntil, UpdatesUntil}
+use Rattle.ndarray.proofs.boxes.Orders.{box_in-is}
 use Rattle.ndarray.proofs.cells.Cells.{cells_in-HasInOrder}
 use Rattle.ndarray.proofs.zip.updating.try_update.Goals as goal
 
 pub write_cells_in-requires-clause-can : goal.write_cells_in-requires-clause-can
 write_cells_in-requires-clause-can g c =
     let o = c.assigning_order-order.result in
-    let v = c.args.array.now in
-    (v, (c.requires.same, cells_in-HasInOrder o v c.assigning_order-order.ensures, c.requires.callable o))
+    let v = c.args.array.now in (
+      cell v,
+      (
+        ap (λ ms. map (cell v) (box_in o ms)) c.requires.same ∙ cells_in-HasInOrder o v c.assigning_order-order.ensures (box_in o v.lengths) (box_in-is o v.lengths),
+        subst (λ ms. MayGather (is_cell_beside v (g.P.NdProducer.yields_at c.args.other)) (answers g.C.CellCall.call_gives) g.C.CellCall.can_call (box_in o ms) c.args.f) (sym c.requires.same) (c.requires.callable o),
+      ),
+    )
 
 pub returns-in-Ok-clause-ran : goal.returns-in-Ok-clause-ran
 returns-in-Ok-clause-ran g c =
     let o = c.assigning_order-order.result in
     let v = c.args.array.now in
+    let new = c.write_cells_in.new.self in
     let done = c.in-Ok.ensures.done in
-    (o, record { lengths = done.0; ran = done.1 v c.requires.same (cells_in-HasInOrder o v c.assigning_order-order.ensures) })
+    let here : map (cell v) (box_in o (g.P.Shaped.lengths c.args.other)) ≡ map Some (cells_in o v) = ap (λ ms. map (cell v) (box_in o ms)) c.requires.same ∙ cells_in-HasInOrder o v c.assigning_order-order.ensures (box_in o v.lengths) (box_in-is o v.lengths) in (
+      o,
+      record {
+        lengths = done.0;
+        ran = subst (λ ms. OverwritesUntil (is_cell_beside v (g.P.NdProducer.yields_at c.args.other)) g.C.CellCall.call_gives (box_in o ms) c.args.f (cells_in o v) c.in-Ok.updated (cells_in o new)) c.requires.same (done.1 (cell v) here);
+      },
+    )
 
 pub returns-in-Err-clause-ran : goal.returns-in-Err-clause-ran
 returns-in-Err-clause-ran g c =
