@@ -62,6 +62,31 @@ loop-index-preserved g c =
       within = All-tail (InBox os) is c.next.new.self (subst (All (InBox os)) c.in-Some.ensures.steps i.within);
     }
 
+pub finish-requires : goal.finish-requires
+finish-requires g c =
+    let made = c.in_ok-builder.ensures.room in
+    ap (λ q. length q.cells) made ∙ sym (ap (λ q. size q.lengths) made ∙ (sym c.size-size.ensures ∙ c.if-size-eq0.true))
+
+pub returns-then-size-eq0-clause-lengths : goal.returns-then-size-eq0-clause-lengths
+returns-then-size-eq0-clause-lengths g c = c.finish.ensures.lengths ∙ ap (λ q. q.lengths) c.in_ok-builder.ensures.room
+
+pub finish-requires-2 : goal.finish-requires-2
+finish-requires-2 g c =
+    let f : List ℕ → List g.row.A.Denot = λ is. blocks_at c.args.axis is c.args.arrays.now in
+    let i = c.loop-index.invariant in
+    let p = c.loop-index.builder in
+    let made = c.in_ok-builder.ensures.room in
+    let all : p.cells ≡ all_blocks c.args.axis (g.D.Lengths.numbers c.args.shape.outer) c.args.arrays.now =
+    sym (append-nil p.cells)
+    ∙ (ap (λ l. p.cells ++ flat_map f l) (sym c.in-None.ensures.steps.0)
+    ∙ (ap (λ q. q.cells) i.pushed
+    ∙ (ap (λ q. q.cells ++ flat_map f c.into_iter-index-iterator.result) made
+    ∙ ap (flat_map f) (c.into_iter-index-iterator.ensures.into_iter_gives ∙ c.new-index-items.ensures.list)))) in
+    ap length all ∙ (c.requires.may.many ∙ sym (ap (λ q. size q.lengths) i.pushed ∙ ap (λ q. size q.lengths) made))
+
+pub returns-clause-lengths : goal.returns-clause-lengths
+returns-clause-lengths g c = c.finish-2.ensures.lengths ∙ (ap (λ q. q.lengths) c.loop-index.invariant.pushed ∙ ap (λ q. q.lengths) c.in_ok-builder.ensures.room)
+
 pub returns-clause-cells : goal.returns-clause-cells
 returns-clause-cells g c =
     let f : List ℕ → List g.row.A.Denot = λ is. blocks_at c.args.axis is c.args.arrays.now in

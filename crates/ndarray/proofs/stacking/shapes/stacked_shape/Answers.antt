@@ -1,12 +1,32 @@
-use Rattle.std.proofs.Common.{◌≡◌, ◌<◌, ◌≤◌, ◌∙◌, Some, ap, sym, subst, arith, length, insert, set, true, false, refl}
+use Rattle.std.proofs.Common.{◌≡◌, ◌<◌, ◌≤◌, ◌∙◌, ℕ, List, Some, ap, sym, subst, arith, length, insert, set, true, false, refl}
 use Rattle.std.specs.List.{list_all}
 use Rattle.std.proofs.lemmas.Bool.{false≢true}
+use Rattle.std.proofs.lemmas.List.Edits.{length-insert}
 use Rattle.ndarray.specs.Grid.{same_index}
 use Rattle.ndarray.specs.Joining.{shapes_of}
 use Rattle.ndarray.specs.Limits.{IsWithinLimit}
 use Rattle.ndarray.specs.stacking.Blocks.{outer_lengths}
 use Rattle.ndarray.proofs.joining.Errors.{set-inserted, stack-differs, stack-joins, stack-many, stack-outside, stack-overflow}
 use Rattle.ndarray.proofs.stacking.shapes.stacked_shape.Goals as goal
+
+-- where a length may be inserted, there is one afterwards
+below-inserted : (ns ms : List ℕ) (axis n : ℕ) → axis ≤ n → n ≡ length ns → ms ≡ insert ns axis 1 → axis < length ms
+below-inserted ns ms axis n most axes made =
+    let within : axis ≤ length ns = omega arith in
+    let more = length-insert ns axis 1 within in
+    rw made (omega arith)
+
+pub insert_axis-dim-requires-clause-axis_at_most : goal.insert_axis-dim-requires-clause-axis_at_most
+insert_axis-dim-requires-clause-axis_at_most g c = subst (λ n. c.args.axis.0 ≤ n) c.ndim.ensures.value c.if-axis-ndim.false
+
+pub insert_axis-dim-requires-clause-room : goal.insert_axis-dim-requires-clause-room
+insert_axis-dim-requires-clause-room g c = subst (λ n. n < 32) c.ndim-2.ensures.value c.if-ndim-ge32.false
+
+pub set_axis-requires : goal.set_axis-requires
+set_axis-requires g c = below-inserted _ _ c.args.axis.0 _ c.if-axis-ndim.false c.ndim.ensures.value c.insert_axis-dim.ensures
+
+pub outer_dim-outer-requires : goal.outer_dim-outer-requires
+outer_dim-outer-requires g c = subst (λ n. c.args.axis.0 ≤ n) c.ndim.ensures.value c.if-axis-ndim.false
 
 pub returns-then-axis-ndim : goal.returns-then-axis-ndim
 returns-then-axis-ndim g c =

@@ -24,6 +24,27 @@ take_parts-returns-in-Err g t c =
           c.take_cut.ensures.ran;
     }
 
+-- a part that has no axis to cut, or whose items lie side by side, is one run
+pub take_parts-take_run-requires-clause-can : goal.take_parts-take_run-requires-clause-can
+take_parts-take_run-requires-clause-can g t c = (c.args.p, (c.args.order, (c.run_flat.ensures.gives _ _ c.in-Ok.ensures.flat, c.requires.can)))
+
+pub take_parts-returns-in-Ok : goal.take_parts-returns-in-Ok
+take_parts-returns-in-Ok g t c = record {
+  ran = noted (λ n. n.turn) c.take_run.result c.note_flat.result c.note_flat.ensures
+      (λ r. EndsOrStops (TurnAt (g.P.NdProducer.yields_at c.args.p) g.T.Turn.goes) (StopsAt (g.P.NdProducer.yields_at c.args.p) g.T.Turn.stops) c.args.turn (box_in c.args.order (g.P.Shaped.lengths c.args.p)) r)
+      (c.take_run.ensures.ran c.args.p c.args.order (c.run_flat.ensures.gives _ _ c.in-Ok.ensures.flat));
+}
+
+pub take_cut-take_run-requires-clause-can : goal.take_cut-take_run-requires-clause-can
+take_cut-take_run-requires-clause-can g t c = (c.args.p, (c.args.order, (c.run.ensures.gives, c.requires.can)))
+
+pub take_cut-returns-in_default : goal.take_cut-returns-in_default
+take_cut-returns-in_default g t c = record {
+  ran = noted (λ n. n.turn) c.take_run.result c.note_flat.result c.note_flat.ensures
+      (λ r. EndsOrStops (TurnAt (g.P.NdProducer.yields_at c.args.p) g.T.Turn.goes) (StopsAt (g.P.NdProducer.yields_at c.args.p) g.T.Turn.stops) c.args.turn (box_in c.args.order (g.P.Shaped.lengths c.args.p)) r)
+      (c.take_run.ensures.ran c.args.p c.args.order c.run.ensures.gives);
+}
+
 pub take_cut-loop-done-init : goal.take_cut-loop-done-init
 take_cut-loop-done-init g t c =
     let cut = subst (λ ns. IsCut c.args.order ns c.in-Some.cut.axis.0 c.in-Some.cut.len) c.raw_dim.ensures.lengths c.in-Some.ensures in

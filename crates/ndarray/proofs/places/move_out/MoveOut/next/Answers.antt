@@ -15,3 +15,6 @@ returns g c =
     sym c.self.view_is ∙ ap (found old.left) c.in-Some.ensures.rest
     ∙ found-next old.left c.in-Some.place places c.take.result c.take.ensures.value c.in-Some.ensures.once
     ∙ ap (λ (cs : List (Option g.row.A.Denot)). c.take.result ∷ found cs places) (sym c.take.ensures.slots)
+
+pub returns-in_default : goal.returns-in_default
+returns-in_default g c = let none = rw c.in_default.is at c.next_place.ensures.rest in (sym c.self.view_is ∙ ap (found c.self.inside.left) none.0, ap (found c.self.inside.left) none.1)

@@ -1,4 +1,5 @@
-use Rattle.std.proofs.Common.{sym, ◌∙◌}
+use Rattle.std.proofs.Common.{sym, subst, ◌∙◌, ap}
+use Rattle.ndarray.specs.base.Masks.{Shares, grids_at}
 use Rattle.ndarray.specs.base.Slots.{held_at}
 use Rattle.ndarray.proofs.regions.Masks.{SharesBoth-last, grids_at-last, one-of}
 use Rattle.ndarray.proofs.subviews.piece_layouts.PiecesIterMutDoubleEndedIterator.next_back.Goals as goal
@@ -14,3 +15,11 @@ returns-clause-steps g c =
     let others = (c.take_array.ensures.others _ (SharesBoth-last _ _ _ _ c.in-Some.ensures c.self.invariant)).1 in
     let value = c.take_array.ensures.value in
     sym c.self.view_is ∙ (grids_at-last (held_at c.self.inside.region.slots) _ _ _ c.in-Some.ensures ∙ (cc))
+
+pub invariant_of-self : goal.invariant_of-self
+invariant_of-self g c = let none = rw c.in_default.is at c.next_back.ensures in subst (Shares (held_at c.self.inside.region.slots)) (none.0 ∙ sym none.1) c.self.invariant
+
+pub returns-in_default-clause-steps : goal.returns-in_default-clause-steps
+returns-in_default-clause-steps g c =
+    let none = rw c.in_default.is at c.next_back.ensures in
+    (sym c.self.view_is ∙ ap (grids_at (held_at c.self.inside.region.slots)) none.0, ap (grids_at (held_at c.self.inside.region.slots)) none.1)
