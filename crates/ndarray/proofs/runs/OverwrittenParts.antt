@@ -16,7 +16,7 @@ use Rattle.ndarray.specs.declared.base.shape.Order.{Order}
 use Rattle.ndarray.proofs.boxes.Cuts.{slowest-below}
 use Rattle.ndarray.proofs.boxes.Orders.{length-box_in}
 use Rattle.ndarray.proofs.boxes.Sizes.{size-one_index}
-use Rattle.ndarray.proofs.runs.Parts.{IsCutAt, boxes, may-first, may-rest, first-stopped, both-ran, ran-Ok, may-less, ran-less, shows-own, IsCutAt-first}
+use Rattle.ndarray.proofs.runs.Parts.{IsCutAt, boxes, may-first, may-rest, first-stopped, both-ran, may-less, ran-less, shows-own, IsCutAt-first}
 use Rattle.ndarray.proofs.runs.RunsThrough.{may_via, runs_via}
 use Rattle.ndarray.proofs.runs.Turns.{Reached, found}
 
@@ -51,19 +51,6 @@ module _ {F X A E : Type 0} (yields_at : List ℕ → X → Type 0) (call_gives 
             let (d, same, (x, stands, (h, call))) = s in
             let one : e ≡ d = cc in
             (done, q, turns, inr (i, rest, parts, (x, stands, (d, h, ap (λ z. Err z) one, call.0, call.1)))))
-      ]
-
-  -- the turns of an outcome that is no error
-  pub overwrote-all : (is : List (List ℕ)) (f h : F) (xs ys : List A) → OverwritesTo yields_at call_gives is f xs (Ok h) ys → FoldsTo {P = F × List A} (TurnAt yields_at (GatherTurn (answers call_gives))) (f, []) is (h, ys)
-  overwrote-all is f h xs ys w = ran-Ok (TurnAt yields_at (GatherTurn (answers call_gives))) (StopsAt yields_at (λ (q : F × List A) x e. (k : F) × (call_gives q.0 x (Err e) k × (ys ≡ q.1 ++ drop (length q.1) xs)))) (f, []) (h, ys) is w
-
-  -- calls that are never refused
-  pub refused-never : ((f : F) (x : X) (e : E) (h : F) → call_gives f x (Err e) h → ⊥) → (is : List (List ℕ)) (f : F) (e : E) (xs ys : List A) → OverwritesTo yields_at call_gives is f xs (Err e) ys → ⊥
-  refused-never never is f e xs ys w =
-      let (done, q, turns, how) = w in
-      elim how [
-        | inl a ↦ (let other = a.1 in cc)
-        | inr a ↦ (let (i, rest, parts, s) = a in let (d, same, (x, stands, (h, call))) = s in never q.0 x d h call.0)
       ]
 
 -- the elements in two parts, as the box is cut
