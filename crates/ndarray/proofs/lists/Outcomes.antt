@@ -1,8 +1,7 @@
 -- What an outcome says of its condition.
 use Rattle.std.proofs.Common.{◌≡◌, ◌↔◌, Ok, Err, ap}
-use Rattle.std.specs.Prelude.{Result, IsErrOf}
+use Rattle.std.specs.Prelude.{IsErrOf}
 use Rattle.ndarray.specs.Errors.{refusal}
-use Rattle.ndarray.specs.declared.base.error.ErrorKind.{ErrorKind}
 use Rattle.ndarray.specs.declared.base.error.ErrorKind.TheVariants.{OutOfBounds, Overflow}
 
 -- the two refusals of a shape differ

@@ -1,4 +1,4 @@
-use Rattle.std.proofs.Common.{◌≡◌, ◌≤◌, ap, arith, length, refl, subst, sym}
+use Rattle.std.proofs.Common.{◌≤◌, ap, arith, length, refl, subst, sym}
 use Rattle.std.proofs.lemmas.Bool.{false≢true}
 use Rattle.ndarray.specs.Index.{size}
 use Rattle.ndarray.specs.Limits.{IsWithinLimit}
