@@ -3,6 +3,7 @@ pub mod Boxes
 pub mod Cuts
 pub mod Orders
 pub mod ProductShapes
+pub mod ShapeErrors
 pub mod ShiftedBoxes
 pub mod Sizes
 pub mod UniqueOrder

@@ -3,7 +3,6 @@ pub mod CellLookup
 pub mod Collections
 pub mod Decisions
 pub mod Elements
-pub mod Outcomes
 pub mod Pairs
 pub mod Permutations
 pub mod Prefixes

@@ -1,6 +1,6 @@
 -- Elements that leave their storage one by one, as borrows or moved out.
 pub mod CellPlaces
 pub mod Deeds
-pub mod LentCells
+pub mod BorrowedCells
 pub mod MovedOut
 pub mod PartlyMoved

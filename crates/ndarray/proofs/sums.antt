@@ -1,7 +1,6 @@
 -- Sums of lists and of their selections.
 pub mod InnerSums
 pub mod IntegerSelections
-pub mod IntegerTests
 pub mod MagnitudeSums
 pub mod NonzeroProducts
 pub mod Rearrangements

@@ -1,12 +1,12 @@
--- Refusals of shapes.
+-- Errors of shapes.
 use Rattle.std.specs.Prelude.{ℕ, List, codes}
 use Rattle.ndarray.specs.declared.base.error.ErrorKind.{ErrorKind}
 use Rattle.ndarray.specs.declared.base.error.ErrorKind.TheVariants.{IncompatibleShape, IncompatibleLayout, RangeLimited, OutOfBounds, Unsupported, Overflow}
 use Rattle.ndarray.specs.declared.base.error.ShapeError.{ShapeError}
 
--- the refusal of a kind
-abbrev pub refusal : ErrorKind → ShapeError
-refusal k = record { kind = k }
+-- the error of a kind
+abbrev pub shape_error : ErrorKind → ShapeError
+shape_error k = record { kind = k }
 
 -- what is written of a kind
 abbrev pub kind_text : ErrorKind → List ℕ
@@ -17,6 +17,6 @@ kind_text OutOfBounds = codes "ShapeError/OutOfBounds: out of bounds indexing"
 kind_text Unsupported = codes "ShapeError/Unsupported: unsupported operation"
 kind_text Overflow = codes "ShapeError/Overflow: arithmetic overflow"
 
--- what is written of a refusal
-abbrev pub refusal_text : ShapeError → List ℕ
-refusal_text e = kind_text e.kind
+-- what is written of an error
+abbrev pub shape_error_text : ShapeError → List ℕ
+shape_error_text e = kind_text e.kind

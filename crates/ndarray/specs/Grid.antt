@@ -20,13 +20,13 @@ same_index [] (j ∷ js) = false
 same_index (i ∷ is) [] = false
 same_index (i ∷ is) (j ∷ js) = nat_eq i j && same_index is js
 
--- of two lists side by side, what stands beside the index list
+-- of two lists side by side, the value beside the index list
 abbrev pub beside : {A : Type 0} → List (List ℕ) → List A → List ℕ → Option A
 beside [] xs is = None
 beside (js ∷ jss) [] is = None
 beside (js ∷ jss) (x ∷ xs) is = if same_index js is then Some x else beside jss xs is
 
--- the cell at an index list: what stands beside it where the box in row order lies beside the cells. `None` outside the box
+-- the cell at an index list: the value beside it where the box in row order lies beside the cells. `None` outside the box
 unfoldable pub cell : {A : Type 0} → Grid A → List ℕ → Option A
 cell g is = beside (row_order g.lengths) g.cells is
 
@@ -36,20 +36,20 @@ pub record HasCells {A : Type 0} (g : Grid A) (ys : List (List ℕ)) : Type 0 wh
   pub within : All (InBox g.lengths) ys
 
 -- the cells that f names along a box, in row order
-unfoldable pub tabulated : {A : Type 0} → List ℕ → (List ℕ → Option A) → List A
-tabulated ns f = filter_map f (row_order ns)
+unfoldable pub cells_by : {A : Type 0} → List ℕ → (List ℕ → Option A) → List A
+cells_by ns f = filter_map f (row_order ns)
 
 -- the array of lengths ns that has at each index list of its box the cell that f names
 abbrev pub tabulate : {A : Type 0} → List ℕ → (List ℕ → Option A) → Grid A
-tabulate ns f = grid ns (tabulated ns f)
+tabulate ns f = grid ns (cells_by ns f)
 
 -- no other array has these lengths and these cells
 abbrev pub IsKnownByCells : {A : Type 0} → Grid A → Type 0
 IsKnownByCells {A} g = (h : Grid A) → IsGrid h → h.lengths ≡ g.lengths → ((is : List ℕ) → InBox g.lengths is → cell h is ≡ cell g is) → h ≡ g
 
 -- the array of lengths ns that has f of each index list as its cell there
-abbrev pub arranged : {B : Type 0} → List ℕ → (List ℕ → B) → Grid B
-arranged ns f = grid ns (map f (row_order ns))
+abbrev pub array_by : {B : Type 0} → List ℕ → (List ℕ → B) → Grid B
+array_by ns f = grid ns (map f (row_order ns))
 
 -- the array of one axis that has the elements of a list as its cells
 abbrev pub one_axis : {B : Type 0} → List B → Grid B

@@ -2,7 +2,7 @@
 use Rattle.std.specs.Prelude.{ℕ, ◌+◌, ◌-◌, ◌*◌, ◌/◌, ◌≤◌, ◌≡◌, min, nat_lt, if◌then◌else◌, All, List, [], ◌∷◌, length, map, insert, remove, slice_index}
 use Rattle.std.specs.Int.{div_ceil}
 use Rattle.std.specs.List.{range_with_len}
-use Rattle.ndarray.specs.Grid.{Grid, cell, tabulate, arranged}
+use Rattle.ndarray.specs.Grid.{Grid, cell, tabulate, array_by}
 use Rattle.ndarray.specs.Views.{axis_item, axis_part}
 
 -- the items along an axis, from the first to the last
@@ -23,8 +23,8 @@ lane g axis js = tabulate (slice_index g.lengths axis ∷ []) (λ is. cell g (in
 
 -- the lanes along an axis, one for each index list of the other axes; an array of no axes has one lane of length 1
 abbrev pub lanes_along : {A : Type 0} → List ℕ → Grid A → ℕ → Grid (Grid A)
-lanes_along [] g axis = arranged [] (λ _. tabulate (1 ∷ []) (λ _. cell g []))
-lanes_along (n ∷ ns) g axis = arranged (remove (n ∷ ns) axis) (lane g axis)
+lanes_along [] g axis = array_by [] (λ _. tabulate (1 ∷ []) (λ _. cell g []))
+lanes_along (n ∷ ns) g axis = array_by (remove (n ∷ ns) axis) (lane g axis)
 
 abbrev pub lanes_of : {A : Type 0} → Grid A → ℕ → Grid (Grid A)
 lanes_of g axis = lanes_along g.lengths g axis
@@ -48,7 +48,7 @@ chunk_counts (n ∷ ns) (c ∷ cs) = n / c ∷ chunk_counts ns cs
 
 -- the whole chunks of lengths cs; the rest of each axis is left out
 abbrev pub exact_chunks_of : {A : Type 0} → Grid A → List ℕ → Grid (Grid A)
-exact_chunks_of g cs = arranged (chunk_counts g.lengths cs) (window g cs cs)
+exact_chunks_of g cs = array_by (chunk_counts g.lengths cs) (window g cs cs)
 
 -- the number of windows of length w on an axis of length n, where they are a step apart
 abbrev pub window_count : ℕ → ℕ → ℕ → ℕ
@@ -63,11 +63,11 @@ window_counts (n ∷ ns) (w ∷ ws) (s ∷ steps) = window_count n w s ∷ windo
 
 -- the windows of lengths ws, steps apart on each axis
 abbrev pub windows_of : {A : Type 0} → Grid A → List ℕ → List ℕ → Grid (Grid A)
-windows_of g ws steps = arranged (window_counts g.lengths ws steps) (window g ws steps)
+windows_of g ws steps = array_by (window_counts g.lengths ws steps) (window g ws steps)
 
 -- the windows of length w along one axis, a step apart; on the other axes they have the whole length
 abbrev pub axis_windows_of : {A : Type 0} → Grid A → ℕ → ℕ → ℕ → Grid (Grid A)
-axis_windows_of g axis w step = arranged (window_count (slice_index g.lengths axis) w step ∷ []) (λ ps. axis_part g axis (slice_index ps 0 * step) (slice_index ps 0 * step + w))
+axis_windows_of g axis w step = array_by (window_count (slice_index g.lengths axis) w step ∷ []) (λ ps. axis_part g axis (slice_index ps 0 * step) (slice_index ps 0 * step + w))
 
 -- as many numbers as the array has axes, each at least 1
 pub record ArePositive (ns cs : List ℕ) : Type 0 where

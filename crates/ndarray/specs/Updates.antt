@@ -15,7 +15,7 @@ is_cell g i x = cell g i ≡ Some x
 abbrev pub is_cell_beside : {A X : Type 0} → Grid A → (List ℕ → X → Type 0) → List ℕ → A × X → Type 0
 is_cell_beside g yields_at = both (is_cell g) yields_at
 
--- x is what stands at the index list, and an item that may be yielded there
+-- x is the value at the index list, and an item that may be yielded there
 abbrev pub is_beside : {A X : Type 0} → (List ℕ → Option A) → (List ℕ → X → Type 0) → List ℕ → A × X → Type 0
 is_beside at yields_at = both (λ i x. at i ≡ Some x) yields_at
 

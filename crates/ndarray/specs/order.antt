@@ -1,3 +1,3 @@
--- Where a walk stands in its box, and along which axis a box is cut.
+-- Where a walk is in its box, and along which axis a box is cut.
 pub mod Cuts
 pub mod Walks

@@ -1,6 +1,6 @@
 -- What `places` speaks of, and `iter`, which stands on it: cells one after another, and elements that are moved out.
 pub mod PartlyMoved
-pub mod Lent
+pub mod ElementPlaces
 pub mod Moving
 pub mod Sources
 pub mod CellPlaces

@@ -21,5 +21,5 @@ pub mod shape;
 pub mod slice;
 pub mod storage;
 pub mod strided;
+pub mod view_mut;
 pub mod views;
-pub mod writing;

@@ -8,15 +8,32 @@
 //! read or to write, computed with by operators, and added up or multiplied by `sum`, `product` and their like along an
 //! axis. Arrays are joined by `concatenate` and `stack`, and cut to triangles by `triu` and `tril`; vectors and matrices are
 //! multiplied by `dot`, `general_mat_mul` and `kron`. The names are those of Rust's crate `ndarray` 0.17.2.
+//!
+//! # Operators
+//!
+//! `+ - * / % & | ^ << >>` between two arrays, one of them an `Array`, and between an `Array` and a scalar, return a
+//! `Result<Array<..>, AllocError>`: at each index list what the elements' operation answers on the two cells there, the
+//! left one first, with the shapes broadcast together. `-` and `!` are on each cell of an `Array`.
+//!
+//! They require that the shapes broadcast together, which `broadcast_ok` tells, that the elements' operation is defined on
+//! each pair of cells that meet (`broadcast_dim` shows how to test that), and that a clone that is made equals its source.
+//! The result is written into the left operand where that is an owned `Array`, else into the right one where that is, if it
+//! has the result's lengths; otherwise it is allocated. The elements of the result are of the left array's type, but of the
+//! right one's where that one alone is owned. The error is allocation failure, for the array or for a clone: borrowed
+//! operands are then as before, owned ones are dropped.
+//!
+//! The assigning forms, as `+=`, broadcast the right side to the left array's shape, which
+//! `right.broadcast(left.raw_dim())` tells, and allocate nothing: their elements are `Copy`. For others there is
+//! `try_zip_assign`.
 #![tactic(auto)]
 
 pub mod base;
 pub mod elements;
+pub mod into_owned;
 pub mod iter;
 pub mod linalg;
 mod ops;
 pub mod order;
-pub mod owning;
 pub(crate) mod places;
 pub mod reduce;
 pub mod stacking;

@@ -3,7 +3,7 @@
 //! `+ - * / % & | ^ << >>` between arrays whose shapes are broadcast together, and between an array and a scalar: of each
 //! pair of cells, the operation of the elements. They allocate the array that they return from the allocator of an
 //! operand that is an `Array`, or write it into the cells of one that they own, and return `Err` where an allocation
-//! fails. The assigning forms, as `+=`, allocate nothing.
+//! fails. The assigning forms, as `+=`, allocate nothing. What they require, the head of the crate says.
 
 ghost use Rattle.std.specs.Prelude.{◌≡◌, ◌↔◌, IsTrue, MatchOption};
 ghost use Rattle.ndarray.specs.Broadcast.{BroadcastTogether, broadcast_lengths};

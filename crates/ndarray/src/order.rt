@@ -8,7 +8,7 @@ ghost use Rattle.ndarray.specs.Limits.{IsWithinLimit};
 ghost use Rattle.ndarray.specs.Orders.{box_in, IsBoxIn};
 ghost use Rattle.ndarray.specs.order.Cuts.{IsCut};
 ghost use Rattle.ndarray.specs.base.Ranks.{rank_in};
-ghost use Rattle.ndarray.specs.order.Walks.{walk_rest, TakesRow, WalkStands};
+ghost use Rattle.ndarray.specs.order.Walks.{walk_rest, TakesRow, WalksFrom};
 
 use crate::base::axis::Axis;
 use crate::base::dimension::{Dim, Ix1, Lengths};
@@ -35,11 +35,11 @@ impl<D: Lengths> Model for Walk<D> {
 
     ghost Value = { List (List ℕ) };
 
-    ghost use Rattle.ndarray.specs.order.Walks.{walk_rest, WalkStands};
+    ghost use Rattle.ndarray.specs.order.Walks.{walk_rest, WalksFrom};
 
     ghost view = { λ w. walk_rest w.order (D.numbers w.dim) (D.numbers w.index) w.left };
 
-    ghost invariant = { λ w. WalkStands w.order (D.numbers w.dim) (D.numbers w.index) w.left };
+    ghost invariant = { λ w. WalksFrom w.order (D.numbers w.dim) (D.numbers w.index) w.left };
 }
 
 /// The axis along which a box is cut into parts that come one after another in an order, and its length.
@@ -177,7 +177,7 @@ pub(crate) struct Row<D> {
 impl<D: Lengths> Walk<D> {
     /// `count` index lists of the box in the order, from `index` on.
     pub(crate) fn starting_at(dim: D, order: Order, index: D, count: usize) -> Self
-        requires { WalkStands order (D.numbers dim) (D.numbers index) count }
+        requires { WalksFrom order (D.numbers dim) (D.numbers index) count }
         ensures { result ≡ walk_rest order (D.numbers dim) (D.numbers index) count }
     {
         Walk {

@@ -2,7 +2,7 @@
 pub mod block;
 pub mod cell_places;
 pub mod indexed;
-pub mod lent;
 pub mod move_out;
 pub mod partly_moved;
+pub mod region_places;
 pub mod strided;

@@ -2,10 +2,10 @@
 
 ghost use Rattle.std.specs.Prelude.{◌≡◌, ◌↔◌, length, Err, IfOk, IsOk, None, Some};
 ghost use Rattle.ndarray.specs.Elementwise.{ClonesAreEqual};
-ghost use Rattle.ndarray.specs.Errors.{refusal};
+ghost use Rattle.ndarray.specs.Errors.{shape_error};
 ghost use Rattle.ndarray.specs.Grid.{IsGrid};
 ghost use Rattle.ndarray.specs.Index.{size};
-ghost use Rattle.ndarray.specs.Joining.{concatenate_error, concatenated, concatenated_lengths, shapes_of, stack_error, stacked, stacked_lengths};
+ghost use Rattle.ndarray.specs.Joining.{concatenate_error, concatenation, concatenation_lengths, shapes_of, stack_error, stack_of, stack_lengths};
 ghost use Rattle.ndarray.specs.declared.base.error.ErrorKind.{ErrorKind};
 ghost use Rattle.ndarray.specs.declared.stacking.error.StackError.TheVariants.{Shape, Memory};
 
@@ -22,7 +22,8 @@ pub use crate::stacking::error::StackError;
 use crate::stacking::shapes::{concatenated_shape, stacked_shape};
 use std::alloc::{AllocError, Global};
 
-/// The array of clones of the cells of several arrays, one after another along an axis.
+/// The array of clones of the cells of several arrays, one after another along an axis. It has the lengths of the first, but
+/// along that axis the sum of all.
 ///
 /// The error is, as the first that holds: `Unsupported` without arrays; `OutOfBounds` for an axis that the first array
 /// does not have; `IncompatibleShape` where an array has another number of axes than the first one, or another length
@@ -41,19 +42,20 @@ pub fn concatenate<A: Clone, D: RemoveAxis>(
     arrays: &[ArrayView<'_, A, D>],
 ) -> Result<Array<A, D>, StackError>
     requires clones { ClonesAreEqual A.is_clone }
-    ensures refused { (k : ErrorKind) → (result ≡ Err (Shape (refusal k))) ↔ (concatenate_error axis.0 (shapes_of arrays.now) ≡ Some k) }
+    ensures refused { (k : ErrorKind) → (result ≡ Err (Shape (shape_error k))) ↔ (concatenate_error axis.0 (shapes_of arrays.now) ≡ Some k) }
     ensures memory { (e : AllocError) → result ≡ Err (Memory e) → concatenate_error axis.0 (shapes_of arrays.now) ≡ None }
-    ensures cells { IfOk result (λ r. r ≡ concatenated axis.0 arrays.now) }
+    ensures cells { IfOk result (λ r. r ≡ concatenation axis.0 arrays.now) }
     ensures whole { IfOk result IsGrid }
     ensures axes { IfOk result (λ r. D.has_axes (length r.lengths)) }
-    ensures empty { concatenate_error axis.0 (shapes_of arrays.now) ≡ None → size (concatenated_lengths axis.0 (shapes_of arrays.now)) ≡ 0 → IsOk result }
+    ensures empty { concatenate_error axis.0 (shapes_of arrays.now) ≡ None → size (concatenation_lengths axis.0 (shapes_of arrays.now)) ≡ 0 → IsOk result }
 {
     let shape = concatenated_shape(axis, arrays)?;
     let joined = joined_blocks(alloc, axis.0, arrays, shape)?;
     Ok(joined)
 }
 
-/// The array of clones of the cells of several arrays along a new axis, whose index names the array.
+/// The array of clones of the cells of several arrays along a new axis, whose index names the array. It has the lengths of
+/// one, with the number of arrays put in at that axis.
 ///
 /// The error is, as the first that holds: `Unsupported` without arrays; `OutOfBounds` for an axis above the number of
 /// axes of the first array; `IncompatibleShape` where shapes are unequal; `RangeLimited` where the result would have more
@@ -73,12 +75,12 @@ pub fn stack<A: Clone, D: Dimension>(
 where
     D::Larger: RemoveAxis,
     requires clones { ClonesAreEqual A.is_clone }
-    ensures refused { (k : ErrorKind) → (result ≡ Err (Shape (refusal k))) ↔ (stack_error axis.0 (shapes_of arrays.now) ≡ Some k) }
+    ensures refused { (k : ErrorKind) → (result ≡ Err (Shape (shape_error k))) ↔ (stack_error axis.0 (shapes_of arrays.now) ≡ Some k) }
     ensures memory { (e : AllocError) → result ≡ Err (Memory e) → stack_error axis.0 (shapes_of arrays.now) ≡ None }
-    ensures cells { IfOk result (λ r. r ≡ stacked axis.0 arrays.now) }
+    ensures cells { IfOk result (λ r. r ≡ stack_of axis.0 arrays.now) }
     ensures whole { IfOk result IsGrid }
     ensures axes { IfOk result (λ r. D.Larger.has_axes (length r.lengths)) }
-    ensures empty { stack_error axis.0 (shapes_of arrays.now) ≡ None → size (stacked_lengths axis.0 (shapes_of arrays.now)) ≡ 0 → IsOk result }
+    ensures empty { stack_error axis.0 (shapes_of arrays.now) ≡ None → size (stack_lengths axis.0 (shapes_of arrays.now)) ≡ 0 → IsOk result }
 {
     let shape = stacked_shape(axis, arrays)?;
     let joined = joined_blocks(alloc, axis.0, arrays, shape)?;

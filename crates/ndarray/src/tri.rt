@@ -17,7 +17,7 @@ use std::alloc::{AllocError, Global};
 
 impl<A: Clone + Zero, S: Data<Elem = A>, D: Lengths> ArrayBase<S, D> {
     /// The cells on and above a diagonal of the last two axes: clones of those whose column less their row is at least
-    /// `k`, and zero elsewhere. With fewer than two axes all cells are kept.
+    /// `k`, and zero elsewhere. It has the lengths of this array. With fewer than two axes all cells are kept.
     ///
     /// The error is allocation failure, for the array or for a clone. Requires that a clone that is made equals its
     /// source.
@@ -38,7 +38,7 @@ impl<A: Clone + Zero, S: Data<Elem = A>, D: Lengths> ArrayBase<S, D> {
     }
 
     /// The cells on and below a diagonal of the last two axes: clones of those whose column less their row is at most
-    /// `k`, and zero elsewhere. With fewer than two axes all cells are kept.
+    /// `k`, and zero elsewhere. It has the lengths of this array. With fewer than two axes all cells are kept.
     ///
     /// The error is allocation failure, for the array or for a clone. Requires that a clone that is made equals its
     /// source.

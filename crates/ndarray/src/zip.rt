@@ -2,7 +2,7 @@
 
 ghost use Rattle.std.specs.Prelude.{◌≡◌, ◌↔◌, ℕ, List, Some, IsTrue};
 ghost use Rattle.ndarray.specs.Broadcast.{BroadcastsTo};
-ghost use Rattle.ndarray.specs.Grid.{arranged, cell};
+ghost use Rattle.ndarray.specs.Grid.{array_by, cell};
 ghost use Rattle.ndarray.specs.Index.{InBox, size};
 
 mod all_items;
@@ -21,8 +21,8 @@ mod turns;
 pub(crate) mod units;
 pub(crate) mod updating;
 mod views;
+mod views_mut;
 mod walks;
-mod writing;
 
 use crate::base::array::ArrayView;
 use crate::base::dimension::{Dimension, Lengths};
@@ -101,7 +101,7 @@ impl Zip<(), ()> {
     where
         I::Dim: Dimension,
         ensures part { I.converts_to part result.nested.second }
-        ensures lists { result.nested.first ≡ arranged (I.Output.lengths result.nested.second) (λ is. is) }
+        ensures lists { result.nested.first ≡ array_by (I.Output.lengths result.nested.second) (λ is. is) }
         ensures items { (is : List ℕ) → InBox (I.Output.lengths result.nested.second) is → (x : I.Dim.Pattern) → (cell result.nested.first is ≡ Some (I.Dim.pattern_numbers x)) ↔ (I.Dim.pattern_numbers x ≡ is) }
     {
         let second = part.into_producer();

@@ -10,10 +10,10 @@ ghost use Rattle.std.specs.List.{fold, list_all, list_any};
 ghost use Rattle.ndarray.specs.AlongAxis.{Cumulates, IsDifference, one_further};
 ghost use Rattle.ndarray.specs.Broadcast.{BroadcastsTo};
 ghost use Rattle.ndarray.specs.Elementwise.{CanCombine, Combines};
-ghost use Rattle.ndarray.specs.Grid.{Grid, IsGrid, arranged, cell, one_axis};
+ghost use Rattle.ndarray.specs.Grid.{Grid, IsGrid, array_by, cell, one_axis};
 ghost use Rattle.ndarray.specs.Index.{InBox};
 ghost use Rattle.ndarray.specs.Integers.{int_products, int_sums};
-ghost use Rattle.ndarray.specs.Joining.{stacked};
+ghost use Rattle.ndarray.specs.Joining.{stack_of};
 ghost use Rattle.ndarray.specs.Products.{column_of, matrix_of, product_of, products_of, ShapesMultiplyInto};
 ghost use Rattle.ndarray.specs.Subviews.{lane, window_counts};
 ghost use Rattle.ndarray.specs.Sums.{IsSummable, total, total_by};
@@ -37,7 +37,7 @@ pub fn halve<S: Data<Elem = u64>, D: Lengths>(
     alloc: Global,
     a: &ArrayBase<S, D>,
 ) -> Result<Array<u64, D>, AllocError>
-    ensures { IfOk result (λ b. b ≡ arranged a.now.lengths (half_at a.now)) }
+    ensures { IfOk result (λ b. b ≡ array_by a.now.lengths (half_at a.now)) }
 {
     Zip::from(a).map_collect(alloc, |x| *x / 2)
 }
@@ -57,7 +57,7 @@ pub fn clear_diagonal<S: Data<Elem = u64>>(
     alloc: Global,
     a: &ArrayBase<S, Ix2>,
 ) -> Result<Array<u64, Ix2>, AllocError>
-    ensures { IfOk result (λ b. b ≡ arranged a.now.lengths (off_diagonal a.now)) }
+    ensures { IfOk result (λ b. b ≡ array_by a.now.lengths (off_diagonal a.now)) }
 {
     Zip::indexed(a).map_collect(alloc, |(i, j), x| if i == j { 0 } else { *x })
 }
@@ -69,7 +69,7 @@ pub fn raise_to<S: Data<Elem = u64>, T: Data<Elem = u64>, D: Lengths, E: Lengths
     limits: &ArrayBase<T, E>,
 ) -> Result<Array<u64, D>, AllocError>
     requires { BroadcastsTo limits.now.lengths a.now.lengths }
-    ensures { IfOk result (λ b. b ≡ arranged a.now.lengths (greater_at a.now limits.now)) }
+    ensures { IfOk result (λ b. b ≡ array_by a.now.lengths (greater_at a.now limits.now)) }
 {
     Zip::from(a)
         .and_broadcast(limits)
@@ -122,7 +122,7 @@ pub fn greatest_of_each<'a, N: NdProducer<Item = ArrayView<'a, u64, Ix2>>>(
     alloc: Global,
     views: N,
 ) -> Result<Array<u64, N::Dim>, AllocError>
-    ensures { IfOk result (λ d. (view_at : List ℕ → Grid ℕ) → ((is : List ℕ) (v : Grid ℕ) → InBox (N.lengths views) is → N.yields_at views is v → v ≡ view_at is) → d ≡ arranged (N.lengths views) (λ is. fold max 0 (view_at is).cells)) }
+    ensures { IfOk result (λ d. (view_at : List ℕ → Grid ℕ) → ((is : List ℕ) (v : Grid ℕ) → InBox (N.lengths views) is → N.yields_at views is v → v ≡ view_at is) → d ≡ array_by (N.lengths views) (λ is. fold max 0 (view_at is).cells)) }
 {
     Zip::from(views).map_collect(alloc, |view| greatest(&view))
 }
@@ -133,7 +133,7 @@ pub fn maximum_filter<S: Data<Elem = u64>>(
     alloc: Global,
     image: &ArrayBase<S, Ix2>,
 ) -> Result<Array<u64, Ix2>, AllocError>
-    ensures { IfOk result (λ d. d ≡ arranged (window_counts image.now.lengths (3 ∷ 3 ∷ []) (1 ∷ 1 ∷ [])) (greatest_in_square image.now)) }
+    ensures { IfOk result (λ d. d ≡ array_by (window_counts image.now.lengths (3 ∷ 3 ∷ []) (1 ∷ 1 ∷ [])) (greatest_in_square image.now)) }
 {
     let _axes = image.ndim();
     greatest_of_each(alloc, image.windows((3, 3)))
@@ -152,7 +152,7 @@ pub fn residue_sum<const M: u32, S: Data<Elem = Residue<M>>, D: Lengths>(
 pub fn table_sums(a: &Array<i64, Ix2>, b: &Array<i64, Ix2>) -> Result<Array<i64, Ix2>, AllocError>
     requires same { a.now.lengths ≡ b.now.lengths }
     requires fits { (is : List ℕ) (x y : ℤ) → cell a.now is ≡ Some x → cell b.now is ≡ Some y → FitsSigned w64 (x +ℤ y) }
-    ensures { IfOk result (λ c. c ≡ arranged a.now.lengths (sum_at a.now b.now)) }
+    ensures { IfOk result (λ c. c ≡ array_by a.now.lengths (sum_at a.now b.now)) }
 {
     let _lengths = (a.raw_dim(), b.raw_dim());
     a + b
@@ -178,7 +178,7 @@ pub fn rests<S: Data<Elem = u16>, D: Lengths>(
     whole: u16,
     parts: &ArrayBase<S, D>,
 ) -> Result<Array<u16, D>, AllocError>
-    ensures { IfOk result (λ rests. rests ≡ arranged parts.now.lengths (rest_at whole parts.now)) }
+    ensures { IfOk result (λ rests. rests ≡ array_by parts.now.lengths (rest_at whole parts.now)) }
 {
     scalar_left(
         alloc,
@@ -192,7 +192,7 @@ pub fn rests<S: Data<Elem = u16>, D: Lengths>(
 pub fn add_row(table: &mut Array<i64, Ix2>, row: &Array<i64, Ix1>)
     requires as_long { (n : ℕ) × (table.old.lengths ≡ n ∷ row.now.lengths) }
     requires fits { (i : ℕ) (js : List ℕ) (x y : ℤ) → cell table.old (i ∷ js) ≡ Some x → cell row.now js ≡ Some y → FitsSigned w64 (x +ℤ y) }
-    ensures { table.new ≡ arranged table.old.lengths (sum_below table.old row.now) }
+    ensures { table.new ≡ array_by table.old.lengths (sum_below table.old row.now) }
 {
     let _length = row.raw_dim();
     *table += row;
@@ -257,7 +257,7 @@ pub fn two_rows(
     first: &Array<i64, Ix1>,
     second: &Array<i64, Ix1>,
 ) -> Result<Array<i64, Ix2>, StackError>
-    ensures table { IfOk result (λ t. t ≡ stacked 0 (first.now ∷ second.now ∷ [])) }
+    ensures table { IfOk result (λ t. t ≡ stack_of 0 (first.now ∷ second.now ∷ [])) }
     ensures second_row { IfOk result (λ t. (j : ℕ) → InBox t.lengths (1 ∷ j ∷ []) → cell t (1 ∷ j ∷ []) ≡ cell second.now (j ∷ [])) }
 {
     stack(alloc, Axis(0), &[first.view(), second.view()])
@@ -391,7 +391,7 @@ pub fn add_multiple_of_row(
     row: &Array<Residue<5>, Ix1>,
 )
     requires as_long { (n : ℕ) × (table.old.lengths ≡ n ∷ row.now.lengths) }
-    ensures { table.new ≡ arranged table.old.lengths (multiple_added factor table.old row.now) }
+    ensures { table.new ≡ array_by table.old.lengths (multiple_added factor table.old row.now) }
 {
     let _length = row.raw_dim();
     table.scaled_add(factor, row);

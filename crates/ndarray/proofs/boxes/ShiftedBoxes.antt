@@ -5,11 +5,11 @@ use Rattle.std.proofs.lemmas.Bool.{cases_eq}
 use Rattle.std.proofs.lemmas.Grind.{get_or-set_at}
 use Rattle.std.proofs.lemmas.List.{set-get_or, set-set, get_or-set_same, get_or-set_other, length-set}
 use Rattle.ndarray.specs.Index.{InBox}
-use Rattle.ndarray.specs.Grid.{Grid, arranged, cell}
+use Rattle.ndarray.specs.Grid.{Grid, array_by, cell}
 use Rattle.ndarray.specs.Views.{axis_part}
 use Rattle.ndarray.specs.base.IndexLists.{shifted_index, StartsAt}
 use Rattle.ndarray.proofs.boxes.Boxes.{InBox-get, InBox-set_both}
-use Rattle.ndarray.proofs.cells.Cells.{arranged-cell, arranged-whole, tabulate-is}
+use Rattle.ndarray.proofs.cells.Cells.{array_by-cell, array_by-whole, tabulate-is}
 use Rattle.ndarray.proofs.boxes.Sizes.{nonzero-set_le}
 
 pub shifted_index-zeros : (n : ℕ) (is : List ℕ) → shifted_index (replicate n 0) is ≡ is
@@ -56,15 +56,15 @@ module _ (ss ns : List ℕ) (h : StartsAt ss ns) (k : ℕ) (lt : k < length ns) 
       let c = InBox-set_both (set ns k len) is k (get_or ns k 0) (from + get_or is k 0) b (omega arith) in
       subst (λ ms. InBox ms (set is k (from + get_or is k 0))) (set-set ns k len (get_or ns k 0) ∙ set-get_or ns k 0) c
 
-  pub lists-part : arranged (set ns k len) (shifted_index (set ss k (get_or ss k 0 + from))) ≡ axis_part (arranged ns (shifted_index ss)) k from (from + len)
+  pub lists-part : array_by (set ns k len) (shifted_index (set ss k (get_or ss k 0 + from))) ≡ axis_part (array_by ns (shifted_index ss)) k from (from + len)
   lists-part =
       let ms = set ns k len in
-      let part : Grid (List ℕ) = arranged ms (shifted_index (set ss k (get_or ss k 0 + from))) in
+      let part : Grid (List ℕ) = array_by ms (shifted_index (set ss k (get_or ss k 0 + from))) in
       let n = h.as_many in
-      tabulate-is part (set ns k (from + len - from)) _ (arranged-whole ms _) (ap (set ns k) (omega arith))
+      tabulate-is part (set ns k (from + len - from)) _ (array_by-whole ms _) (ap (set ns k) (omega arith))
       (λ is b.
-      arranged-cell ms _ is b
-      ∙ (ap (λ js. Some js) (sym (shifted_index-set ss is k from (omega arith))) ∙ sym (arranged-cell ns (shifted_index ss) _ (image is b))))
+      array_by-cell ms _ is b
+      ∙ (ap (λ js. Some js) (sym (shifted_index-set ss is k from (omega arith))) ∙ sym (array_by-cell ns (shifted_index ss) _ (image is b))))
 
   pub StartsAt-part : StartsAt (set ss k (get_or ss k 0 + from)) (set ns k len)
   StartsAt-part = record {
@@ -89,7 +89,7 @@ module _ (ss ns : List ℕ) (h : StartsAt ss ns) (k : ℕ) (lt : k < length ns) 
   }
 
 -- in the array of the index lists of a box, each stands at itself
-pub lists-own : (g : Grid (List ℕ)) (ns : List ℕ) → g ≡ arranged ns (λ is. is) → (is : List ℕ) → InBox ns is → (xs : List ℕ) → (cell g is ≡ Some xs) ↔ (xs ≡ is)
+pub lists-own : (g : Grid (List ℕ)) (ns : List ℕ) → g ≡ array_by ns (λ is. is) → (is : List ℕ) → InBox ns is → (xs : List ℕ) → (cell g is ≡ Some xs) ↔ (xs ≡ is)
 lists-own g ns e is b xs =
-    let own : cell g is ≡ Some is = ap (λ v. cell v is) e ∙ arranged-cell ns (λ js. js) is b in
+    let own : cell g is ≡ Some is = ap (λ v. cell v is) e ∙ array_by-cell ns (λ js. js) is b in
     ((λ h. cc), (λ h. own ∙ ap (λ js. Some js) (sym h)))

@@ -7,7 +7,7 @@ use Rattle.ndarray.specs.Index.{InBox, size}
 use Rattle.ndarray.specs.Limits.{IsWithinLimit}
 use Rattle.ndarray.specs.Orders.{box_in}
 use Rattle.ndarray.specs.base.Ranks.{rank, column_rank, rank_in, axis_in, block_in, row_from}
-use Rattle.ndarray.specs.order.Walks.{walk_rest, WalkStands}
+use Rattle.ndarray.specs.order.Walks.{walk_rest, WalksFrom}
 use Rattle.ndarray.specs.declared.base.shape.Order.{Order}
 use Rattle.ndarray.specs.declared.base.shape.Order.TheVariants.{RowMajor, ColumnMajor}
 use Rattle.ndarray.proofs.boxes.Boxes.{InBox-length, InBox-get, InBox-set, InBox-zeros}
@@ -130,14 +130,14 @@ walk-new o ns =
     let l = length-box_in o ns in
     ap (λ x. take (size ns) (drop x (box_in o ns))) z ∙ take_all (size ns) (box_in o ns) (omega arith)
 
-pub walk-stands_new : (o : Order) (ns : List ℕ) → IsWithinLimit ns → WalkStands o ns (replicate (length ns) 0) (size ns)
-walk-stands_new o ns limit = record {
+pub walks-from_new : (o : Order) (ns : List ℕ) → IsWithinLimit ns → WalksFrom o ns (replicate (length ns) 0) (size ns)
+walks-from_new o ns limit = record {
   limit = limit;
   within = λ h. InBox-zeros ns h;
   fits = λ h. let z = rank_in-zeros o ns in omega arith;
 }
 
-pub length-walk_rest : (o : Order) (ns is : List ℕ) (left : ℕ) → WalkStands o ns is left → length (walk_rest o ns is left) ≡ left
+pub length-walk_rest : (o : Order) (ns is : List ℕ) (left : ℕ) → WalksFrom o ns is left → length (walk_rest o ns is left) ≡ left
 length-walk_rest o ns is zero h = refl
 length-walk_rest o ns is (suc left) h =
     let f = h.fits (omega arith) in
@@ -145,7 +145,7 @@ length-walk_rest o ns is (suc left) h =
     length-take-le (suc left) (drop (rank_in o ns is) (box_in o ns)) (let e = length-drop (rank_in o ns is) (box_in o ns) in omega arith)
 
 -- the first of what is left is the walk's index list, and one place on are the others
-pub walk_rest-more : (o : Order) (ns is js : List ℕ) (left : ℕ) → WalkStands o ns is (left + 1) → (0 < left → rank_in o ns js ≡ rank_in o ns is + 1) → walk_rest o ns is (left + 1) ≡ is ∷ walk_rest o ns js left
+pub walk_rest-more : (o : Order) (ns is js : List ℕ) (left : ℕ) → WalksFrom o ns is (left + 1) → (0 < left → rank_in o ns js ≡ rank_in o ns is + 1) → walk_rest o ns is (left + 1) ≡ is ∷ walk_rest o ns js left
 walk_rest-more o ns is js left h next =
     let inb = h.within (omega arith) in
     let f = h.fits (omega arith) in
@@ -158,9 +158,9 @@ walk_rest-more o ns is js left h next =
     let t : take left (drop (suc (rank_in o ns is)) (box_in o ns)) ≡ walk_rest o ns js left = tails left (box_in o ns) (suc (rank_in o ns is)) (rank_in o ns js) (λ p. omega (arith, next p)) in
     a ∙ (ap (λ x. x ∷ take left (drop (suc (rank_in o ns is)) (box_in o ns))) b ∙ ap (λ x. is ∷ x) t)
 
-pub walk_rest-next : (o : Order) (ns is js : List ℕ) (left rest : ℕ) → WalkStands o ns is left → rest + 1 ≡ left → (0 < rest → rank_in o ns js ≡ rank_in o ns is + 1) → walk_rest o ns is left ≡ is ∷ walk_rest o ns js rest
+pub walk_rest-next : (o : Order) (ns is js : List ℕ) (left rest : ℕ) → WalksFrom o ns is left → rest + 1 ≡ left → (0 < rest → rank_in o ns js ≡ rank_in o ns is + 1) → walk_rest o ns is left ≡ is ∷ walk_rest o ns js rest
 walk_rest-next o ns is js left rest h e next =
-    let P : ℕ → Type 0 = λ x. WalkStands o ns is x in
+    let P : ℕ → Type 0 = λ x. WalksFrom o ns is x in
     ap (λ x. walk_rest o ns is x) (sym e) ∙ walk_rest-more o ns is js rest (subst P (sym e) h) next
 
 pub rank_in-one : (o : Order) (n i : ℕ) → rank_in o (n ∷ []) (i ∷ []) ≡ i
@@ -169,7 +169,7 @@ rank_in-one RowMajor n i = omega arith
 rank_in-one ColumnMajor n i = omega arith
 
 -- with one axis, the last of what is left
-pub walk_rest-back : (o : Order) (n i left rest : ℕ) → WalkStands o (n ∷ []) (i ∷ []) left → rest + 1 ≡ left → walk_rest o (n ∷ []) (i ∷ []) left ≡ walk_rest o (n ∷ []) (i ∷ []) rest ++ ((i + rest) ∷ []) ∷ []
+pub walk_rest-back : (o : Order) (n i left rest : ℕ) → WalksFrom o (n ∷ []) (i ∷ []) left → rest + 1 ≡ left → walk_rest o (n ∷ []) (i ∷ []) left ≡ walk_rest o (n ∷ []) (i ∷ []) rest ++ ((i + rest) ∷ []) ∷ []
 walk_rest-back o n i left rest h e =
     let ns : List ℕ = n ∷ [] in
     let r = rank_in-one o n i in
@@ -186,7 +186,7 @@ walk_rest-back o n i left rest h e =
     ap (λ x. take x d) es ∙ (take-suc d rest [] (omega arith) ∙ ap (λ x. take rest d ++ x ∷ []) at)
 
 -- the same of lists of one number
-pub one-below : (o : Order) (ns is : List ℕ) (left : ℕ) → length is ≡ 1 → 0 < left → WalkStands o ns is left → get_or is 0 0 + left ≤ get_or ns 0 0
+pub one-below : (o : Order) (ns is : List ℕ) (left : ℕ) → length is ≡ 1 → 0 < left → WalksFrom o ns is left → get_or is 0 0 + left ≤ get_or ns 0 0
 one-below o ns [] left l p h = absurd (omega arith)
 one-below o [] (i ∷ is) left l p h = absurd (h.within p)
 one-below o (n ∷ m ∷ ns) (i ∷ []) left l p h = absurd ((h.within p).1)
@@ -194,29 +194,29 @@ one-below o (n ∷ []) (i ∷ []) left l p h = let f = h.fits p in let r = rank_
 one-below o (n ∷ ns) (i ∷ j ∷ is) left l p h = absurd (omega arith)
 
 -- so its end fits a word
-pub one-fits : (o : Order) (ns is : List ℕ) (left : ℕ) → length is ≡ 1 → 0 < left → WalkStands o ns is left → get_or is 0 0 + left < 2 ^ 63
+pub one-fits : (o : Order) (ns is : List ℕ) (left : ℕ) → length is ≡ 1 → 0 < left → WalksFrom o ns is left → get_or is 0 0 + left < 2 ^ 63
 one-fits o [] is left l p h = let b = one-below o [] is left l p h in omega arith
 one-fits o (n ∷ m ∷ ns) [] left l p h = absurd (omega arith)
 one-fits o (n ∷ m ∷ ns) (i ∷ []) left l p h = absurd ((h.within p).1)
 one-fits o (n ∷ m ∷ ns) (i ∷ j ∷ is) left l p h = absurd (omega arith)
 one-fits o (n ∷ []) is left l p h = let b = one-below o (n ∷ []) is left l p h in let s = size-le (n ∷ []) in let m = h.limit in omega arith
 
-pub walk_rest-back_one : (o : Order) (ns is : List ℕ) (i left rest : ℕ) → length is ≡ 1 → i ≡ get_or is 0 0 → WalkStands o ns is left → rest + 1 ≡ left → walk_rest o ns is left ≡ walk_rest o ns is rest ++ ((i + rest) ∷ []) ∷ []
+pub walk_rest-back_one : (o : Order) (ns is : List ℕ) (i left rest : ℕ) → length is ≡ 1 → i ≡ get_or is 0 0 → WalksFrom o ns is left → rest + 1 ≡ left → walk_rest o ns is left ≡ walk_rest o ns is rest ++ ((i + rest) ∷ []) ∷ []
 walk_rest-back_one o ns [] i left rest l e h q = absurd (omega arith)
 walk_rest-back_one o [] (j ∷ is) i left rest l e h q = absurd (h.within (omega arith))
 walk_rest-back_one o (n ∷ m ∷ ns) (j ∷ []) i left rest l e h q = absurd ((h.within (omega arith)).1)
 walk_rest-back_one o (n ∷ []) (j ∷ []) i left rest l e h q = walk_rest-back o n j left rest h q ∙ ap (λ x. walk_rest o (n ∷ []) (j ∷ []) rest ++ ((x + rest) ∷ []) ∷ []) (sym e)
 walk_rest-back_one o (n ∷ ns) (j ∷ k ∷ is) i left rest l e h q = absurd (omega arith)
 
-pub WalkStands-fewer : (o : Order) (ns is : List ℕ) (left rest : ℕ) → WalkStands o ns is left → rest ≤ left → WalkStands o ns is rest
-WalkStands-fewer o ns is left rest h le = record {
+pub WalksFrom-fewer : (o : Order) (ns is : List ℕ) (left rest : ℕ) → WalksFrom o ns is left → rest ≤ left → WalksFrom o ns is rest
+WalksFrom-fewer o ns is left rest h le = record {
   limit = h.limit;
   within = λ p. h.within (omega arith);
   fits = λ p. let f = h.fits (omega arith) in omega arith;
 }
 
 -- with one axis, what is left after the first k
-later : (o : Order) (n i k left rest j : ℕ) → WalkStands o (n ∷ []) (i ∷ []) left → k + rest ≡ left → (0 < rest → j ≡ i + k) → WalkStands o (n ∷ []) (j ∷ []) rest × (walk_rest o (n ∷ []) (j ∷ []) rest ≡ drop k (walk_rest o (n ∷ []) (i ∷ []) left))
+later : (o : Order) (n i k left rest j : ℕ) → WalksFrom o (n ∷ []) (i ∷ []) left → k + rest ≡ left → (0 < rest → j ≡ i + k) → WalksFrom o (n ∷ []) (j ∷ []) rest × (walk_rest o (n ∷ []) (j ∷ []) rest ≡ drop k (walk_rest o (n ∷ []) (i ∷ []) left))
 later o n i k left zero j h e at =
     let l = length-walk_rest o (n ∷ []) (i ∷ []) left h in
     (record { limit = h.limit; within = λ p. absurd (omega arith); fits = λ p. absurd (omega arith) }, sym (drop_all k (walk_rest o (n ∷ []) (i ∷ []) left) (omega arith)))
@@ -234,7 +234,7 @@ later o n i k left (suc rest) j h e at =
           ∙ ap (λ m. drop k (take m (drop (rank_in o (n ∷ []) (i ∷ [])) box))) e)),
     )
 
-pub walk-later : (o : Order) (ns is : List ℕ) (k left rest j : ℕ) → length is ≡ 1 → length ns ≡ 1 → WalkStands o ns is left → k + rest ≡ left → (0 < rest → j ≡ get_or is 0 0 + k) → WalkStands o ns (j ∷ []) rest × (walk_rest o ns (j ∷ []) rest ≡ drop k (walk_rest o ns is left))
+pub walk-later : (o : Order) (ns is : List ℕ) (k left rest j : ℕ) → length is ≡ 1 → length ns ≡ 1 → WalksFrom o ns is left → k + rest ≡ left → (0 < rest → j ≡ get_or is 0 0 + k) → WalksFrom o ns (j ∷ []) rest × (walk_rest o ns (j ∷ []) rest ≡ drop k (walk_rest o ns is left))
 walk-later o ns [] k left rest j li ln h e at = absurd (omega arith)
 walk-later o [] (i ∷ is) k left rest j li ln h e at = absurd (omega arith)
 walk-later o (n ∷ []) (i ∷ []) k left rest j li ln h e at = later o n i k left rest j h e at
@@ -245,7 +245,7 @@ pub walk-first : (o : Order) (ns is : List ℕ) (k left : ℕ) → k ≤ left �
 walk-first o ns is k left le = sym (take-take k left (drop (rank_in o ns is) (box_in o ns)) le)
 
 -- what is still to come, of a walk that has not ended: the index lists of the box with the ranks from the next one on
-module _ (o : Order) (ns is js : List ℕ) (left : ℕ) (h : WalkStands o ns is left) (some : 0 < left) where
+module _ (o : Order) (ns is js : List ℕ) (left : ℕ) (h : WalksFrom o ns is left) (some : 0 < left) where
   -- each stands as far behind the next one as its rank says
   rest-get : (k : ℕ) (d : List ℕ) → k < left → get_or (walk_rest o ns is left) k d ≡ get_or (box_in o ns) (rank_in o ns is + k) d
   rest-get k d lt = get_or-take left (drop (rank_in o ns is) (box_in o ns)) k d lt ∙ get_or-drop (rank_in o ns is) (box_in o ns) k d
@@ -274,7 +274,7 @@ module _ (o : Order) (ns is js : List ℕ) (left : ℕ) (h : WalkStands o ns is 
 -- ---- rows
 
 -- what is left behind the first `count`
-pub walk-skip : (o : Order) (ns is js : List ℕ) (count left rest : ℕ) → WalkStands o ns is left → count + rest ≡ left → (0 < rest → rank_in o ns js ≡ rank_in o ns is + count) → walk_rest o ns js rest ≡ drop count (walk_rest o ns is left)
+pub walk-skip : (o : Order) (ns is js : List ℕ) (count left rest : ℕ) → WalksFrom o ns is left → count + rest ≡ left → (0 < rest → rank_in o ns js ≡ rank_in o ns is + count) → walk_rest o ns js rest ≡ drop count (walk_rest o ns is left)
 walk-skip o ns is js count left zero h e at =
     let l = length-walk_rest o ns is left h in
     sym (drop_all count (walk_rest o ns is left) (omega arith))
@@ -299,7 +299,7 @@ module _ (o : Order) (ns : List ℕ) (k : ℕ) (some : 0 < length ns) (ek : k �
       subst P (sym ek) (omega arith)
 
   -- what is left on a row
-  pub row-walk : (count : ℕ) (is : List ℕ) → WalkStands o ns is count → get_or is k 0 + count ≤ get_or ns k 0 → walk_rest o ns is count ≡ row_from is k count
+  pub row-walk : (count : ℕ) (is : List ℕ) → WalksFrom o ns is count → get_or is k 0 + count ≤ get_or ns k 0 → walk_rest o ns is count ≡ row_from is k count
   row-walk zero is h room = refl
   row-walk (suc c) is h room =
       let inside = h.within (omega arith) in
@@ -311,17 +311,17 @@ module _ (o : Order) (ns : List ℕ) (k : ℕ) (some : 0 < length ns) (ek : k �
       let l = InBox-length ns is inside in
       let a = axis_in-lt o (length ns) 0 some in
       let ij : get_or js k 0 ≡ get_or is k 0 + 1 = get_or-set_same is k (get_or is k 0 + 1) 0 (omega arith) in
-      let stands : WalkStands o ns js c = record { limit = h.limit; within = λ p. InBox-set ns is k (get_or is k 0 + 1) inside (omega arith); fits = λ p. omega arith } in
+      let stands : WalksFrom o ns js c = record { limit = h.limit; within = λ p. InBox-set ns is k (get_or is k 0 + 1) inside (omega arith); fits = λ p. omega arith } in
       let ih = row-walk c js stands (omega arith) in
-      ap (λ x. walk_rest o ns is x) e ∙ (walk_rest-more o ns is js c (subst (WalkStands o ns is) e h) (λ p. next) ∙ ap (λ x. is ∷ x) ih)
+      ap (λ x. walk_rest o ns is x) e ∙ (walk_rest-more o ns is js c (subst (WalksFrom o ns is) e h) (λ p. next) ∙ ap (λ x. is ∷ x) ih)
 
 -- a box of no axes has one index list
-pub walk-no_axes : (o : Order) (ns is : List ℕ) (left : ℕ) → length ns ≡ 0 → 0 < left → WalkStands o ns is left → left ≡ 1
+pub walk-no_axes : (o : Order) (ns is : List ℕ) (left : ℕ) → length ns ≡ 0 → 0 < left → WalksFrom o ns is left → left ≡ 1
 walk-no_axes o [] is left e some h = let f = h.fits some in omega arith
 walk-no_axes o (n ∷ ns) is left e some h = absurd (omega arith)
 
 -- a step to the next row
-module _ (o : Order) (ns is : List ℕ) (left k end i count : ℕ) (h : WalkStands o ns is left) (go : 0 < left) (some : 0 < length ns) (ek : k ≡ axis_in o (length ns) 0)
+module _ (o : Order) (ns is : List ℕ) (left k end i count : ℕ) (h : WalksFrom o ns is left) (go : 0 < left) (some : 0 < length ns) (ek : k ≡ axis_in o (length ns) 0)
     (ee : end ≡ get_or ns k 0) (ei : i ≡ get_or is k 0) where
   axis-below : k < length ns
   axis-below = let a = axis_in-lt o (length ns) 0 some in omega arith
@@ -330,7 +330,7 @@ module _ (o : Order) (ns is : List ℕ) (left k end i count : ℕ) (h : WalkStan
   row-inside = let g = InBox-get ns is k (h.within go) axis-below in omega arith
 
   pub row-taken : 0 < count → count ≤ end - i → count ≤ left → take count (walk_rest o ns is left) ≡ row_from is k count
-  row-taken c room le = sym (walk-first o ns is count left le) ∙ row-walk o ns k some ek count is (WalkStands-fewer o ns is left count h le) (let lt = row-inside in omega arith)
+  row-taken c room le = sym (walk-first o ns is count left le) ∙ row-walk o ns k some ek count is (WalksFrom-fewer o ns is left count h le) (let lt = row-inside in omega arith)
 
   -- the last index list of the row
   pub row-last : 0 < count → count ≤ end - i → 0 < left - count → InBox ns (set is k (i + count - 1)) × (rank_in o ns (set is k (i + count - 1)) + 1 ≡ rank_in o ns is + count) × (rank_in o ns (set is k (i + count - 1)) + 1 < size ns)

@@ -4,13 +4,13 @@ use Rattle.std.specs.Prelude.{Result, IfOk}
 use Rattle.std.specs.List.{AllByRecursion, Contains, FoldsTo}
 use Rattle.std.proofs.lemmas.List.Elements.{All-contains}
 use Rattle.ndarray.specs.Index.{InBox}
-use Rattle.ndarray.specs.Grid.{Grid, cell, IsGrid, arranged}
+use Rattle.ndarray.specs.Grid.{Grid, cell, IsGrid, array_by}
 use Rattle.ndarray.specs.Orders.{box_in}
 use Rattle.ndarray.specs.Subviews.{lane, lanes_along}
 use Rattle.ndarray.specs.Runs.{Collects, MayGather, TurnAt, TakesAt, GatherTurn}
 use Rattle.ndarray.specs.declared.base.shape.Order.{Order}
 use Rattle.ndarray.specs.declared.base.shape.Order.TheVariants.{RowMajor, ColumnMajor}
-use Rattle.ndarray.proofs.cells.Cells.{same_grid, arranged-whole, arranged-cell}
+use Rattle.ndarray.proofs.cells.Cells.{same_grid, array_by-whole, array_by-cell}
 use Rattle.ndarray.proofs.callers.Folding.{may-by}
 use Rattle.ndarray.proofs.lists.Elements.{All-to_recursion, All-from_recursion}
 use Rattle.ndarray.proofs.boxes.Orders.{row_order-is, column_order-is, box_in-is, box_in-within}
@@ -51,17 +51,17 @@ module _ {F A R : Type 0} (yields_at : List ℕ → A → Type 0) (call_gives : 
       let u = each i x r m.0 b.0 s (subst (λ g. call_gives g x r m.0) e k) in
       chain is b.1 m q u.0 rest ∙ ap (λ l. l ++ map h is) (a ∙ ap (λ v. p.1 ++ (v ∷ [])) u.1) ∙ append_assoc p.1 (h i ∷ []) (map h is)
 
-  pub collected : (o : Order) (g : Grid R) → IsGrid g → Collects yields_at call_gives o ns f g → g ≡ arranged ns h
+  pub collected : (o : Order) (g : Grid R) → IsGrid g → Collects yields_at call_gives o ns f g → g ≡ array_by ns h
   collected o g whole c =
       let b = All-to_recursion (InBox ns) (box_in o ns) (box_in-within o ns) in
       let a : c.answers ≡ map h (box_in o ns) = chain (box_in o ns) b (f, []) (c.gathered.0, c.answers) refl c.gathered.1 in
       let e : map (cell g) (box_in o g.lengths) ≡ map Some c.answers = c.cells (box_in o g.lengths) (box_in-is o g.lengths) in
       let k : map (cell g) (box_in o ns) ≡ map (λ i. Some (h i)) (box_in o ns) =
       ap (λ ms. map (cell g) (box_in o ms)) (sym c.lengths) ∙ (e ∙ (ap (map Some) a ∙ map-map Some h (box_in o ns))) in
-      same_grid g (arranged ns h) whole (arranged-whole ns h) c.lengths
+      same_grid g (array_by ns h) whole (array_by-whole ns h) c.lengths
       (λ is b.
       let b' : InBox ns is = subst (λ ms. InBox ms is) c.lengths b in
-      agree-at (cell g) (λ i. Some (h i)) (box_in o ns) is k (box-contains o ns is b') ∙ sym (arranged-cell ns h is b'))
+      agree-at (cell g) (λ i. Some (h i)) (box_in o ns) is k (box-contains o ns is b') ∙ sym (array_by-cell ns h is b'))
 
 -- A closure that no call changes may be called along the box where it may be called at the items of each index list in it.
 module _ {F A R : Type 0} (yields_at : List ℕ → A → Type 0) (call_gives : F → A → R → F → Type 0) (f : F) (ns : List ℕ)
@@ -78,13 +78,13 @@ if_ok-both (Ok x) P Q W to p q = to x p q
 if_ok-both (Err e) P Q W to p q = p
 
 -- the lanes of an array with axes
-pub lanes_of-some : {A : Type 0} (ns : List ℕ) (g : Grid A) (k : ℕ) → 0 < length ns → lanes_along ns g k ≡ arranged (remove ns k) (lane g k)
+pub lanes_of-some : {A : Type 0} (ns : List ℕ) (g : Grid A) (k : ℕ) → 0 < length ns → lanes_along ns g k ≡ array_by (remove ns k) (lane g k)
 lanes_of-some [] g k h = absurd (omega arith)
 lanes_of-some (n ∷ ns) g k h = refl
 
 -- the cell of an array made by a function of the index list
-pub arranged-at : {B : Type 0} (ns : List ℕ) (f : List ℕ → B) (w : Grid B) (i : List ℕ) (x : B) → w ≡ arranged ns f → InBox w.lengths i → cell w i ≡ Some x → x ≡ f i
-arranged-at ns f w i x e b s =
-    let at = arranged-cell ns f i (subst (λ v. InBox v.lengths i) e b) in
-    let k : cell w i ≡ cell (arranged ns f) i = ap (λ v. cell v i) e in
+pub array_by-at : {B : Type 0} (ns : List ℕ) (f : List ℕ → B) (w : Grid B) (i : List ℕ) (x : B) → w ≡ array_by ns f → InBox w.lengths i → cell w i ≡ Some x → x ≡ f i
+array_by-at ns f w i x e b s =
+    let at = array_by-cell ns f i (subst (λ v. InBox v.lengths i) e b) in
+    let k : cell w i ≡ cell (array_by ns f) i = ap (λ v. cell v i) e in
     cc

@@ -2,22 +2,22 @@
 use Rattle.std.proofs.Common.{◌≡◌, ◌∙◌, ℕ, List, [], ◌∷◌, Some, ap, subst, sym}
 use Rattle.ndarray.specs.Broadcast.{BroadcastsTo, broadcast_lengths}
 use Rattle.ndarray.specs.Elementwise.{Assigns, CanAssign, CanCombine, Combines}
-use Rattle.ndarray.specs.Grid.{Grid, IsGrid, arranged, cell}
+use Rattle.ndarray.specs.Grid.{Grid, IsGrid, array_by, cell}
 use Rattle.ndarray.specs.Index.{InBox}
 use Rattle.ndarray.specs.Limits.{IsWithinLimit}
 use Rattle.ndarray.specs.Updates.{is_pair_of_cells}
 use Rattle.ndarray.specs.Views.{broadcast_to}
-use Rattle.ndarray.proofs.cells.Cells.{arranged-cell, arranged-whole, cell-inside, cell-Some, same_grid}
+use Rattle.ndarray.proofs.cells.Cells.{array_by-cell, array_by-whole, cell-inside, cell-Some, same_grid}
 use Rattle.ndarray.proofs.views.BroadcastLengths.{broadcasts-itself, lengths-stretched, together-stretched}
 use Rattle.ndarray.proofs.views.OwnLengths.{broadcast_to-own, broadcast_to-row, broadcasts-row}
 
 -- an array that has at each index list what a function answers there
-pub arranged-by : {C : Type 0} (r : Grid C) (ns : List ℕ) (f : List ℕ → C) → IsGrid r → r.lengths ≡ ns → ((is : List ℕ) (z : C) → cell r is ≡ Some z → z ≡ f is) → r ≡ arranged ns f
-arranged-by r ns f whole e at =
-    same_grid r (arranged ns f) whole (arranged-whole ns f) e
+pub array_by-by : {C : Type 0} (r : Grid C) (ns : List ℕ) (f : List ℕ → C) → IsGrid r → r.lengths ≡ ns → ((is : List ℕ) (z : C) → cell r is ≡ Some z → z ≡ f is) → r ≡ array_by ns f
+array_by-by r ns f whole e at =
+    same_grid r (array_by ns f) whole (array_by-whole ns f) e
     (λ is b.
     let (z, there) = cell-Some r whole is b in
-    there ∙ (ap (λ v. Some v) (at is z there) ∙ sym (arranged-cell ns f is (subst (λ ms. InBox ms is) e b))))
+    there ∙ (ap (λ v. Some v) (at is z there) ∙ sym (array_by-cell ns f is (subst (λ ms. InBox ms is) e b))))
 
 -- Two arrays of the same lengths.
 module _ {A B : Type 0} (g : Grid A) (h : Grid B) (left_whole : IsGrid g) (right_whole : IsGrid h) (same : g.lengths ≡ h.lengths) where
@@ -39,9 +39,9 @@ module _ {A B : Type 0} (g : Grid A) (h : Grid B) (left_whole : IsGrid g) (right
 
   -- the array that an operator returns has these lengths, and at each index list what a function answers that the operation computes
   pub combined : {C : Type 0} (gives : A → B → C → Type 0) (r : Grid C) (f : List ℕ → C) → ((is : List ℕ) (x : A) (y : B) (z : C) → cell g is ≡ Some x → cell h is ≡ Some y → gives x y z → z ≡ f is)
-      → Combines g h gives r → r ≡ arranged g.lengths f
+      → Combines g h gives r → r ≡ array_by g.lengths f
   combined gives r f each c =
-      arranged-by r g.lengths f c.whole (c.lengths ∙ lengths-same)
+      array_by-by r g.lengths f c.whole (c.lengths ∙ lengths-same)
       (λ is z there.
       let (x, y, at, given) = c.cells is z there in
       each is x y z (sym (left-own is) ∙ at.left) (sym (right-own is) ∙ at.right) given)
@@ -71,9 +71,9 @@ module _ {A B : Type 0} (g : Grid A) (h : Grid B) (whole : IsGrid h) (n : ℕ) (
   -- the array that it leaves has at each index list what a function answers that the operation computes
   pub assigned-row : (gives : A → B → A → Type 0) (new : Grid A) (f : List ℕ → A)
       → ((i : ℕ) (js : List ℕ) (x : A) (y : B) (z : A) → cell g (i ∷ js) ≡ Some x → cell h js ≡ Some y → gives x y z → z ≡ f (i ∷ js))
-      → Assigns gives g h new → new ≡ arranged g.lengths f
+      → Assigns gives g h new → new ≡ array_by g.lengths f
   assigned-row gives new f each c =
-      arranged-by new g.lengths f c.whole c.lengths
+      array_by-by new g.lengths f c.whole c.lengths
       (λ is z there.
       let (x, y, at, given) = c.cells is z there in
       given-below gives f each is x y z at given)

@@ -5,17 +5,17 @@ use Rattle.std.proofs.lemmas.List.{take_all}
 use Rattle.std.proofs.lemmas.List.Elements.{All-head, All-tail}
 use Rattle.ndarray.specs.Grid.{Grid, IsGrid, grid, one_axis}
 use Rattle.ndarray.specs.Index.{size}
-use Rattle.ndarray.specs.Joining.{concatenate_error, concatenated, concatenated_lengths, shapes_of}
+use Rattle.ndarray.specs.Joining.{concatenate_error, concatenation, concatenation_lengths, shapes_of}
 use Rattle.ndarray.specs.stacking.Blocks.{JoinsAs, all_blocks, block_at, blocks_at, outer_lengths}
-use Rattle.ndarray.proofs.joining.Joined.{concatenated-is, may-concatenate}
+use Rattle.ndarray.proofs.joining.Joined.{concatenation-is, may-concatenate}
 use Rattle.ndarray.proofs.joining.OuterAxes.{nonzero-ones}
 use Rattle.ndarray.proofs.boxes.Orders.{row_order-ones}
 use Rattle.ndarray.proofs.boxes.Walks.{rank-zeros}
 
 -- what holds of an `Ok` where there is no error holds of it always, as an error is no `Ok`
-pub if_ok-unless : {X E K : Type 0} (r : Result X E) (error : Option K) (refusal_of : K → E) (P : X → Type 0) → ((k : K) → (r ≡ Err (refusal_of k)) ↔ (error ≡ Some k)) → (error ≡ None → IfOk r P) → IfOk r P
-if_ok-unless r None refusal_of P refused known = known refl
-if_ok-unless r (Some k) refusal_of P refused known = subst (λ q. IfOk q P) (sym ((refused k).1 refl)) tt
+pub if_ok-unless : {X E K : Type 0} (r : Result X E) (error : Option K) (error_of : K → E) (P : X → Type 0) → ((k : K) → (r ≡ Err (error_of k)) ↔ (error ≡ Some k)) → (error ≡ None → IfOk r P) → IfOk r P
+if_ok-unless r None error_of P refused known = known refl
+if_ok-unless r (Some k) error_of P refused known = subst (λ q. IfOk q P) (sym ((refused k).1 refl)) tt
 
 module _ {A : Type 0} where
   -- the block of an array below the first axis is all of it
@@ -29,12 +29,12 @@ module _ {A : Type 0} where
       ∙ ap (λ l. g.cells ++ l) (blocks-all gs m (All-tail IsGrid g gs whole))
 
   -- the cells of arrays joined along the first axis are those of one array after another
-  pub concatenated-cells : (gs : List (Grid A)) → All IsGrid gs → concatenate_error 0 (shapes_of gs) ≡ None → (concatenated 0 gs).cells ≡ flat_map (λ g. g.cells) gs
-  concatenated-cells [] whole none = absurd (cc)
-  concatenated-cells (g ∷ gs) whole none =
+  pub concatenation-cells : (gs : List (Grid A)) → All IsGrid gs → concatenate_error 0 (shapes_of gs) ≡ None → (concatenation 0 gs).cells ≡ flat_map (λ g. g.cells) gs
+  concatenation-cells [] whole none = absurd (cc)
+  concatenation-cells (g ∷ gs) whole none =
       let os : List ℕ = outer_lengths 0 g.lengths in
-      let ms : List ℕ = concatenated_lengths 0 (shapes_of (g ∷ gs)) in
-      let j : JoinsAs 0 (concatenate_error 0) (concatenated_lengths 0) (g ∷ gs) os ms = record {
+      let ms : List ℕ = concatenation_lengths 0 (shapes_of (g ∷ gs)) in
+      let j : JoinsAs 0 (concatenate_error 0) (concatenation_lengths 0) (g ∷ gs) os ms = record {
         none = none;
         lengths = refl;
         outer = refl;
@@ -45,7 +45,7 @@ module _ {A : Type 0} where
       ap (flat_map (λ is. blocks_at 0 is (g ∷ gs))) (row_order-ones (length g.lengths))
       ∙ (append-nil (blocks_at 0 (replicate (length g.lengths) 0) (g ∷ gs)) ∙ blocks-all (g ∷ gs) (length g.lengths) whole) in
       let many : length (flat_map (λ h. h.cells) (g ∷ gs)) ≡ size ms = ap length (sym all) ∙ (may-concatenate 0 (g ∷ gs) os ms j).many in
-      sym (ap (λ r. r.cells) (concatenated-is 0 (g ∷ gs) os ms j (grid ms (flat_map (λ h. h.cells) (g ∷ gs))) many refl (sym all)))
+      sym (ap (λ r. r.cells) (concatenation-is 0 (g ∷ gs) os ms j (grid ms (flat_map (λ h. h.cells) (g ∷ gs))) many refl (sym all)))
 
   -- an array of one axis is its cells
   pub one_axis-is : (g : Grid A) → length g.lengths ≡ 1 → IsGrid g → g ≡ one_axis g.cells

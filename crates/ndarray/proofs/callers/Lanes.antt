@@ -7,14 +7,14 @@ use Rattle.std.proofs.lemmas.List.Edits.{length-remove}
 use Rattle.ndarray.specs.Algebra.{CommutativeMonoid}
 use Rattle.ndarray.specs.AlongAxis.{CanCumulate, CanMultiplyOn, IsSummableArray}
 use Rattle.ndarray.specs.Elementwise.{CanMap, Maps}
-use Rattle.ndarray.specs.Grid.{Grid, IsGrid, arranged, cell}
+use Rattle.ndarray.specs.Grid.{Grid, IsGrid, array_by, cell}
 use Rattle.ndarray.specs.Index.{InBox}
 use Rattle.ndarray.specs.Subviews.{lane, lanes_of}
 use Rattle.ndarray.specs.Sums.{IsSummableBy, select, total_by}
 use Rattle.ndarray.specs.base.Ranks.{block_in, rank}
 use Rattle.ndarray.specs.declared.base.shape.Order.TheVariants.{RowMajor}
 use Rattle.ndarray.proofs.boxes.Boxes.{InBox-length, InBox-set}
-use Rattle.ndarray.proofs.callers.Collecting.{arranged-at, lanes_of-some}
+use Rattle.ndarray.proofs.callers.Collecting.{array_by-at, lanes_of-some}
 use Rattle.ndarray.proofs.cells.Cells.{cell-inside, cell-within}
 use Rattle.ndarray.proofs.cells.LaneCells.{lane-cell, lane-length, no-lane}
 use Rattle.ndarray.proofs.cells.RunningProducts.{block-pos, own-blocks, rank-at}
@@ -77,9 +77,9 @@ module _ {A : Type 0} (g : Grid A) (whole : IsGrid g) (k : ℕ) (lt : k < length
   -- sums of selections in range, or products: of the whole array, and so of each lane
   pub lanes-summable : {C : Type 0} (M : CommutativeMonoid C) (in_range : C → Type 0) (value : A → C) → IsSummableBy M in_range value g.cells → CanMap (IsSummableArray M in_range value) (lanes_of g k)
   lanes-summable M in_range value h js l e =
-      let among : lanes_of g k ≡ arranged (remove g.lengths k) (lane g k) = lanes_of-some g.lengths g k (omega arith) in
+      let among : lanes_of g k ≡ array_by (remove g.lengths k) (lane g k) = lanes_of-some g.lengths g k (omega arith) in
       let b : InBox (remove g.lengths k) js = subst (λ w. InBox w.lengths js) among (cell-inside (lanes_of g k) js l e) in
-      let is_lane : l ≡ lane g k js = arranged-at (remove g.lengths k) (lane g k) (lanes_of g k) js l among (cell-inside (lanes_of g k) js l e) e in
+      let is_lane : l ≡ lane g k js = array_by-at (remove g.lengths k) (lane g k) (lanes_of g k) js l among (cell-inside (lanes_of g k) js l e) e in
       elim (cases_eq (get_or g.lengths k 0) 0) [
         | inl none ↦ (λ keep. subst in_range (ap (total_by M value) (select-none g.cells ∙ (sym (ap (select keep) (ap (λ w. w.cells) is_lane ∙ no-lane g k js none))))) (h (λ _. false)))
         | inr some ↦
@@ -96,7 +96,7 @@ pub lane-maps : {A B : Type 0} (g : Grid A) (k : ℕ) → 0 < length g.lengths �
 lane-maps g k some gives r m js z e =
     let (l, at, given) = m.cells js z e in
     let among = lanes_of-some g.lengths g k some in
-    subst (λ x. gives x z) (arranged-at (remove g.lengths k) (lane g k) (lanes_of g k) js l among (cell-inside (lanes_of g k) js l at) at) given
+    subst (λ x. gives x z) (array_by-at (remove g.lengths k) (lane g k) (lanes_of g k) js l among (cell-inside (lanes_of g k) js l at) at) given
 
 -- where multiplication is defined on any two elements, running products may be formed of any list
 multiply-always : {A : Type 0} (can : A → A → Type 0) (gives : A → A → A → Type 0) → ((x p : A) → can x p) → (p : A) (xs : List A) → CanMultiplyOn can gives p xs

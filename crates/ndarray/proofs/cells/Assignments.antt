@@ -9,7 +9,7 @@ use Rattle.ndarray.specs.Orders.{box_in}
 use Rattle.ndarray.specs.Producers.{YieldsInTurn}
 use Rattle.ndarray.specs.declared.base.shape.Order.{Order}
 use Rattle.ndarray.proofs.boxes.Orders.{box_in-within, box_in-back, length-box_in}
-use Rattle.ndarray.proofs.runs.Producers.{YieldsInTurn-list, Stands}
+use Rattle.ndarray.proofs.runs.Producers.{YieldsInTurn-list, MayBeYielded}
 
 -- an index list of a box in an order is in the box, and none before it is the same
 module _ (o : Order) (ns : List ℕ) (done : List (List ℕ)) (i : List ℕ) (rest : List (List ℕ)) (parts : done ++ (i ∷ rest) ≡ box_in o ns) where
@@ -35,9 +35,9 @@ module _ (o : Order) (ns : List ℕ) (done : List (List ℕ)) (i : List ℕ) (re
 
 -- a walk gives the index lists themselves
 module _ {D S : Type 0} (numbers : D → List ℕ) (rest : S → List (List ℕ)) where
-  own-stand : (is : List (List ℕ)) → Stands numbers (λ i d. numbers d ≡ i) is is
-  own-stand [] = tt
-  own-stand (i ∷ is) = ((λ d e. e), own-stand is)
+  own-yielded : (is : List (List ℕ)) → MayBeYielded numbers (λ i d. numbers d ≡ i) is is
+  own-yielded [] = tt
+  own-yielded (i ∷ is) = ((λ d e. e), own-yielded is)
 
   pub YieldsInTurn-own : {is : List (List ℕ)} {s : S} → rest s ≡ is → YieldsInTurn (YieldsFirstBy numbers rest) (λ i d. numbers d ≡ i) s is
-  YieldsInTurn-own {is} e = YieldsInTurn-list numbers rest (λ i d. numbers d ≡ i) is e (own-stand is)
+  YieldsInTurn-own {is} e = YieldsInTurn-list numbers rest (λ i d. numbers d ≡ i) is e (own-yielded is)

@@ -6,7 +6,7 @@ use Rattle.std.specs.Option.{option_map}
 use Rattle.std.proofs.lemmas.Option.{slice_get-get_or, slice_get-map, get_or_from_slice_get}
 use Rattle.std.proofs.lemmas.List.{length-map}
 use Rattle.ndarray.specs.Index.{InBox, row_order, size, IsBefore}
-use Rattle.ndarray.specs.Grid.{Grid, grid, beside, cell, IsGrid, HasCells, tabulate, tabulated, IsKnownByCells, arranged}
+use Rattle.ndarray.specs.Grid.{Grid, grid, beside, cell, IsGrid, HasCells, tabulate, cells_by, IsKnownByCells, array_by}
 use Rattle.ndarray.specs.base.Ranks.{rank, rank_in}
 use Rattle.ndarray.proofs.lists.Elements.{same_from_slice_get, length-filter_map_all, slice_get-filter_map_all, slice_get-Some, filter_map-same, filter_map-full, map-from_filter_map, map-same, filter_map-take_all, filter_map-drop_all, replicate-is}
 use Rattle.ndarray.proofs.boxes.Orders.{length-row_order, row_order-is, row_order-at, row_order-back, rank-lt, rank_in-lt, box_in-at, box_in-is, box_in-within, length-box_in, IsBefore-not_itself}
@@ -83,7 +83,7 @@ pub HasCells-box_in : {A : Type 0} (o : Order) (g : Grid A) → IsGrid g → Has
 HasCells-box_in o g w = record { whole = w; within = box_in-within o g.lengths }
 
 pub tabulate-is : {A : Type 0} (g : Grid A) (ns : List ℕ) (f : List ℕ → Option A) → IsGrid g → g.lengths ≡ ns → ((is : List ℕ) → InBox g.lengths is → cell g is ≡ f is) → g ≡ tabulate ns f
-unfolding tabulated
+unfolding cells_by
 tabulate-is g ns f whole e h =
     ap (grid g.lengths) (sym (along-row_order g whole) ∙ filter_map-same (cell g) f (InBox g.lengths) (row_order g.lengths) h (row_order-is g.lengths).within)
     ∙ ap (λ ms. grid ms (filter_map f (row_order ms))) e
@@ -125,19 +125,19 @@ cells-alike x n o g whole e =
 -- ---- arrays that have a function of each index list
 
 module _ {A : Type 0} where
-  pub arranged-whole : (ns : List ℕ) (f : List ℕ → A) → IsGrid (arranged ns f)
-  arranged-whole ns f = length-map (row_order ns) f ∙ length-row_order ns
+  pub array_by-whole : (ns : List ℕ) (f : List ℕ → A) → IsGrid (array_by ns f)
+  array_by-whole ns f = length-map (row_order ns) f ∙ length-row_order ns
 
-  pub arranged-cell : (ns : List ℕ) (f : List ℕ → A) (is : List ℕ) → InBox ns is → cell (arranged ns f) is ≡ Some (f is)
-  arranged-cell ns f is b =
+  pub array_by-cell : (ns : List ℕ) (f : List ℕ → A) (is : List ℕ) → InBox ns is → cell (array_by ns f) is ≡ Some (f is)
+  array_by-cell ns f is b =
       let l = length-row_order ns in
       let lt = rank-lt ns is b in
-      cell-within (arranged ns f) (arranged-whole ns f) is b
+      cell-within (array_by ns f) (array_by-whole ns f) is b
       ∙ (slice_get-map f (row_order ns) (rank ns is)
       ∙ ap (option_map f) (slice_get-get_or (row_order ns) (rank ns is) [] (omega arith) ∙ ap (λ js. Some js) (row_order-at ns is [] b)))
 
-  pub arranged-same : (ns ms : List ℕ) (f h : List ℕ → A) → ns ≡ ms → ((is : List ℕ) → InBox ns is → f is ≡ h is) → arranged ns f ≡ arranged ms h
-  arranged-same ns ms f h e same = ap (grid ns) (map-same f h (InBox ns) (row_order ns) same (row_order-is ns).within) ∙ ap (λ ks. arranged ks h) e
+  pub array_by-same : (ns ms : List ℕ) (f h : List ℕ → A) → ns ≡ ms → ((is : List ℕ) → InBox ns is → f is ≡ h is) → array_by ns f ≡ array_by ms h
+  array_by-same ns ms f h e same = ap (grid ns) (map-same f h (InBox ns) (row_order ns) same (row_order-is ns).within) ∙ ap (λ ks. array_by ks h) e
 
 -- ---- the first items, and the others
 
@@ -149,13 +149,13 @@ along-drop g ys n h = filter_map-drop_all (cell g) ys n (all-cells g h.whole ys 
 
 -- arrays of the same lengths and cells by their functions
 pub tabulate-same : {A : Type 0} (ns ms : List ℕ) (f h : List ℕ → Option A) → ns ≡ ms → ((is : List ℕ) → InBox ns is → f is ≡ h is) → tabulate ns f ≡ tabulate ms h
-unfolding tabulated
+unfolding cells_by
 tabulate-same ns ms f h e same =
     ap (grid ns) (filter_map-same f h (InBox ns) (row_order ns) same (row_order-is ns).within) ∙ ap (λ ks. tabulate ks h) e
 
 -- where a function names a cell at each index list, the array has it there
 pub tabulate-cell : {A : Type 0} (ns : List ℕ) (f : List ℕ → Option A) (is : List ℕ) → IsGrid (tabulate ns f) → InBox ns is → cell (tabulate ns f) is ≡ f is
-unfolding tabulated
+unfolding cells_by
 tabulate-cell {A} ns f is whole b =
     let l = length-row_order ns in
     let lt = rank-lt ns is b in

@@ -8,7 +8,7 @@ use Rattle.ndarray.specs.Index.{InBox, size, row_order}
 use Rattle.ndarray.specs.Grid.{Grid, IsGrid, grid, cell}
 use Rattle.ndarray.specs.Orders.{box_in, cells_in, IsListOfCells}
 use Rattle.ndarray.specs.Producers.{IsRefinedBy}
-use Rattle.ndarray.specs.Views.{transposed}
+use Rattle.ndarray.specs.Views.{transpose_of}
 use Rattle.ndarray.specs.declared.base.shape.Order.{Order}
 use Rattle.ndarray.specs.declared.base.shape.Order.TheVariants.{RowMajor, ColumnMajor}
 use Rattle.ndarray.proofs.boxes.Boxes.{InBox-reverse}
@@ -17,22 +17,22 @@ use Rattle.ndarray.proofs.cells.Cells.{along-row_order, cell-Some, cell-within, 
 use Rattle.ndarray.proofs.boxes.Orders.{box_in-is, box_in-within, length-box_in}
 use Rattle.ndarray.proofs.lists.Permutations.{IsBoxIn-rearranges}
 use Rattle.ndarray.proofs.boxes.Sizes.{size-reverse}
-use Rattle.ndarray.proofs.strides.ContiguousCells.{row-cells, transposed-cells}
+use Rattle.ndarray.proofs.strides.ContiguousCells.{row-cells, transpose_of-cells}
 
 -- an array transposed twice is itself
-pub transposed-transposed : {A : Type 0} (g : Grid A) → IsGrid g → IsGrid (transposed g) → transposed (transposed g) ≡ g
-transposed-transposed g whole turned =
-    sym (tabulate-is g (reverse (reverse g.lengths)) (λ is. cell (transposed g) (reverse is)) whole (sym (reverse-reverse g.lengths)) (λ is b.
+pub transpose_of-transpose_of : {A : Type 0} (g : Grid A) → IsGrid g → IsGrid (transpose_of g) → transpose_of (transpose_of g) ≡ g
+transpose_of-transpose_of g whole turned =
+    sym (tabulate-is g (reverse (reverse g.lengths)) (λ is. cell (transpose_of g) (reverse is)) whole (sym (reverse-reverse g.lengths)) (λ is b.
     sym (tabulate-cell (reverse g.lengths) (λ js. cell g (reverse js)) (reverse is) turned (InBox-reverse g.lengths is b) ∙ ap (cell g) (reverse-reverse is))))
 
 pub length-cells_in : {A : Type 0} (o : Order) (g : Grid A) → IsGrid g → length (cells_in o g) ≡ size g.lengths
 length-cells_in o g whole = length-along g whole (box_in o g.lengths) (box_in-within o g.lengths) ∙ length-box_in o g.lengths
 
-pub transposed-whole : {A : Type 0} (g : Grid A) → IsGrid g → IsGrid (transposed g)
-transposed-whole g whole = ap length (transposed-cells g) ∙ (length-cells_in ColumnMajor g whole ∙ sym (size-reverse g.lengths))
+pub transpose_of-whole : {A : Type 0} (g : Grid A) → IsGrid g → IsGrid (transpose_of g)
+transpose_of-whole g whole = ap length (transpose_of-cells g) ∙ (length-cells_in ColumnMajor g whole ∙ sym (size-reverse g.lengths))
 
-pub length-transposed : {A : Type 0} (g : Grid A) → IsGrid g → length (transposed g).cells ≡ length g.cells
-length-transposed g whole = ap length (transposed-cells g) ∙ (length-cells_in ColumnMajor g whole ∙ sym whole)
+pub length-transpose_of : {A : Type 0} (g : Grid A) → IsGrid g → length (transpose_of g).cells ≡ length g.cells
+length-transpose_of g whole = ap length (transpose_of-cells g) ∙ (length-cells_in ColumnMajor g whole ∙ sym whole)
 
 same : {A : Type 0} (g h : Grid A) → g.lengths ≡ h.lengths → g.cells ≡ h.cells → g ≡ h
 same g h e c = ap (λ ns. grid ns g.cells) e ∙ ap (grid h.lengths) c
@@ -41,8 +41,8 @@ same g h e c = ap (λ ns. grid ns g.cells) e ∙ ap (grid h.lengths) c
 pub cells_in-known : {A : Type 0} (o : Order) (g h : Grid A) → IsGrid g → IsGrid h → g.lengths ≡ h.lengths → cells_in o g ≡ cells_in o h → g ≡ h
 cells_in-known RowMajor g h wg wh e c = same g h e (sym (row-cells g wg) ∙ (c ∙ row-cells h wh))
 cells_in-known ColumnMajor g h wg wh e c =
-    sym (transposed-transposed g wg (transposed-whole g wg))
-    ∙ (ap transposed (same (transposed g) (transposed h) (ap reverse e) (transposed-cells g ∙ (c ∙ sym (transposed-cells h)))) ∙ transposed-transposed h wh (transposed-whole h wh))
+    sym (transpose_of-transpose_of g wg (transpose_of-whole g wg))
+    ∙ (ap transpose_of (same (transpose_of g) (transpose_of h) (ap reverse e) (transpose_of-cells g ∙ (c ∙ sym (transpose_of-cells h)))) ∙ transpose_of-transpose_of h wh (transpose_of-whole h wh))
 
 -- so one made of its cells in an order shows what it shows
 pub refined-in_order : {A X : Type 0} (value : X → A) (o : Order) (g h : Grid A) → IsGrid g → IsGrid h → h.lengths ≡ g.lengths → cells_in o h ≡ cells_in o g
@@ -99,10 +99,10 @@ module _ {A : Type 0} (R : A → A → Type 0) where
   pub AllZip-cells : (o : Order) (g h : Grid A) → IsGrid g → IsGrid h → h.lengths ≡ g.lengths → AllZip R (cells_in o g) (cells_in o h) → AllZip R g.cells h.cells
   AllZip-cells RowMajor g h wg wh e z = subst (λ xs. AllZip R xs h.cells) (row-cells g wg) (subst (AllZip R (cells_in RowMajor g)) (row-cells h wh) z)
   AllZip-cells ColumnMajor g h wg wh e z =
-      let tz : AllZip R (transposed g).cells (transposed h).cells = subst (λ xs. AllZip R xs (transposed h).cells) (sym (transposed-cells g)) (subst (AllZip R (cells_in ColumnMajor g)) (sym (transposed-cells h)) z) in
-      let tg = transposed-whole g wg in
-      let th = transposed-whole h wh in
-      let seen : (k : Grid A) → IsGrid k → IsGrid (transposed k) → (is : List ℕ) → InBox k.lengths is → cell (transposed k) (reverse is) ≡ cell k is = λ k w t is b.
+      let tz : AllZip R (transpose_of g).cells (transpose_of h).cells = subst (λ xs. AllZip R xs (transpose_of h).cells) (sym (transpose_of-cells g)) (subst (AllZip R (cells_in ColumnMajor g)) (sym (transpose_of-cells h)) z) in
+      let tg = transpose_of-whole g wg in
+      let th = transpose_of-whole h wh in
+      let seen : (k : Grid A) → IsGrid k → IsGrid (transpose_of k) → (is : List ℕ) → InBox k.lengths is → cell (transpose_of k) (reverse is) ≡ cell k is = λ k w t is b.
       tabulate-cell (reverse k.lengths) (λ js. cell k (reverse js)) (reverse is) t (InBox-reverse k.lengths is b) ∙ ap (cell k) (reverse-reverse is) in
       at_places g h wg wh e (λ is b x y p q.
-      at_index (transposed g) (transposed h) tg th (ap reverse e) tz (reverse is) (InBox-reverse g.lengths is b) x y (seen g wg tg is b ∙ p) (seen h wh th is (there g h wg wh e is b) ∙ q))
+      at_index (transpose_of g) (transpose_of h) tg th (ap reverse e) tz (reverse is) (InBox-reverse g.lengths is b) x y (seen g wg tg is b ∙ p) (seen h wh th is (there g h wg wh e is b) ∙ q))

@@ -5,7 +5,7 @@ use Rattle.std.proofs.Math.Bool.{and-true}
 use Rattle.std.proofs.lemmas.Bool.{cases_lt, false_from_ne_true, le-ltb, lt-ltb}
 use Rattle.std.proofs.lemmas.Float.{T_from_true}
 use Rattle.std.proofs.lemmas.Int.{ints}
-use Rattle.ndarray.specs.Grid.{Grid, IsGrid, cell, grid, tabulate, tabulated}
+use Rattle.ndarray.specs.Grid.{Grid, IsGrid, cell, grid, tabulate, cells_by}
 use Rattle.ndarray.specs.Index.{InBox, row_order, size}
 use Rattle.ndarray.specs.Limits.{nonzero_size}
 use Rattle.ndarray.specs.Triangles.{column_minus_row, diagonals_kept, lower_triangle, upper_triangle}
@@ -41,7 +41,7 @@ module _ {A : Type 0} (keeps : ℤ → Bool) (zero_cell : A) (g : Grid A) where
 
     -- the array of all of them
     pub diagonals-of : (r : Grid A) → 2 ≤ length g.lengths → r.lengths ≡ g.lengths → r.cells ≡ filter_map kept_at (row_order g.lengths) → r ≡ diagonals_kept keeps zero_cell g
-    unfolding tabulated
+    unfolding cells_by
     diagonals-of r axes lengths cells =
         ap (λ ns. grid ns r.cells) lengths
         ∙ (ap (grid g.lengths) cells

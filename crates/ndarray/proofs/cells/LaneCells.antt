@@ -1,6 +1,6 @@
 -- The cells of a lane.
 use Rattle.std.proofs.Common.{◌≡◌, ◌<◌, ℕ, zero, suc, List, [], ◌∷◌, Option, Some, length, get_or, set, refl, ap, sym, ◌∙◌, arith, remove, insert, All}
-use Rattle.ndarray.specs.Grid.{Grid, IsGrid, cell, tabulated}
+use Rattle.ndarray.specs.Grid.{Grid, IsGrid, cell, cells_by}
 use Rattle.ndarray.specs.Index.{InBox, row_order}
 use Rattle.ndarray.specs.Subviews.{lane, lanes_of}
 use Rattle.ndarray.specs.declared.base.shape.Order.TheVariants.{RowMajor}
@@ -9,7 +9,7 @@ use Rattle.ndarray.proofs.boxes.Boxes.{InBox-length, InBox-set, InBox-removed}
 use Rattle.ndarray.proofs.boxes.Orders.{box_in-at, length-box_in}
 use Rattle.ndarray.proofs.boxes.Walks.{rank_in-one}
 use Rattle.ndarray.proofs.callers.Collecting.{lanes_of-some}
-use Rattle.ndarray.proofs.cells.Cells.{cell-Some, arranged-cell}
+use Rattle.ndarray.proofs.cells.Cells.{cell-Some, array_by-cell}
 use Rattle.ndarray.proofs.lists.Elements.{length-filter_map_all, slice_get-filter_map_all}
 
 pub insert-removed : (is : List ℕ) (k j : ℕ) → k < length is → insert (remove is k) k j ≡ set is k j
@@ -19,8 +19,8 @@ insert-removed (i ∷ is) (suc k) j lt = ap (λ l. i ∷ l) (insert-removed is k
 
 -- along an axis of length 0 a lane has no cells
 pub no-lane : {A : Type 0} (g : Grid A) (k : ℕ) (js : List ℕ) → get_or g.lengths k 0 ≡ 0 → (lane g k js).cells ≡ []
-unfolding tabulated row_order
-no-lane g k js none = ap (λ n. tabulated (n ∷ []) (λ is. cell g (insert js k (get_or is 0 0)))) none
+unfolding cells_by row_order
+no-lane g k js none = ap (λ n. cells_by (n ∷ []) (λ is. cell g (insert js k (get_or is 0 0)))) none
 
 module _ {A : Type 0} (g : Grid A) (whole : IsGrid g) (k : ℕ) (lt : k < length g.lengths) (is : List ℕ) (b : InBox g.lengths is) where
   at : (j : ℕ) → cell g (insert (remove is k) k j) ≡ cell g (set is k j)
@@ -39,7 +39,7 @@ module _ {A : Type 0} (g : Grid A) (whole : IsGrid g) (k : ℕ) (lt : k < length
       (x, ap (λ js. cell g (insert (remove is k) k (get_or js 0 0))) (one q d below) ∙ (at q ∙ e))
 
   pub lane-length : length (lane g k (remove is k)).cells ≡ get_or g.lengths k 0
-  unfolding tabulated
+  unfolding cells_by
   lane-length =
       let long = length-box_in RowMajor (get_or g.lengths k 0 ∷ []) in
       let all = length-filter_map_all (λ js. cell g (insert (remove is k) k (get_or js 0 0))) (row_order (get_or g.lengths k 0 ∷ [])) all-some in
@@ -47,7 +47,7 @@ module _ {A : Type 0} (g : Grid A) (whole : IsGrid g) (k : ℕ) (lt : k < length
 
   -- the cell of the lane through is, at an index
   pub lane-cell : (j : ℕ) → j < get_or g.lengths k 0 → slice_get (lane g k (remove is k)).cells j ≡ cell g (set is k j)
-  unfolding tabulated
+  unfolding cells_by
   lane-cell j below =
       let f : List ℕ → Option A = λ js. cell g (insert (remove is k) k (get_or js 0 0)) in
       let long = length-box_in RowMajor (get_or g.lengths k 0 ∷ []) in
@@ -58,4 +58,4 @@ module _ {A : Type 0} (g : Grid A) (whole : IsGrid g) (k : ℕ) (lt : k < length
   pub lane-among : cell (lanes_of g k) (remove is k) ≡ Some (lane g k (remove is k))
   lane-among =
       ap (λ w. cell w (remove is k)) (lanes_of-some g.lengths g k (omega arith))
-      ∙ arranged-cell (remove g.lengths k) (lane g k) (remove is k) (InBox-removed g.lengths is k lt b)
+      ∙ array_by-cell (remove g.lengths k) (lane g k) (remove is k) (InBox-removed g.lengths is k lt b)

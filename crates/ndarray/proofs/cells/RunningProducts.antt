@@ -152,8 +152,8 @@ module _ {A : Type 0} (gives : A → A → A → Type 0) (g : Grid A) (k block :
     only-one : (is : List ℕ) → InBox g.lengths is → rank g.lengths is ≡ length ms → is ≡ i
     only-one is b r = sym (box_in-at RowMajor g.lengths is [] b) ∙ (ap (λ q. get_or (row_order g.lengths) q []) (r ∙ sym here.place) ∙ box_in-at RowMajor g.lengths i [] here.within)
 
-    pub products-next : (x z : A) → cell g i ≡ Some x → (get_or i k 0 ≡ 0 → z ≡ x) → (0 < get_or i k 0 → (p : A) → slice_get ms (length ms - block) ≡ Some p → gives x p z) → RunningProducts gives g k (ms ++ z ∷ []) left'
-    products-next x z here_x is_first is_next =
+    pub running-products-next : (x z : A) → cell g i ≡ Some x → (get_or i k 0 ≡ 0 → z ≡ x) → (0 < get_or i k 0 → (p : A) → slice_get ms (length ms - block) ≡ Some p → gives x p z) → RunningProducts gives g k (ms ++ z ∷ []) left'
+    running-products-next x z here_x is_first is_next =
         let long : length (ms ++ z ∷ []) ≡ suc (length ms) = length-append ms (z ∷ []) ∙ omega arith in
         let old : (j : ℕ) → j < length ms → slice_get (ms ++ z ∷ []) j ≡ slice_get ms j = λ j below. slice_get-before ms (z ∷ []) j below in
         let last : slice_get (ms ++ z ∷ []) (rank g.lengths i) ≡ Some z = ap (slice_get (ms ++ z ∷ [])) here.place ∙ slice_get-seam ms z [] in

@@ -8,7 +8,7 @@ use Rattle.std.proofs.lemmas.Bool.{cases_lt, and_left, and_parts, le-ltb, lt-ltb
 use Rattle.std.proofs.lemmas.List.Elements.{All-cons}
 use Rattle.std.proofs.lemmas.List.{at_drop_all, get_or-set_same, get_or_default, length-map, length-set, set-set, set-get_or}
 use Rattle.ndarray.specs.Grid.{Grid, IsGrid, same_index}
-use Rattle.ndarray.specs.Joining.{concatenate_error, concatenated_lengths, is_same_but_along, is_within_limit, shapes_of, stack_error, stacked_lengths}
+use Rattle.ndarray.specs.Joining.{concatenate_error, concatenation_lengths, is_same_but_along, is_within_limit, shapes_of, stack_error, stack_lengths}
 use Rattle.ndarray.specs.Limits.{IsWithinLimit, nonzero_size}
 use Rattle.ndarray.specs.declared.base.error.ErrorKind.TheVariants.{IncompatibleShape, RangeLimited, OutOfBounds, Overflow}
 use Rattle.ndarray.specs.stacking.Blocks.{JoinsAs, outer_lengths}
@@ -118,7 +118,7 @@ module _ {A : Type 0} where
   module _ (a : ℕ) (g : Grid A) (gs : List (Grid A)) where
     module _ (below : a < length g.lengths) (same : list_all (is_same_but_along a g.lengths) (shapes_of gs) ≡ true) where
       abbrev sums : List ℕ
-      sums = concatenated_lengths a (shapes_of (g ∷ gs))
+      sums = concatenation_lengths a (shapes_of (g ∷ gs))
 
       concatenate-size : concatenate_error a (shapes_of (g ∷ gs)) ≡ (if not (is_within_limit sums) then Some Overflow else None)
       concatenate-size =
@@ -139,7 +139,7 @@ module _ {A : Type 0} where
 
     module _ (most : a ≤ length g.lengths) (same : list_all (same_index g.lengths) (shapes_of gs) ≡ true) (few : length g.lengths < 32) where
       abbrev counts : List ℕ
-      counts = stacked_lengths a (shapes_of (g ∷ gs))
+      counts = stack_lengths a (shapes_of (g ∷ gs))
 
       stack-size : stack_error a (shapes_of (g ∷ gs)) ≡ (if not (is_within_limit counts) then Some Overflow else None)
       stack-size =
@@ -199,11 +199,11 @@ module _ {A : Type 0} where
           ∙ concatenate-over a g rest below same (λ limit. over (subst (λ hs. IsWithinLimit (set g.lengths a (sum_by (λ ns. get_or ns a 0) (shapes_of hs)))) (sym all) limit))
 
       pub concatenate-joins : (os ms : List ℕ) → os ≡ outer_lengths a g.lengths → ms ≡ set g.lengths a (sum_by (λ ns. get_or ns a 0) (shapes_of gs)) → IsWithinLimit ms → IsWithinLimit g.lengths → IsGrid g → All IsGrid rest
-          → JoinsAs a (concatenate_error a) (concatenated_lengths a) gs os ms
+          → JoinsAs a (concatenate_error a) (concatenation_lengths a) gs os ms
       concatenate-joins os ms outer lengths limit own whole wholes =
-          let sums : ms ≡ concatenated_lengths a (shapes_of (g ∷ rest)) = lengths ∙ ap (λ hs. set g.lengths a (sum_by (λ ns. get_or ns a 0) (shapes_of hs))) all in
+          let sums : ms ≡ concatenation_lengths a (shapes_of (g ∷ rest)) = lengths ∙ ap (λ hs. set g.lengths a (sum_by (λ ns. get_or ns a 0) (shapes_of hs))) all in
           let within = nonzero-outer a g.lengths in
-          subst (λ hs. JoinsAs a (concatenate_error a) (concatenated_lengths a) hs os ms) (sym all)
+          subst (λ hs. JoinsAs a (concatenate_error a) (concatenation_lengths a) hs os ms) (sym all)
           (record {
             none = concatenate-none a g rest below same (subst IsWithinLimit sums limit);
             lengths = sums;
@@ -213,7 +213,7 @@ module _ {A : Type 0} where
           })
 
     module _ (most : a ≤ length g.lengths) (same : list_all (same_index g.lengths) (shapes_of rest) ≡ true) (few : length g.lengths < 32) where
-      counted : insert g.lengths a (length gs) ≡ stacked_lengths a (shapes_of (g ∷ rest))
+      counted : insert g.lengths a (length gs) ≡ stack_lengths a (shapes_of (g ∷ rest))
       counted = ap (insert g.lengths a) (ap length all ∙ sym (length-map (g ∷ rest) (λ h. h.lengths)))
 
       pub stack-overflow : (IsWithinLimit (insert g.lengths a (length gs)) → ⊥) → stack_error a (shapes_of gs) ≡ Some Overflow
@@ -222,10 +222,10 @@ module _ {A : Type 0} where
           ∙ stack-over a g rest most same few (λ limit. over (subst IsWithinLimit (sym counted) limit))
 
       pub stack-joins : (os ms : List ℕ) → os ≡ outer_lengths a g.lengths → ms ≡ insert g.lengths a (length gs) → IsWithinLimit ms → IsWithinLimit g.lengths → IsGrid g → All IsGrid rest
-          → JoinsAs a (stack_error a) (stacked_lengths a) gs os ms
+          → JoinsAs a (stack_error a) (stack_lengths a) gs os ms
       stack-joins os ms outer lengths limit own whole wholes =
           let within = nonzero-outer a g.lengths in
-          subst (λ hs. JoinsAs a (stack_error a) (stacked_lengths a) hs os ms) (sym all)
+          subst (λ hs. JoinsAs a (stack_error a) (stack_lengths a) hs os ms) (sym all)
           (record {
             none = stack-none a g rest most same few (subst IsWithinLimit (lengths ∙ counted) limit);
             lengths = lengths ∙ counted;

@@ -12,7 +12,7 @@ use Rattle.std.proofs.lemmas.Option.{slice_get-get_or}
 use Rattle.std.proofs.Math.Seq.{drop-cons}
 use Rattle.ndarray.specs.Grid.{Grid, IsGrid, cell, grid, same_index, tabulate}
 use Rattle.ndarray.specs.Index.{InBox, row_order, size}
-use Rattle.ndarray.specs.Joining.{concatenate_error, concatenated, concatenated_cell, concatenated_lengths, is_same_but_along, is_within_limit, shapes_of, stack_error, stacked, stacked_cell, stacked_lengths}
+use Rattle.ndarray.specs.Joining.{concatenate_error, concatenation, concatenation_cell, concatenation_lengths, is_same_but_along, is_within_limit, shapes_of, stack_error, stack_of, stack_cell, stack_lengths}
 use Rattle.ndarray.specs.Limits.{nonzero_size}
 use Rattle.ndarray.specs.declared.base.error.ErrorKind.TheVariants.{IncompatibleShape, RangeLimited, OutOfBounds, Overflow}
 use Rattle.ndarray.specs.base.Ranks.{rank}
@@ -71,10 +71,10 @@ module _ {A : Type 0} (a : ℕ) where
     length-here : (g : Grid A) (ps : List ℕ) → IsGrid g → g.lengths ≡ set ns a (get_or g.lengths a 0) → InBox (outer_lengths a ns) ps → length (block_at a ps g) ≡ get_or g.lengths a 0 * size (drop (suc a) ns)
     length-here g ps whole e b = length-block g ps whole (subst (λ ms. InBox ms ps) (sym (outer-here g e)) b) ∙ size-here g e
 
-    concatenated-at : (gs : List (Grid A)) → All IsGrid gs → All (λ g. g.lengths ≡ set ns a (get_or g.lengths a 0)) gs → (is : List ℕ) (n : ℕ) → InBox (set ns a n) is → get_or is a 0 < sum_by (λ g. get_or g.lengths a 0) gs
-        → slice_get (blocks_at a (outer_index a is) gs) (get_or is a 0 * size (drop (suc a) ns) + rank (drop (suc a) ns) (drop (suc a) is)) ≡ concatenated_cell a gs is
-    concatenated-at [] whole each is n b lt = absurd (omega arith)
-    concatenated-at (g ∷ gs) whole each is n b lt =
+    concatenation-at : (gs : List (Grid A)) → All IsGrid gs → All (λ g. g.lengths ≡ set ns a (get_or g.lengths a 0)) gs → (is : List ℕ) (n : ℕ) → InBox (set ns a n) is → get_or is a 0 < sum_by (λ g. get_or g.lengths a 0) gs
+        → slice_get (blocks_at a (outer_index a is) gs) (get_or is a 0 * size (drop (suc a) ns) + rank (drop (suc a) ns) (drop (suc a) is)) ≡ concatenation_cell a gs is
+    concatenation-at [] whole each is n b lt = absurd (omega arith)
+    concatenation-at (g ∷ gs) whole each is n b lt =
         let v : ℕ = get_or g.lengths a 0 in
         let i : ℕ = get_or is a 0 in
         let q : ℕ = rank (drop (suc a) ns) (drop (suc a) is) in
@@ -95,7 +95,7 @@ module _ {A : Type 0} (a : ℕ) where
               let place : i * size (drop (suc a) ns) + q ≡ rank (drop a g.lengths) (drop a is) = sym (rank-here a ns below v is l) ∙ ap (λ ms. rank (drop a ms) (drop a is)) (sym e) in
               slice_get-first (block_at a ps g) (blocks_at a ps gs) (i * size (drop (suc a) ns) + q) (omega (arith, long, m, s, q-lt))
               ∙ (ap (slice_get (block_at a ps g)) place
-              ∙ (block-cell g is w there ∙ sym (ap (λ t. if t then cell g is else concatenated_cell a gs (set is a (i - v))) (lt-ltb i v here)))))
+              ∙ (block-cell g is w there ∙ sym (ap (λ t. if t then cell g is else concatenation_cell a gs (set is a (i - v))) (lt-ltb i v here)))))
           | inr other ↦
               (let js : List ℕ = set is a (i - v) in
               let sum = sum_by-cons (λ h. get_or h.lengths a 0) g gs in
@@ -105,12 +105,12 @@ module _ {A : Type 0} (a : ℕ) where
               let drops : drop (suc a) js ≡ drop (suc a) is = drop-set-lt (suc a) is a (i - v) (omega arith) in
               let there : get_or js a 0 * size (drop (suc a) ns) + rank (drop (suc a) ns) (drop (suc a) js) ≡ (i - v) * size (drop (suc a) ns) + q = ap (λ x. x * size (drop (suc a) ns) + rank (drop (suc a) ns) (drop (suc a) js)) index ∙ ap (λ ks. (i - v) * size (drop (suc a) ns) + rank (drop (suc a) ns) ks) drops in
               let box : InBox (set ns a (suc (i - v))) js = subst (λ ms. InBox ms js) (set-set ns a n (suc (i - v))) (InBox-set_both (set ns a n) is a (suc (i - v)) (i - v) b (omega arith)) in
-              let ih = concatenated-at gs (All-tail IsGrid g gs whole) (All-tail (λ h. h.lengths ≡ set ns a (get_or h.lengths a 0)) g gs each) js (suc (i - v)) box (omega (arith, index, sum, lt, other)) in
+              let ih = concatenation-at gs (All-tail IsGrid g gs whole) (All-tail (λ h. h.lengths ≡ set ns a (get_or h.lengths a 0)) g gs each) js (suc (i - v)) box (omega (arith, index, sum, lt, other)) in
               ap (slice_get (block_at a ps g ++ blocks_at a ps gs)) (let p : i * size (drop (suc a) ns) + q ≡ length (block_at a ps g) + ((i - v) * size (drop (suc a) ns) + q) = omega (arith, long, split) in p)
               ∙ (slice_get-rest (block_at a ps g) (blocks_at a ps gs) ((i - v) * size (drop (suc a) ns) + q)
               ∙ (ap (slice_get (blocks_at a ps gs)) (sym there)
               ∙ (ap (λ xs. slice_get (blocks_at a xs gs) (get_or js a 0 * size (drop (suc a) ns) + rank (drop (suc a) ns) (drop (suc a) js))) (sym (outer_index-set a (i - v) is))
-              ∙ (ih ∙ sym (ap (λ t. if t then cell g is else concatenated_cell a gs js) (le-ltb i v other)))))))
+              ∙ (ih ∙ sym (ap (λ t. if t then cell g is else concatenation_cell a gs js) (le-ltb i v other)))))))
         ]
 
     module _ (gs : List (Grid A)) (whole : All IsGrid gs) (each : All (λ g. g.lengths ≡ set ns a (get_or g.lengths a 0)) gs) where
@@ -124,14 +124,14 @@ module _ {A : Type 0} (a : ℕ) where
       all-outer : All (λ ps. length (blocks_at a ps gs) ≡ total * size (drop (suc a) ns)) (row_order (outer_lengths a ns))
       all-outer k d lt = length-outer (get_or (row_order (outer_lengths a ns)) k d) ((row_order-is (outer_lengths a ns)).within k d lt)
 
-      concatenated-many : length (all_blocks a (outer_lengths a ns) gs) ≡ size (set ns a total)
-      concatenated-many =
+      concatenation-many : length (all_blocks a (outer_lengths a ns) gs) ≡ size (set ns a total)
+      concatenation-many =
           length-same_blocks (λ ps. blocks_at a ps gs) (total * size (drop (suc a) ns)) (row_order (outer_lengths a ns)) all-outer
           ∙ (ap (λ m. m * (total * size (drop (suc a) ns))) (length-row_order (outer_lengths a ns)) ∙ sym (size-set a total ns below))
 
-      concatenated-array : (r : Grid A) → IsGrid r → r.lengths ≡ set ns a total → r.cells ≡ all_blocks a (outer_lengths a ns) gs → r ≡ tabulate (set ns a total) (concatenated_cell a gs)
-      concatenated-array r wr e cells =
-          tabulate-is r (set ns a total) (concatenated_cell a gs) wr e
+      concatenation-array : (r : Grid A) → IsGrid r → r.lengths ≡ set ns a total → r.cells ≡ all_blocks a (outer_lengths a ns) gs → r ≡ tabulate (set ns a total) (concatenation_cell a gs)
+      concatenation-array r wr e cells =
+          tabulate-is r (set ns a total) (concatenation_cell a gs) wr e
           (λ is b.
           let c : InBox (set ns a total) is = subst (λ ms. InBox ms is) e b in
           let ls = length-set ns a total in
@@ -149,7 +149,7 @@ module _ {A : Type 0} (a : ℕ) where
           ∙ (ap (λ xs. slice_get xs (rank (outer_lengths a ns) ps * (total * size (drop (suc a) ns)) + r_at)) cells
           ∙ (slice_get-same_blocks (λ qs. blocks_at a qs gs) (total * size (drop (suc a) ns)) (row_order (outer_lengths a ns)) (rank (outer_lengths a ns) ps) r_at [] all-outer (omega (arith, first, lr)) inside
           ∙ (ap (λ qs. slice_get (blocks_at a qs gs) r_at) (row_order-at (outer_lengths a ns) ps [] outer)
-          ∙ concatenated-at gs whole each is total c index)))))
+          ∙ concatenation-at gs whole each is total c index)))))
 
   -- ---- along a new axis
 
@@ -168,14 +168,14 @@ module _ {A : Type 0} (a : ℕ) where
         let ps : List ℕ = get_or (row_order (outer_lengths a ns)) k d in
         length-same_blocks (block_at a ps) one gs (length-one ps ((row_order-is (outer_lengths a ns)).within k d lt))
 
-    stacked-many : length (all_blocks a (outer_lengths a ns) gs) ≡ size (insert ns a (length gs))
-    stacked-many =
+    stack_of-many : length (all_blocks a (outer_lengths a ns) gs) ≡ size (insert ns a (length gs))
+    stack_of-many =
         length-same_blocks (λ ps. blocks_at a ps gs) (length gs * one) (row_order (outer_lengths a ns)) all-same
         ∙ (ap (λ m. m * (length gs * one)) (length-row_order (outer_lengths a ns)) ∙ sym (size-insert ns a (length gs) most))
 
-    stacked-array : (r : Grid A) → IsGrid r → r.lengths ≡ insert ns a (length gs) → r.cells ≡ all_blocks a (outer_lengths a ns) gs → r ≡ tabulate (insert ns a (length gs)) (stacked_cell a gs)
-    stacked-array r wr e cells =
-        tabulate-is r (insert ns a (length gs)) (stacked_cell a gs) wr e
+    stack_of-array : (r : Grid A) → IsGrid r → r.lengths ≡ insert ns a (length gs) → r.cells ≡ all_blocks a (outer_lengths a ns) gs → r ≡ tabulate (insert ns a (length gs)) (stack_cell a gs)
+    stack_of-array r wr e cells =
+        tabulate-is r (insert ns a (length gs)) (stack_cell a gs) wr e
         (λ is b.
         let c : InBox (insert ns a (length gs)) is = subst (λ ms. InBox ms is) e b in
         let li = length-insert ns a (length gs) most in
@@ -222,7 +222,7 @@ record AreAlong {A : Type 0} (a : ℕ) (ns : List ℕ) (gs : List (Grid A)) : Ty
 are-along : {A : Type 0} (a : ℕ) (g : Grid A) (gs : List (Grid A)) → concatenate_error a (shapes_of (g ∷ gs)) ≡ None → AreAlong a g.lengths (g ∷ gs)
 are-along a g gs none =
     let ns : List ℕ = g.lengths in
-    let ms : List ℕ = concatenated_lengths a (shapes_of (g ∷ gs)) in
+    let ms : List ℕ = concatenation_lengths a (shapes_of (g ∷ gs)) in
     let (axis, rest) = if-none (not (nat_lt a (length ns))) OutOfBounds
     (if not (list_all (is_same_but_along a ns) (shapes_of gs)) then Some IncompatibleShape else if not (is_within_limit ms) then Some Overflow else None) none in
     let (shapes, last) = if-none (not (list_all (is_same_but_along a ns) (shapes_of gs))) IncompatibleShape (if not (is_within_limit ms) then Some Overflow else None) rest in
@@ -243,7 +243,7 @@ record AreAlike {A : Type 0} (a : ℕ) (ns : List ℕ) (gs : List (Grid A)) : Ty
 are-alike : {A : Type 0} (a : ℕ) (g : Grid A) (gs : List (Grid A)) → stack_error a (shapes_of (g ∷ gs)) ≡ None → AreAlike a g.lengths (g ∷ gs)
 are-alike a g gs none =
     let ns : List ℕ = g.lengths in
-    let ms : List ℕ = stacked_lengths a (shapes_of (g ∷ gs)) in
+    let ms : List ℕ = stack_lengths a (shapes_of (g ∷ gs)) in
     let (axis, rest) = if-none (nat_lt (length ns) a) OutOfBounds
     (if not (list_all (same_index ns) (shapes_of gs)) then Some IncompatibleShape else if nat_lt 32 (length ns + 1) then Some RangeLimited else if not (is_within_limit ms) then Some Overflow else None) none in
     let (shapes, more) = if-none (not (list_all (same_index ns) (shapes_of gs))) IncompatibleShape (if nat_lt 32 (length ns + 1) then Some RangeLimited else if not (is_within_limit ms) then Some Overflow else None) rest in
@@ -259,7 +259,7 @@ are-alike a g gs none =
 module _ {A : Type 0} (a : ℕ) where
   -- ---- the blocks may be joined
 
-  pub may-concatenate : (gs : List (Grid A)) (os ms : List ℕ) → JoinsAs a (concatenate_error a) (concatenated_lengths a) gs os ms → MayJoin a gs os ms
+  pub may-concatenate : (gs : List (Grid A)) (os ms : List ℕ) → JoinsAs a (concatenate_error a) (concatenation_lengths a) gs os ms → MayJoin a gs os ms
   may-concatenate [] os ms j = absurd (let n = j.none in cc)
   may-concatenate (g ∷ gs) os ms j =
       let ns : List ℕ = g.lengths in
@@ -268,7 +268,7 @@ module _ {A : Type 0} (a : ℕ) where
       record {
         limit = subst (λ ks. nonzero_size ks < 2 ^ 63) (sym lengths) k.limit;
         outer_limit = j.outer_limit;
-        many = ap (λ os. length (all_blocks a os (g ∷ gs))) j.outer ∙ (concatenated-many a ns k.below (g ∷ gs) j.whole k.each ∙ ap size (sym lengths));
+        many = ap (λ os. length (all_blocks a os (g ∷ gs))) j.outer ∙ (concatenation-many a ns k.below (g ∷ gs) j.whole k.each ∙ ap size (sym lengths));
         blocks = λ is b i d lt.
             let h : Grid A = get_or (g ∷ gs) i d in
             let e = k.each i d lt in
@@ -278,7 +278,7 @@ module _ {A : Type 0} (a : ℕ) where
             HasBlockAt-outer a h is (omega (arith, l, below)) (subst (λ ks. InBox ks is) (sym same) b);
       }
 
-  pub may-stack : (gs : List (Grid A)) (os ms : List ℕ) → JoinsAs a (stack_error a) (stacked_lengths a) gs os ms → MayJoin a gs os ms
+  pub may-stack : (gs : List (Grid A)) (os ms : List ℕ) → JoinsAs a (stack_error a) (stack_lengths a) gs os ms → MayJoin a gs os ms
   may-stack [] os ms j = absurd (let n = j.none in cc)
   may-stack (g ∷ gs) os ms j =
       let ns : List ℕ = g.lengths in
@@ -287,7 +287,7 @@ module _ {A : Type 0} (a : ℕ) where
       record {
         limit = subst (λ ks. nonzero_size ks < 2 ^ 63) (sym lengths) k.limit;
         outer_limit = j.outer_limit;
-        many = ap (λ os. length (all_blocks a os (g ∷ gs))) j.outer ∙ (stacked-many a ns k.most (g ∷ gs) j.whole k.each ∙ ap size (sym lengths));
+        many = ap (λ os. length (all_blocks a os (g ∷ gs))) j.outer ∙ (stack_of-many a ns k.most (g ∷ gs) j.whole k.each ∙ ap size (sym lengths));
         blocks = λ is b i d lt.
             let h : Grid A = get_or (g ∷ gs) i d in
             let e : h.lengths ≡ ns = k.each i d lt in
@@ -297,20 +297,20 @@ module _ {A : Type 0} (a : ℕ) where
 
   -- ---- and are the array
 
-  pub concatenated-is : (gs : List (Grid A)) (os ms : List ℕ) → JoinsAs a (concatenate_error a) (concatenated_lengths a) gs os ms → (r : Grid A) → IsGrid r → r.lengths ≡ ms → r.cells ≡ all_blocks a os gs → r ≡ concatenated a gs
-  concatenated-is [] os ms j r whole e cells = absurd (let n = j.none in cc)
-  concatenated-is (g ∷ gs) os ms j r whole e cells =
+  pub concatenation-is : (gs : List (Grid A)) (os ms : List ℕ) → JoinsAs a (concatenate_error a) (concatenation_lengths a) gs os ms → (r : Grid A) → IsGrid r → r.lengths ≡ ms → r.cells ≡ all_blocks a os gs → r ≡ concatenation a gs
+  concatenation-is [] os ms j r whole e cells = absurd (let n = j.none in cc)
+  concatenation-is (g ∷ gs) os ms j r whole e cells =
       let ns : List ℕ = g.lengths in
       let k = are-along a g gs j.none in
       let sums = ap (set ns a) (sum-shapes a (g ∷ gs)) in
-      concatenated-array a ns k.below (g ∷ gs) j.whole k.each r whole (e ∙ (j.lengths ∙ sums)) (cells ∙ ap (λ os. all_blocks a os (g ∷ gs)) j.outer)
-      ∙ ap (λ ks. tabulate ks (concatenated_cell a (g ∷ gs))) (sym sums)
+      concatenation-array a ns k.below (g ∷ gs) j.whole k.each r whole (e ∙ (j.lengths ∙ sums)) (cells ∙ ap (λ os. all_blocks a os (g ∷ gs)) j.outer)
+      ∙ ap (λ ks. tabulate ks (concatenation_cell a (g ∷ gs))) (sym sums)
 
-  pub stacked-is : (gs : List (Grid A)) (os ms : List ℕ) → JoinsAs a (stack_error a) (stacked_lengths a) gs os ms → (r : Grid A) → IsGrid r → r.lengths ≡ ms → r.cells ≡ all_blocks a os gs → r ≡ stacked a gs
-  stacked-is [] os ms j r whole e cells = absurd (let n = j.none in cc)
-  stacked-is (g ∷ gs) os ms j r whole e cells =
+  pub stack_of-is : (gs : List (Grid A)) (os ms : List ℕ) → JoinsAs a (stack_error a) (stack_lengths a) gs os ms → (r : Grid A) → IsGrid r → r.lengths ≡ ms → r.cells ≡ all_blocks a os gs → r ≡ stack_of a gs
+  stack_of-is [] os ms j r whole e cells = absurd (let n = j.none in cc)
+  stack_of-is (g ∷ gs) os ms j r whole e cells =
       let ns : List ℕ = g.lengths in
       let k = are-alike a g gs j.none in
       let counts = ap (insert ns a) (length-map (g ∷ gs) (λ h. h.lengths)) in
-      stacked-array a ns k.most (g ∷ gs) j.whole k.each r whole (e ∙ (j.lengths ∙ counts)) (cells ∙ ap (λ os. all_blocks a os (g ∷ gs)) j.outer)
-      ∙ ap (λ ks. tabulate ks (stacked_cell a (g ∷ gs))) (sym counts)
+      stack_of-array a ns k.most (g ∷ gs) j.whole k.each r whole (e ∙ (j.lengths ∙ counts)) (cells ∙ ap (λ os. all_blocks a os (g ∷ gs)) j.outer)
+      ∙ ap (λ ks. tabulate ks (stack_cell a (g ∷ gs))) (sym counts)

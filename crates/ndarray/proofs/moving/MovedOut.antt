@@ -5,7 +5,7 @@ use Rattle.std.specs.List.{cons_option}
 use Rattle.std.proofs.lemmas.List.{get_or-set_other, get_or_default, length-map}
 use lib.ListN.{set, length-set}
 use Rattle.ndarray.specs.base.Slots.{IsFilled}
-use Rattle.ndarray.specs.places.Moving.{found, Stands}
+use Rattle.ndarray.specs.places.Moving.{found, HoldsAllButPassed}
 
 module _ {X : Type 0} where
   -- a row of full slots holds the list
@@ -35,8 +35,8 @@ module _ {X : Type 0} where
   stays-empty (c ∷ cs) (suc p) (suc q) e = stays-empty cs p q e
 
   -- where the way has not begun
-  pub stands-new : (passed : ℕ → Type 0) (places : List ℕ) (xs : List X) → All (λ p. p < length xs) places → ((p : ℕ) → passed p → ⊥) → Stands passed places (map Some xs)
-  stands-new passed places xs within begins = record {
+  pub holds-new : (passed : ℕ → Type 0) (places : List ℕ) (xs : List X) → All (λ p. p < length xs) places → ((p : ℕ) → passed p → ⊥) → HoldsAllButPassed passed places (map Some xs)
+  holds-new passed places xs within begins = record {
     there = λ p lt not_yet. there-full xs p lt;
     gone = λ p was. absurd (begins p was);
     ahead = λ k d lt. there-full xs (get_or places k d) (subst (λ n. get_or places k d < n) (sym (length-map xs (λ x. Some x))) (within k d lt));
@@ -47,9 +47,9 @@ module _ {X : Type 0} where
   found-new xs places = λ i. filter_map (λ p. slot-full xs p i) places
 
   -- after the first place was passed, and its element moved out
-  pub stands-next : (passed passed' : ℕ → Type 0) (p : ℕ) (places : List ℕ) (cs : List (Option X))
-      → Stands passed (p ∷ places) cs → (Contains places p → ⊥) → ((q : ℕ) → passed' q ↔ (passed q ⊎ (◌≡◌ {A = Option ℕ} (Some p) (Some q)))) → Stands passed' places (set cs p None)
-  stands-next passed passed' p places cs s once now = record {
+  pub holds-next : (passed passed' : ℕ → Type 0) (p : ℕ) (places : List ℕ) (cs : List (Option X))
+      → HoldsAllButPassed passed (p ∷ places) cs → (Contains places p → ⊥) → ((q : ℕ) → passed' q ↔ (passed q ⊎ (◌≡◌ {A = Option ℕ} (Some p) (Some q)))) → HoldsAllButPassed passed' places (set cs p None)
+  holds-next passed passed' p places cs s once now = record {
     there = λ q lt not_yet.
         let other : q ≢ p = λ e. not_yet ((now q).1 (inr (ap (λ k. Some k) (sym e)))) in
         let had = s.there q (subst (λ n. q < n) (length-set cs p None) lt) (λ was. not_yet ((now q).1 (inl was))) in

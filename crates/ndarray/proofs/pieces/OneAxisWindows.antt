@@ -15,7 +15,7 @@ use Rattle.ndarray.specs.Views.{axis_part}
 use Rattle.ndarray.specs.Subviews.{ArePositive, axis_windows_of, chunk_counts, exact_chunks_of, window_index, window, window_count, window_counts, windows_of}
 use Rattle.ndarray.specs.base.Pieces.{AreWindowsOf}
 use Rattle.ndarray.proofs.boxes.Boxes.{InBox-length}
-use Rattle.ndarray.proofs.cells.Cells.{tabulate-same, arranged-same}
+use Rattle.ndarray.proofs.cells.Cells.{tabulate-same, array_by-same}
 use Rattle.ndarray.proofs.lists.Elements.{map-same}
 use Rattle.ndarray.proofs.boxes.Orders.{row_order-one, row_order-ones}
 use Rattle.ndarray.proofs.pieces.Windows.{none, some}
@@ -38,7 +38,7 @@ window_counts-chunks (n ∷ ns) (c ∷ cs) l h =
     cc
 
 pub exact_chunks-windows : {A : Type 0} (g : Grid A) (cs : List ℕ) → ArePositive g.lengths cs → windows_of g cs cs ≡ exact_chunks_of g cs
-exact_chunks-windows g cs h = arranged-same (window_counts g.lengths cs cs) (chunk_counts g.lengths cs) (window g cs cs) (window g cs cs) (window_counts-chunks g.lengths cs h.as_many h.positive) (λ is b. refl)
+exact_chunks-windows g cs h = array_by-same (window_counts g.lengths cs cs) (chunk_counts g.lengths cs) (window g cs cs) (window g cs cs) (window_counts-chunks g.lengths cs h.as_many h.positive) (λ is b. refl)
 
 -- ---- one axis
 

@@ -4,11 +4,11 @@ use Rattle.std.specs.Prelude.{insert, remove}
 use Rattle.std.proofs.Math.Nat.{add-mod-mod}
 use Rattle.ndarray.specs.Index.{InBox}
 use Rattle.ndarray.specs.Limits.{IsWithinLimit}
-use Rattle.ndarray.specs.Grid.{Grid, cell, tabulate, arranged}
+use Rattle.ndarray.specs.Grid.{Grid, cell, tabulate, array_by}
 use Rattle.ndarray.specs.Subviews.{lanes_of}
 use Rattle.ndarray.specs.base.Places.{dot, place, Reaches, Rearranges, grid_at}
 use Rattle.ndarray.specs.base.Pieces.{ReachPieces, pieces_at}
-use Rattle.ndarray.proofs.cells.Cells.{arranged-cell, arranged-same, arranged-whole, tabulate-is}
+use Rattle.ndarray.proofs.cells.Cells.{array_by-cell, array_by-same, array_by-whole, tabulate-is}
 use Rattle.ndarray.proofs.views.Images.{Reaches-rearranged, grid-seen}
 use Rattle.std.proofs.Math.Nat.{mod-add-mod}
 use Rattle.std.proofs.lemmas.List.Edits.{length-remove}
@@ -31,9 +31,9 @@ module _ {ns : List ℕ} {start : ℕ} {bs ps steps ms cs : List ℕ} {f : List 
     each = λ p b. Reaches-same at at' ms (place start steps p) cs (λ no. no) (λ q. sym (e q)) (Reaches-rearranged (r.each p b) at (λ no. absurd no) h);
   }
 
-  pub pieces-seen : {A one : Type 0} (at at' : ℕ → Option A) (g : Grid A) (qs ls : List ℕ) → ((p : ℕ) → at' p ≡ at p) → Reaches one at ns start bs → grid_at at ns start bs ≡ g → ps ≡ qs → ms ≡ ls → pieces_at at' ps start steps ms cs ≡ arranged qs (λ p. tabulate ls (λ js. cell g (f p js)))
+  pub pieces-seen : {A one : Type 0} (at at' : ℕ → Option A) (g : Grid A) (qs ls : List ℕ) → ((p : ℕ) → at' p ≡ at p) → Reaches one at ns start bs → grid_at at ns start bs ≡ g → ps ≡ qs → ms ≡ ls → pieces_at at' ps start steps ms cs ≡ array_by qs (λ p. tabulate ls (λ js. cell g (f p js)))
   pieces-seen at at' g qs ls e h v eq el =
-      arranged-same ps qs (λ p. grid_at at' ms (place start steps p) cs) (λ p. tabulate ls (λ js. cell g (f p js))) eq
+      array_by-same ps qs (λ p. grid_at at' ms (place start steps p) cs) (λ p. tabulate ls (λ js. cell g (f p js))) eq
       (λ p b. grid-seen (r.each p b) at at' g ls e h v el)
 
 -- ---- the pieces at some of the positions
@@ -52,11 +52,11 @@ module _ {ps : List ℕ} {start : ℕ} {steps ps' : List ℕ} {start' : ℕ} {st
 
   pub some-seen : (g : Grid (Grid A)) (ls : List ℕ) → pieces_at at ps start steps ns bs ≡ g → ps' ≡ ls → pieces_at at ps' start' steps' ns bs ≡ tabulate ls (λ js. cell g (f js))
   some-seen g ls v el =
-      tabulate-is (pieces_at at ps' start' steps' ns bs) ls (λ js. cell g (f js)) (arranged-whole ps' (λ p. grid_at at ns (place start' steps' p) bs)) el
+      tabulate-is (pieces_at at ps' start' steps' ns bs) ls (λ js. cell g (f js)) (array_by-whole ps' (λ p. grid_at at ns (place start' steps' p) bs)) el
       (λ js b.
-      arranged-cell ps' (λ p. grid_at at ns (place start' steps' p) bs) js b
+      array_by-cell ps' (λ p. grid_at at ns (place start' steps' p) bs) js b
       ∙ (ap (λ q. Some (grid_at at ns q bs)) (r.same js b)
-      ∙ (sym (arranged-cell ps (λ p. grid_at at ns (place start steps p) bs) (f js) (r.image js b)) ∙ ap (λ y. cell y (f js)) v)))
+      ∙ (sym (array_by-cell ps (λ p. grid_at at ns (place start steps p) bs) (f js) (r.image js b)) ∙ ap (λ y. cell y (f js)) v)))
 
 -- ---- items along an axis
 

@@ -5,7 +5,7 @@ use Rattle.std.proofs.lemmas.Bool.{cases_lt}
 use Rattle.std.proofs.lemmas.List.{get_or_default, get_or-map, length-map}
 use Rattle.std.proofs.lemmas.Simd.{map-map}
 use Rattle.ndarray.specs.Index.{InBox, row_order, column_order, IsOrderOf}
-use Rattle.ndarray.specs.Grid.{arranged, cell, grid}
+use Rattle.ndarray.specs.Grid.{array_by, cell, grid}
 use Rattle.ndarray.specs.Limits.{IsWithinLimit}
 use Rattle.ndarray.specs.Orders.{box_in, cells_in}
 use Rattle.ndarray.specs.base.Places.{place, Reaches, Rearranges, grid_at}
@@ -15,7 +15,7 @@ use Rattle.ndarray.specs.base.Pieces.{SharePieces, piece_layout, piece_layouts, 
 use Rattle.ndarray.specs.declared.base.shape.Order.{Order}
 use Rattle.ndarray.specs.declared.base.shape.Order.TheVariants.{RowMajor, ColumnMajor}
 use Rattle.ndarray.specs.base.Ranks.{rank}
-use Rattle.ndarray.proofs.cells.Cells.{arranged-cell}
+use Rattle.ndarray.proofs.cells.Cells.{array_by-cell}
 use Rattle.ndarray.proofs.views.Cuts.{rearranges-part}
 use Rattle.ndarray.proofs.lists.Elements.{filter_map-from_map, map-same}
 use Rattle.ndarray.proofs.boxes.Orders.{length-row_order, row_order-is, row_order-at, rank-lt, column_order-is, box_in-within, IsBefore-not_itself}
@@ -147,5 +147,5 @@ module _ {A : Type 0} (start : ℕ) (steps ns bs : List ℕ) where
   pieces-in at o ps =
       let piece = λ (p : List ℕ). grid_at at ns (place start steps p) bs in
       map-map _ _ (box_in o ps)
-      ∙ sym (filter_map-from_map (cell (arranged ps piece)) (box_in o ps) (map piece (box_in o ps))
-      (map-same (cell (arranged ps piece)) (λ p. Some (piece p)) (InBox ps) (box_in o ps) (λ p b. arranged-cell ps piece p b) (box_in-within o ps) ∙ sym (map-map Some piece (box_in o ps))))
+      ∙ sym (filter_map-from_map (cell (array_by ps piece)) (box_in o ps) (map piece (box_in o ps))
+      (map-same (cell (array_by ps piece)) (λ p. Some (piece p)) (InBox ps) (box_in o ps) (λ p b. array_by-cell ps piece p b) (box_in-within o ps) ∙ sym (map-map Some piece (box_in o ps))))

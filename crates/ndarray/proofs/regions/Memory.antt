@@ -53,8 +53,8 @@ abbrev pub Sn : El → RattleType
 Sn E = S-type.the_row (R E)
 
 -- a `SharedRegion` as a region has it
-abbrev pub at_start : (E : El) → Ptr → (Sn E).Denot
-at_start E p = record { ptr = p; marker = record {}; slots = [] }
+abbrev pub shared_at_start : (E : El) → Ptr → (Sn E).Denot
+shared_at_start E p = record { ptr = p; marker = record {}; slots = [] }
 
 -- what a region's own `SharedRegion` owns
 abbrev pub NoPlaces : (E : El) → (Sn E).Denot → Fml
@@ -87,8 +87,8 @@ module _ (a : RattleType) (E : El) where
       fpack ! (Valss (Sn E ∷ Mark ∷ [])) (within (shape (G-type.the_type a (R E))) (s, (tt, tt)) (reg s.ptr ∷ [])) (shared_reg s.ptr ∷ [], (vstruct vnil ∷ [], tt)) $ done !
 
   -- those of a region that is made
-  pub words_new : {M : Type 1} {𝓤 : Ura M} (𝓛 : Logic 𝓤) (b o : ℕ) → ent 𝓤 (emp 𝓤) (sem 𝓛 (Words.own_val (at_start E (block_ptr b o), (tt, tt)) (reg (block_ptr b o) ∷ [])))
-  words_new 𝓛 b o = qed 𝓛 [] ∵ nothing ! $ flt_i ! (0 * (mem (R E)).size) (2 ^ 63) (omega (arith, zero-mul (mem (R E)).size)) $ fjoin ! $ by ! (words_made 𝓛 (at_start E (block_ptr b o)))
+  pub words_new : {M : Type 1} {𝓤 : Ura M} (𝓛 : Logic 𝓤) (b o : ℕ) → ent 𝓤 (emp 𝓤) (sem 𝓛 (Words.own_val (shared_at_start E (block_ptr b o), (tt, tt)) (reg (block_ptr b o) ∷ [])))
+  words_new 𝓛 b o = qed 𝓛 [] ∵ nothing ! $ flt_i ! (0 * (mem (R E)).size) (2 ^ 63) (omega (arith, zero-mul (mem (R E)).size)) $ fjoin ! $ by ! (words_made 𝓛 (shared_at_start E (block_ptr b o)))
 
 module _ {M : Type 1} {𝓤 : Ura M} {𝓛 : Logic 𝓤} {K : Type 0} {Γ : List (Item 𝓤)} {G : Goal 𝓤 𝓛.H} where
   pub words_had : K → (a : RattleType) (E : El) (s : (Sn E).Denot) (vs : List Val) → (vs ≡ reg s.ptr ∷ [] → Seq K 𝓛 (‵ (NoPlaces E s) ∷ Γ) G) → Seq K 𝓛 (‵ ((Words a E).own_val (s, (tt, tt)) vs) ∷ Γ) G

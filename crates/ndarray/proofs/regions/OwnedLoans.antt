@@ -11,11 +11,11 @@ use Rattle.ndarray.specs.Writes.{refit}
 use Rattle.ndarray.specs.base.Parts.{cells_from}
 use Rattle.ndarray.specs.base.Places.{place, Reaches, grid_at, places_at}
 use Rattle.ndarray.specs.declared.base.shape.Order.TheVariants.{RowMajor}
-use Rattle.ndarray.specs.places.Lent.{AreLentAt}
+use Rattle.ndarray.specs.places.ElementPlaces.{AreDistinctPlaces}
 use Rattle.ndarray.proofs.lists.Elements.{some-of}
 use Rattle.ndarray.proofs.lists.Pairs.{AllPairs-tail}
 use Rattle.ndarray.proofs.lists.Refits.{length-refit, refit-all, refit-front}
-use Rattle.ndarray.proofs.moving.LentCells.{AreLentAt-all}
+use Rattle.ndarray.proofs.moving.BorrowedCells.{AreDistinctPlaces-all}
 use Rattle.ndarray.proofs.strides.Reach.{length-cells_at}
 use Rattle.ndarray.proofs.boxes.Orders.{length-row_order}
 use Rattle.ndarray.specs.Index.{row_order}
@@ -88,8 +88,8 @@ module _ {A : Type 0} (ps : List ℕ) (xs ws₀ : List A) where
 
 -- so it is with an array that owns its cells
 module _ {A : Type 0} (ws₀ : List A) (ns : List ℕ) (start : ℕ) (bs : List ℕ) (h : Reaches ⊤ (slice_get ws₀) ns start bs) (g : Grid A) (v : grid_at (slice_get ws₀) ns start bs ≡ g) where
-  lent : AreLentAt (slice_get ws₀) (places_at ns start bs)
-  lent = AreLentAt-all (slice_get ws₀) ns start bs h RowMajor
+  lent : AreDistinctPlaces (slice_get ws₀) (places_at ns start bs)
+  lent = AreDistinctPlaces-all (slice_get ws₀) ns start bs h RowMajor
 
   many : length g.cells ≡ length (places_at ns start bs)
   many = sym (ap (λ y. length y.cells) v) ∙ (length-cells_at (slice_get ws₀) ns start bs h ∙ sym (length-map (row_order ns) (place start bs) ∙ length-row_order ns))

@@ -74,8 +74,8 @@ module _ {A X : Type 0} (o : Order) {ns ks ms ls : List ℕ} {yields_at shown fi
   first-many : length (map at-first (box_in o ms)) ≡ size ms
   first-many = length-map (box_in o ms) at-first ∙ length-box_in o ms
 
-  pub along-first : map at-first (box_in o ms) ≡ map Some (take (size ms) xs)
-  along-first =
+  pub at-first-along : map at-first (box_in o ms) ≡ map Some (take (size ms) xs)
+  at-first-along =
       sym (take-append_seam (map at-first (box_in o ms)) (map at-rest (box_in o ls)))
       ∙ (ap (take (length (map at-first (box_in o ms)))) halves ∙ (ap (λ n. take n (map Some xs)) first-many ∙ take-map (λ x. Some x) (size ms) xs))
 
@@ -261,8 +261,8 @@ module _ {A X F E : Type 0} {o : Order} {ns : List ℕ} {yields_at : List ℕ �
         let m : 1 * each ≤ get_or ls axis 0 * each = mul-le 1 each (get_or ls axis 0) each (omega (arith, long)) (omega arith) in
         length-take-le part (drop from now) (omega (arith, left-many, m, all-of))
 
-    pub first-along : map seen-first (box_in o ms) ≡ map Some (take part (drop from now))
-    first-along = along-first o shows-own (IsCutAt-first o slowest long low high) low high left.seen (drop from now) left.along ∙ ap (λ n. map Some (take n (drop from now))) span
+    pub first-seen_along : map seen-first (box_in o ms) ≡ map Some (take part (drop from now))
+    first-seen_along = at-first-along o shows-own (IsCutAt-first o slowest long low high) low high left.seen (drop from now) left.along ∙ ap (λ n. map Some (take n (drop from now))) span
 
     pub first-failed : (e : E) (ys : List A) → length ys ≡ length (take part (drop from now)) → OverwritesTo (is_beside seen-first first) call_gives (box_in o ms) h (take part (drop from now)) (Err e) ys
         → OverwritesTo (is_beside at yields_at) call_gives (box_in o ns) f xs (Err e) (take from now ++ (ys ++ drop part (drop from now)))

@@ -40,16 +40,16 @@ YieldsInTurn-both next others yields_at other_yields_at {is} {is'} s t z e f k v
     YieldsInTurn-pairs zip_first zip_second next others yields_at other_yields_at z k (subst (λ a. YieldsInTurn next yields_at a is) (sym e) v) (subst (λ b. YieldsInTurn others other_yields_at b is') (sym f) w)
 
 module _ {A B : Type 0} (view : A → B) (yields_at : List ℕ → A → Type 0) where
-  -- an item that reads as the value beside an index list may stand there
-  abbrev pub Stands : List (List ℕ) → List B → Type 0
-  Stands [] [] = Unit {0}
-  Stands [] (b ∷ bs) = ⊥
-  Stands (i ∷ is) [] = ⊥
-  Stands (i ∷ is) (b ∷ bs) = ((x : A) → view x ≡ b → yields_at i x) × Stands is bs
+  -- each item that reads as the value beside an index list may be yielded there
+  abbrev pub MayBeYielded : List (List ℕ) → List B → Type 0
+  MayBeYielded [] [] = Unit {0}
+  MayBeYielded [] (b ∷ bs) = ⊥
+  MayBeYielded (i ∷ is) [] = ⊥
+  MayBeYielded (i ∷ is) (b ∷ bs) = ((x : A) → view x ≡ b → yields_at i x) × MayBeYielded is bs
 
 -- an iterator that takes the first of a list
 module _ {S A B : Type 0} (view : A → B) (rest : S → List B) (yields_at : List ℕ → A → Type 0) where
-  from_list : (is : List (List ℕ)) (bs : List B) (s : S) → rest s ≡ bs → Stands view yields_at is bs → YieldsInTurnFrom (YieldsFirstBy view rest) yields_at s is
+  from_list : (is : List (List ℕ)) (bs : List B) (s : S) → rest s ≡ bs → MayBeYielded view yields_at is bs → YieldsInTurnFrom (YieldsFirstBy view rest) yields_at s is
   from_list [] [] s e m = λ x j st. let k : [] ≡ view x ∷ rest j = sym e ∙ st in cc
   from_list [] (b ∷ bs) s e m = absurd m
   from_list (i ∷ is) [] s e m = absurd m
@@ -61,16 +61,16 @@ module _ {S A B : Type 0} (view : A → B) (rest : S → List B) (yields_at : Li
   )
 
   -- it gives what stands beside each index list
-  pub YieldsInTurn-list : {is : List (List ℕ)} (bs : List B) {s : S} → rest s ≡ bs → Stands view yields_at is bs → YieldsInTurn (YieldsFirstBy view rest) yields_at s is
+  pub YieldsInTurn-list : {is : List (List ℕ)} (bs : List B) {s : S} → rest s ≡ bs → MayBeYielded view yields_at is bs → YieldsInTurn (YieldsFirstBy view rest) yields_at s is
   YieldsInTurn-list bs e m = record { from = from_list _ bs _ e m }
 
 module _ {A B : Type 0} (view : A → B) (g : Grid B) where
-  cells-stand : (ys : List (List ℕ)) → HasCells g ys → Stands view (λ i x. cell g i ≡ Some (view x)) ys (filter_map (cell g) ys)
+  cells-stand : (ys : List (List ℕ)) → HasCells g ys → MayBeYielded view (λ i x. cell g i ≡ Some (view x)) ys (filter_map (cell g) ys)
   cells-stand [] h = tt
   cells-stand (i ∷ ys) h =
       let f = HasCells-first g (i ∷ ys) ys i refl h in
       let (b, e) = cell-Some g h.whole i f.0 in
-      subst (Stands view (λ i x. cell g i ≡ Some (view x)) (i ∷ ys)) (sym (along-first g (i ∷ ys) ys i b refl e)) ((λ x k. e ∙ ap Some (sym k)), cells-stand ys f.1)
+      subst (MayBeYielded view (λ i x. cell g i ≡ Some (view x)) (i ∷ ys)) (sym (along-first g (i ∷ ys) ys i b refl e)) ((λ x k. e ∙ ap Some (sym k)), cells-stand ys f.1)
 
   -- the cells of an array in an order are given beside their index lists
   pub YieldsInTurn-cells : {S : Type 0} (rest : S → List B) (o : Order) {s : S} → IsGrid g → rest s ≡ cells_in o g
@@ -109,7 +109,7 @@ YieldsInTurn-slice {A} g o s whole e =
     first t None u st = let e = nil_from_length t.rest.now st.0 in (e, ap (λ w. w.rest.now) st.1 ∙ e)
     first t (Some x) u st = st
 
--- the same of what is lent to write to
+-- the same of references to write to
 pub YieldsInTurn-slice_mut : {A : Type 0} (g : Grid A) (o : Order) (s : IterMut A) → IsGrid g → iter_mut_rest s ≡ cells_in o g
     → YieldsInTurn iter_mut_steps (λ i x. cell g i ≡ Some x.now) s (box_in o g.lengths)
 YieldsInTurn-slice_mut {A} g o s whole e =

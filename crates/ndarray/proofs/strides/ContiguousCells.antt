@@ -4,9 +4,9 @@ use Rattle.std.specs.Prelude.{slice_get, IsTrue, reverse, filter_map}
 use Rattle.std.specs.Option.{is_some}
 use Rattle.std.proofs.lemmas.List.{length-take-le, length-drop, get_or-drop, get_or-take, length-map}
 use Rattle.ndarray.specs.Index.{InBox, size, row_order, column_order}
-use Rattle.ndarray.specs.Grid.{Grid, IsGrid, cell, tabulated}
+use Rattle.ndarray.specs.Grid.{Grid, IsGrid, cell, cells_by}
 use Rattle.ndarray.specs.Orders.{cells_in}
-use Rattle.ndarray.specs.Views.{transposed}
+use Rattle.ndarray.specs.Views.{transpose_of}
 use Rattle.ndarray.specs.declared.base.shape.Order.TheVariants.{RowMajor, ColumnMajor}
 use Rattle.ndarray.specs.base.Ranks.{rank}
 use Rattle.ndarray.specs.base.Places.{place, cells_at, Reaches}
@@ -80,9 +80,9 @@ module _ {X Y Z : Type 0} (f : Y → Option Z) (h : X → Y) where
   filter_map-map (x ∷ xs) = first-mapped x (map h xs) xs (f (h x)) refl (filter_map-map xs)
 
 -- the cells of the transposed array in row order are those of the array in column order
-pub transposed-cells : {A : Type 0} (g : Grid A) → (transposed g).cells ≡ cells_in ColumnMajor g
-unfolding column_order tabulated
-transposed-cells g = sym (filter_map-map (cell g) reverse (row_order (reverse g.lengths)))
+pub transpose_of-cells : {A : Type 0} (g : Grid A) → (transpose_of g).cells ≡ cells_in ColumnMajor g
+unfolding column_order cells_by
+transpose_of-cells g = sym (filter_map-map (cell g) reverse (row_order (reverse g.lengths)))
 
 module _ {X : Type 0} where
   slice_get-drop : (n : ℕ) (xs : List X) (k : ℕ) → slice_get (drop n xs) k ≡ slice_get xs (n + k)

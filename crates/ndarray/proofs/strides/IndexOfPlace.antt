@@ -17,7 +17,7 @@ use Rattle.ndarray.proofs.strides.ForwardAxes.{forward_index-again, turned_list,
 -- what the search for the index list `is` has: of an axis that ms has as long as ns the index is not known yet; of
 -- all others, which ms has with length 1, it is as in `index`. The axes turned forwards, `rest` is how far those that
 -- are not known lie above the lowest place
-pub record Sought (ns bs ms : List ℕ) (rest : ℕ) (index is : List ℕ) : Type 0 where
+pub record SearchState (ns bs ms : List ℕ) (rest : ℕ) (index is : List ℕ) : Type 0 where
   pub up : List ℕ
   pub within : InBox ms up
   pub far : lift up bs ≡ rest
@@ -68,7 +68,7 @@ above_lowest : (start at d low x q : ℕ) → start < 2 ^ 64 → (start + d) % 2
 above_lowest start at d low x q ls ea e lx = omega arith
 
 -- at first no index is known
-pub sought-first : (ns bs index is : List ℕ) (start at : ℕ) → length bs ≡ length ns → AreNested ns bs → start < 2 ^ 64 → InBox ns is → place start bs is ≡ at → ((k : ℕ) → k < length ns → get_or index k 0 ≡ 0) → Sought ns bs ns (((at + (2 ^ 64 - start)) % 2 ^ 64 + sum_over_axes below_first ns bs) % 2 ^ 64) index is
+pub sought-first : (ns bs index is : List ℕ) (start at : ℕ) → length bs ≡ length ns → AreNested ns bs → start < 2 ^ 64 → InBox ns is → place start bs is ≡ at → ((k : ℕ) → k < length ns → get_or index k 0 ≡ 0) → SearchState ns bs ns (((at + (2 ^ 64 - start)) % 2 ^ 64 + sum_over_axes below_first ns bs) % 2 ^ 64) index is
 unfolding place
 sought-first ns bs index is start at l h ls b e zeros =
     let up : List ℕ = turned_list ns bs is in
@@ -85,7 +85,7 @@ sought-first ns bs index is start at l h ls b e zeros =
     }
 
 -- axis k, longer than 1 and of the largest stride of such, is made known
-module _ (ns bs ms index is : List ℕ) (rest k : ℕ) (ln : length ms ≡ length ns) (li : length index ≡ length ns) (lb : length bs ≡ length ns) (lt : k < length ns) (long : 1 < get_or ms k 0) (h : AreNested ms bs) (most : (j : ℕ) → j < length ms → 1 < get_or ms j 0 → magnitude (get_or bs j 0) ≤ magnitude (get_or bs k 0)) (b : InBox ns is) (s : Sought ns bs ms rest index is) where
+module _ (ns bs ms index is : List ℕ) (rest k : ℕ) (ln : length ms ≡ length ns) (li : length index ≡ length ns) (lb : length bs ≡ length ns) (lt : k < length ns) (long : 1 < get_or ms k 0) (h : AreNested ms bs) (most : (j : ℕ) → j < length ms → 1 < get_or ms j 0 → magnitude (get_or bs j 0) ≤ magnitude (get_or bs k 0)) (b : InBox ns is) (s : SearchState ns bs ms rest index is) where
   -- what its stride tells
   told : (rest / magnitude (get_or bs k 0) ≡ get_or s.up k 0) × (lift (set s.up k 0) bs ≡ rest % magnitude (get_or bs k 0))
   told =
@@ -104,7 +104,7 @@ module _ (ns bs ms index is : List ℕ) (rest k : ℕ) (ln : length ms ≡ lengt
       ∙ (ap (forward_index (get_or ns k 0) (get_or bs k 0)) (told.0 ∙ n.1)
       ∙ forward_index-again (get_or ns k 0) (get_or bs k 0) (get_or is k 0) (InBox-get ns is k b lt))
 
-  pub sought-next : (v : ℕ) → v ≡ forward_index (get_or ms k 0) (get_or bs k 0) (rest / magnitude (get_or bs k 0)) → Sought ns bs (set ms k 1) (rest % magnitude (get_or bs k 0)) (set index k v) is
+  pub sought-next : (v : ℕ) → v ≡ forward_index (get_or ms k 0) (get_or bs k 0) (rest / magnitude (get_or bs k 0)) → SearchState ns bs (set ms k 1) (rest % magnitude (get_or bs k 0)) (set index k v) is
   sought-next v e = record {
     up = set s.up k 0;
     within = InBox-set_both ms s.up k 1 0 s.within (omega arith);
@@ -126,7 +126,7 @@ module _ (ns bs ms index is : List ℕ) (rest k : ℕ) (ln : length ms ≡ lengt
   }
 
 -- where no axis is longer than 1, all indices are known
-pub sought-last : (ns bs ms index is : List ℕ) (rest : ℕ) → length index ≡ length ns → ((k : ℕ) → k < length ns → get_or ms k 0 ≤ 1) → InBox ns is → Sought ns bs ms rest index is → index ≡ is
+pub sought-last : (ns bs ms index is : List ℕ) (rest : ℕ) → length index ≡ length ns → ((k : ℕ) → k < length ns → get_or ms k 0 ≤ 1) → InBox ns is → SearchState ns bs ms rest index is → index ≡ is
 sought-last ns bs ms index is rest li short b s =
     let l = InBox-length ns is b in
     ext_get_or 0 index is (omega arith) (λ k lt. s.known k (omega arith) (short k (omega arith)))

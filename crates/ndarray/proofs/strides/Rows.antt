@@ -13,7 +13,7 @@ use Rattle.ndarray.specs.base.Ranks.{row_from}
 use Rattle.ndarray.specs.order.Walks.{TakesRow}
 use Rattle.ndarray.specs.base.Places.{dot, place, Reaches, grid_at}
 use Rattle.ndarray.specs.base.Strided.{places_from, HaveElements}
-use Rattle.ndarray.specs.places.Lent.{places_along, with_places}
+use Rattle.ndarray.specs.places.ElementPlaces.{places_along, with_places}
 use Rattle.ndarray.proofs.cells.Cells.{length-along}
 use Rattle.ndarray.proofs.lists.Elements.{length-filter_map_all, some-of, get_or-append-last}
 use Rattle.ndarray.proofs.strides.Reach.{cell-at, dot-set}
@@ -27,14 +27,14 @@ length-places_from p s zero = refl
 length-places_from p s (suc n) = let ih = length-places_from ((p + s) % 2 ^ 64) s n in omega arith
 
 module _ {A : Type 0} (at : ℕ → Option A) where
-  pub length-stepped : (p s n : ℕ) → HaveElements at (places_from p s n) → length (filter_map at (places_from p s n)) ≡ n
-  length-stepped p s n h = length-filter_map_all at (places_from p s n) (λ k d lt. some-of (at (get_or (places_from p s n) k d)) (h k d lt)) ∙ length-places_from p s n
+  pub length-step_index : (p s n : ℕ) → HaveElements at (places_from p s n) → length (filter_map at (places_from p s n)) ≡ n
+  length-step_index p s n h = length-filter_map_all at (places_from p s n) (λ k d lt. some-of (at (get_or (places_from p s n) k d)) (h k d lt)) ∙ length-places_from p s n
 
-  pub stepped-next : (p s left : ℕ) (x : A) → 0 < left → at p ≡ Some x → filter_map at (places_from p s left) ≡ x ∷ filter_map at (places_from ((p + s) % 2 ^ 64) s (left - 1))
-  stepped-next p s left x h e = rw (places_from-some p s left h, e) refl
+  pub step_index-next : (p s left : ℕ) (x : A) → 0 < left → at p ≡ Some x → filter_map at (places_from p s left) ≡ x ∷ filter_map at (places_from ((p + s) % 2 ^ 64) s (left - 1))
+  step_index-next p s left x h e = rw (places_from-some p s left h, e) refl
 
-  pub stepped-first : (p s left : ℕ) → 0 < left → HaveElements at (places_from p s left) → IsTrue (is_some (at p)) × HaveElements at (places_from ((p + s) % 2 ^ 64) s (left - 1))
-  stepped-first p s left h t =
+  pub step_index-first : (p s left : ℕ) → 0 < left → HaveElements at (places_from p s left) → IsTrue (is_some (at p)) × HaveElements at (places_from ((p + s) % 2 ^ 64) s (left - 1))
+  step_index-first p s left h t =
       let rest : List ℕ = places_from ((p + s) % 2 ^ 64) s (left - 1) in
       let P : ℕ → Type 0 = λ q. IsTrue (is_some (at q)) in
       let w : All P (p ∷ rest) = subst (All P) (places_from-some p s left h) t in
@@ -102,8 +102,8 @@ places_from-last p s zero h some = absurd (omega arith)
 places_from-last p s (suc n) h some = places_from-push n p s h ∙ ap (λ m. places_from p s m ++ ((p + (m * s) % 2 ^ 64) % 2 ^ 64) ∷ []) (let e : n ≡ suc n - 1 = omega arith in e)
 
 module _ {A : Type 0} (at : ℕ → Option A) (p s left : ℕ) (fits : p < 2 ^ 64) (some : 0 < left) (h : HaveElements at (places_from p s left)) where
-  pub stepped-last : IsTrue (is_some (at ((p + ((left - 1) * s) % 2 ^ 64) % 2 ^ 64))) × HaveElements at (places_from p s (left - 1))
-  stepped-last =
+  pub step_index-last : IsTrue (is_some (at ((p + ((left - 1) * s) % 2 ^ 64) % 2 ^ 64))) × HaveElements at (places_from p s (left - 1))
+  step_index-last =
       let rest : List ℕ = places_from p s (left - 1) in
       let q : ℕ = (p + ((left - 1) * s) % 2 ^ 64) % 2 ^ 64 in
       let P : ℕ → Type 0 = λ r. IsTrue (is_some (at r)) in
@@ -111,8 +111,8 @@ module _ {A : Type 0} (at : ℕ → Option A) (p s left : ℕ) (fits : p < 2 ^ 6
       let l = length-append rest (q ∷ []) in
       (subst P (get_or-append-last rest q 0) (w (length rest) 0 (omega arith)), λ k d lt. subst P (get_or_append_left rest (q ∷ []) d k lt) (w k d (omega arith)))
 
-  pub stepped-back : (x : A) → at ((p + ((left - 1) * s) % 2 ^ 64) % 2 ^ 64) ≡ Some x → filter_map at (places_from p s left) ≡ filter_map at (places_from p s (left - 1)) ++ x ∷ []
-  stepped-back x e = ap (filter_map at) (places_from-last p s left fits some) ∙ (filter_map-append at (places_from p s (left - 1)) (((p + ((left - 1) * s) % 2 ^ 64) % 2 ^ 64) ∷ []) ∙ rw e refl)
+  pub step_index-back : (x : A) → at ((p + ((left - 1) * s) % 2 ^ 64) % 2 ^ 64) ≡ Some x → filter_map at (places_from p s left) ≡ filter_map at (places_from p s (left - 1)) ++ x ∷ []
+  step_index-back x e = ap (filter_map at) (places_from-last p s left fits some) ∙ (filter_map-append at (places_from p s (left - 1)) (((p + ((left - 1) * s) % 2 ^ 64) % 2 ^ 64) ∷ []) ∙ rw e refl)
 
 length-row_from : (is : List ℕ) (axis n : ℕ) → length (row_from is axis n) ≡ n
 length-row_from is axis zero = refl

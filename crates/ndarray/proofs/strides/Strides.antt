@@ -48,8 +48,8 @@ strides-more o n p k b bs cs f lt ek l ec eb so_far q h =
     ]
 
 -- the axis that varies q-th fastest in row order has length 1, or the stride that it has where cells lie side by side
-abbrev pub Follows : (ns bs : List ℕ) (q : ℕ) → Type 0
-Follows ns bs q = (get_or ns (axis_in RowMajor (length ns) q) 0 ≡ 1) ⊎ (get_or bs (axis_in RowMajor (length ns) q) 0 ≡ block_in RowMajor ns q)
+abbrev pub IsContiguousAt : (ns bs : List ℕ) (q : ℕ) → Type 0
+IsContiguousAt ns bs q = (get_or ns (axis_in RowMajor (length ns) q) 0 ≡ 1) ⊎ (get_or bs (axis_in RowMajor (length ns) q) 0 ≡ block_in RowMajor ns q)
 
 row-dot : (ns bs is : List ℕ) → length bs ≡ length ns → ((k : ℕ) → k < length ns → (get_or ns k 0 ≡ 1) ⊎ (get_or bs k 0 ≡ size (drop (suc k) ns))) → InBox ns is → dot bs is ≡ rank ns is
 unfolding dot rank
@@ -65,7 +65,7 @@ row-dot (n ∷ ns) (s ∷ bs) (i ∷ is) l h b =
     ] in
     omega arith
 
-dot-follows : (ns bs is : List ℕ) → length bs ≡ length ns → ((q : ℕ) → q < length ns → Follows ns bs q) → InBox ns is → dot bs is ≡ rank ns is
+dot-follows : (ns bs is : List ℕ) → length bs ≡ length ns → ((q : ℕ) → q < length ns → IsContiguousAt ns bs q) → InBox ns is → dot bs is ≡ rank ns is
 dot-follows ns bs is l h b =
     row-dot ns bs is l
     (λ k lt.
@@ -78,7 +78,7 @@ dot-follows ns bs is l h b =
     b
 
 -- where no place comes before the start, cells that lie side by side are counted from there
-pub place-follows : (ns bs : List ℕ) (start : ℕ) → length bs ≡ length ns → ((q : ℕ) → q < length ns → Follows ns bs q) → start + size ns ≤ 2 ^ 64 → (is : List ℕ) → InBox ns is → place start bs is ≡ start + rank ns is
+pub place-follows : (ns bs : List ℕ) (start : ℕ) → length bs ≡ length ns → ((q : ℕ) → q < length ns → IsContiguousAt ns bs q) → start + size ns ≤ 2 ^ 64 → (is : List ℕ) → InBox ns is → place start bs is ≡ start + rank ns is
 unfolding place
 place-follows ns bs start l h room is b =
     let d = dot-follows ns bs is l h b in

@@ -12,7 +12,7 @@ use Rattle.ndarray.proofs.strides.Reach.{dot-set, mod_twice}
 use Rattle.ndarray.proofs.boxes.Sizes.{length-fits, nonzero-set_le}
 
 -- of an axis of length n, the `len` places that `at` names: from `from` on by `step`, which is not 0, modulo 2 ^ 64
-pub record IsCut (n from len step : ℕ) (at : ℕ → ℕ) : Type 0 where
+pub record IsAxisCut (n from len step : ℕ) (at : ℕ → ℕ) : Type 0 where
   pub fewer : len ≤ n
   pub within : (i : ℕ) → i < len → at i < n
   pub steps : (i : ℕ) → i < len → (from + i * step) % 2 ^ 64 ≡ at i
@@ -20,8 +20,8 @@ pub record IsCut (n from len step : ℕ) (at : ℕ → ℕ) : Type 0 where
   pub moves : 1 < len → 0 < magnitude step
 
 -- those of a part side by side
-IsCut-part : (n from len : ℕ) → from + len ≤ n → n < 2 ^ 63 → IsCut n from len 1 (λ i. from + i)
-IsCut-part n from len le fits = record {
+IsAxisCut-part : (n from len : ℕ) → from + len ≤ n → n < 2 ^ 63 → IsAxisCut n from len 1 (λ i. from + i)
+IsAxisCut-part n from len le fits = record {
   fewer = omega arith;
   within = λ i lt. omega arith;
   steps = λ i lt. omega arith;
@@ -30,8 +30,8 @@ IsCut-part n from len le fits = record {
 }
 
 -- all of them, from the last to the first
-pub IsCut-turned : (n : ℕ) → n < 2 ^ 63 → IsCut n ((n + (2 ^ 64 - 1)) % 2 ^ 64) n (2 ^ 64 - 1) (λ i. n - 1 - i)
-IsCut-turned n fits = record {
+pub IsAxisCut-turned : (n : ℕ) → n < 2 ^ 63 → IsAxisCut n ((n + (2 ^ 64 - 1)) % 2 ^ 64) n (2 ^ 64 - 1) (λ i. n - 1 - i)
+IsAxisCut-turned n fits = record {
   fewer = omega arith;
   within = λ i lt. omega arith;
   steps = λ i lt. omega arith;
@@ -55,7 +55,7 @@ step-same start from b step i at x y e ex z ez =
     ∙ (sym (add-mul-mod_self_left (start + from * b + x) m (i * r))
     ∙ (ap (λ n. n % m) same ∙ add-mul-mod_self_left (start + z) m (q * b)))
 
-module _ {A one : Type 0} (two : Type 0) (held : ℕ → Option A) (ns : List ℕ) (start : ℕ) (bs : List ℕ) (h : Reaches one held ns start bs) (k : ℕ) (lt : k < length ns) (from len step : ℕ) (at : ℕ → ℕ) (cut : IsCut (get_or ns k 0) from len step at) where
+module _ {A one : Type 0} (two : Type 0) (held : ℕ → Option A) (ns : List ℕ) (start : ℕ) (bs : List ℕ) (h : Reaches one held ns start bs) (k : ℕ) (lt : k < length ns) (from len step : ℕ) (at : ℕ → ℕ) (cut : IsAxisCut (get_or ns k 0) from len step at) where
   cut-index : (js : List ℕ) → InBox (set ns k len) js → get_or js k 0 < len
   cut-index js box =
       let there = get_or-set_same ns k len 0 lt in
@@ -95,7 +95,7 @@ module _ {A one : Type 0} (two : Type 0) (held : ℕ → Option A) (ns : List �
 -- the array that keeps `len` places side by side
 pub rearranges-part : {A one : Type 0} (two : Type 0) (held : ℕ → Option A) (ns : List ℕ) (start : ℕ) (bs : List ℕ) → Reaches one held ns start bs → (k : ℕ) → k < length ns → (from len : ℕ) → from + len ≤ get_or ns k 0
     → Rearranges two ns start bs (set ns k len) ((start + (from * get_or bs k 0) % 2 ^ 64) % 2 ^ 64) (set bs k ((get_or bs k 0 * 1) % 2 ^ 64)) (λ js. set js k (from + get_or js k 0))
-rearranges-part two held ns start bs h k lt from len le = rearranges-cut two held ns start bs h k lt from len 1 (λ i. from + i) (IsCut-part (get_or ns k 0) from len le (length-fits ns k lt h.limit))
+rearranges-part two held ns start bs h k lt from len le = rearranges-cut two held ns start bs h k lt from len 1 (λ i. from + i) (IsAxisCut-part (get_or ns k 0) from len le (length-fits ns k lt h.limit))
 
 -- of two cuts that keep different places of the axis, no index lists are one
 pub cuts-apart : (ns : List ℕ) (k : ℕ) → k < length ns → (len len' : ℕ) (at at' : ℕ → ℕ) → ((i j : ℕ) → i < len → j < len' → at i ≡ at' j → ⊥) → (is js : List ℕ) → InBox (set ns k len) is → InBox (set ns k len') js → set is k (at (get_or is k 0)) ≡ set js k (at' (get_or js k 0)) → ⊥

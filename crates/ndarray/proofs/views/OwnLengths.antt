@@ -3,7 +3,7 @@ use Rattle.std.proofs.Common.{◌≡◌, ℕ, suc, ◌+◌, ◌-◌, List, [], �
 use Rattle.std.proofs.lemmas.Bool.Decides.{nat_tests}
 use Rattle.std.specs.Prelude.{◌==◌, ◌<◌}
 use Rattle.ndarray.specs.Broadcast.{BroadcastsTo, broadcast_index, zero_on_unit_axes}
-use Rattle.ndarray.specs.Grid.{Grid, IsGrid, cell, tabulated}
+use Rattle.ndarray.specs.Grid.{Grid, IsGrid, cell, cells_by}
 use Rattle.ndarray.specs.Index.{InBox, row_order}
 use Rattle.ndarray.specs.Views.{broadcast_to}
 use Rattle.ndarray.proofs.boxes.Boxes.{InBox-length}
@@ -51,7 +51,7 @@ row-cell n g whole (i ∷ js) b = let c = cell-Some g whole js b.1 in (c.0, ap (
 
 -- and so each index of that axis has the array's own cells
 pub broadcast_to-row : {A : Type 0} (n : ℕ) (g : Grid A) → IsGrid g → (i : ℕ) (js : List ℕ) → InBox (n ∷ g.lengths) (i ∷ js) → cell (broadcast_to g (n ∷ g.lengths)) (i ∷ js) ≡ cell g js
-unfolding tabulated
+unfolding cells_by
 broadcast_to-row {A} n g whole i js b =
     let ns : List ℕ = n ∷ g.lengths in
     let f : List ℕ → Option A = λ is. cell g (broadcast_index g.lengths is) in

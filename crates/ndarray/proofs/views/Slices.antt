@@ -6,10 +6,10 @@ use Rattle.std.proofs.Math.Nat.{le-div_iff_mul-le, le-mul_of_pos_right, add-mul-
 use Rattle.std.proofs.lemmas.Nat.{div-add-mod', div-mul-add}
 use Rattle.std.proofs.lemmas.Bool.{cases_lt}
 use Rattle.std.proofs.lemmas.Int.{ints, clamps}
-use Rattle.ndarray.specs.Slices.{IsSliceOf, slice_start, slice_end, counted_end, slice_length, stepped, slice_index_at}
+use Rattle.ndarray.specs.Slices.{IsSliceOf, slice_start, slice_end, end_from_start, slice_length, step_index, slice_index_at}
 use Rattle.ndarray.specs.declared.base.slice.Slice.{Slice}
 use Rattle.ndarray.specs.base.Nested.{magnitude, reach}
-use Rattle.ndarray.proofs.views.Cuts.{IsCut}
+use Rattle.ndarray.proofs.views.Cuts.{IsAxisCut}
 use Rattle.ndarray.proofs.strides.Magnitudes.{magnitude-signed}
 
 pub ceil-is : (x y : ℕ) → 0 < y → x / y + min 1 (x % y) ≡ (x + y - 1) / y
@@ -50,27 +50,27 @@ size-pos (negsuc k) other = omega arith
 far_below : (a b i : ℕ) (step : ℤ) → step ≢ pos 0 → i < (b - a + unsigned_abs step - 1) / unsigned_abs step → i * unsigned_abs step < b - a
 far_below a b i step other lt = ceil-below (b - a) (unsigned_abs step) i (size-pos step other) lt
 
-stepped-below : (a b n i : ℕ) (step : ℤ) → a ≤ b → b ≤ n → i * unsigned_abs step < b - a → stepped a b step i < n
-stepped-below a b n i (pos k) le high r = omega arith
-stepped-below a b n i (negsuc k) le high r = omega arith
+step_index-below : (a b n i : ℕ) (step : ℤ) → a ≤ b → b ≤ n → i * unsigned_abs step < b - a → step_index a b step i < n
+step_index-below a b n i (pos k) le high r = omega arith
+step_index-below a b n i (negsuc k) le high r = omega arith
 
--- from where the indices are counted modulo 2 ^ 64
-abbrev pub counted_from : ℕ → ℕ → ℤ → ℕ
-counted_from a b (pos k) = a
-counted_from a b (negsuc k) = (b + (2 ^ 64 - 1)) % 2 ^ 64
+-- from where the indices are index_from_start modulo 2 ^ 64
+abbrev pub start_index : ℕ → ℕ → ℤ → ℕ
+start_index a b (pos k) = a
+start_index a b (negsuc k) = (b + (2 ^ 64 - 1)) % 2 ^ 64
 
-pub counted_from-up : (a b : ℕ) (step : ℤ) → pos 0 <ℤ step → counted_from a b step ≡ a
-counted_from-up a b (pos k) up = refl
-counted_from-up a b (negsuc k) up = absurd (omega (arith, ints))
+pub start_index-up : (a b : ℕ) (step : ℤ) → pos 0 <ℤ step → start_index a b step ≡ a
+start_index-up a b (pos k) up = refl
+start_index-up a b (negsuc k) up = absurd (omega (arith, ints))
 
-pub counted_from-down : (a b : ℕ) (step : ℤ) → step ≢ pos 0 → step ≤ℤ pos 0 → counted_from a b step ≡ (b + (2 ^ 64 - 1)) % 2 ^ 64
-counted_from-down a b (pos zero) other down = absurd (other refl)
-counted_from-down a b (pos (suc k)) other down = absurd (omega (arith, ints))
-counted_from-down a b (negsuc k) other down = refl
+pub start_index-down : (a b : ℕ) (step : ℤ) → step ≢ pos 0 → step ≤ℤ pos 0 → start_index a b step ≡ (b + (2 ^ 64 - 1)) % 2 ^ 64
+start_index-down a b (pos zero) other down = absurd (other refl)
+start_index-down a b (pos (suc k)) other down = absurd (omega (arith, ints))
+start_index-down a b (negsuc k) other down = refl
 
-stepped-mod : (a b i from : ℕ) (step : ℤ) → b < 2 ^ 63 → i * unsigned_abs step < b - a → FitsSigned w64 step → from ≡ counted_from a b step → (from + i * cast_unsigned w64 step) % 2 ^ 64 ≡ stepped a b step i
-stepped-mod a b i from (pos k) fits r word e = omega arith
-stepped-mod a b i from (negsuc k) fits r word e =
+step_index-mod : (a b i from : ℕ) (step : ℤ) → b < 2 ^ 63 → i * unsigned_abs step < b - a → FitsSigned w64 step → from ≡ start_index a b step → (from + i * cast_unsigned w64 step) % 2 ^ 64 ≡ step_index a b step i
+step_index-mod a b i from (pos k) fits r word e = omega arith
+step_index-mod a b i from (negsuc k) fits r word e =
     let m : ℕ = 2 ^ 64 in
     let c : ℕ = cast_unsigned w64 (negsuc k) in
     let size = word.sfits in
@@ -94,7 +94,7 @@ ends x y n low high = (omega (arith, ints, clamps), omega (arith, ints, clamps),
 
 pub slice-ends : (n : ℕ) (s : Slice) → IsSliceOf n s → Ends n s (unsigned_abs (slice_start n s)) (unsigned_abs (slice_end n s))
 slice-ends n s h =
-    let e = ends (slice_start n s) (counted_end n s.end) n h.low h.high in
+    let e = ends (slice_start n s) (end_from_start n s.end) n h.low h.high in
     record { start = e.0; end = e.1; order = e.2; high = e.3 }
 
 pub slice_length-is : (n a b : ℕ) (s : Slice) → Ends n s a b → slice_length n s ≡ (b - a + unsigned_abs s.step - 1) / unsigned_abs s.step
@@ -110,10 +110,10 @@ module _ (n : ℕ) (s : Slice) (h : IsSliceOf n s) where
   reached i lt = far_below (unsigned_abs (slice_start n s)) (unsigned_abs (slice_end n s)) i s.step h.step (subst (λ l. i < l) (slice_length-is n _ _ s (slice-ends n s h)) lt)
 
   -- the indices that it takes, modulo 2 ^ 64
-  pub slice_index-mod : (from i : ℕ) → n < 2 ^ 63 → FitsSigned w64 s.step → from ≡ counted_from (unsigned_abs (slice_start n s)) (unsigned_abs (slice_end n s)) s.step → i < slice_length n s → (from + i * cast_unsigned w64 s.step) % 2 ^ 64 ≡ slice_index_at n s i
+  pub slice_index-mod : (from i : ℕ) → n < 2 ^ 63 → FitsSigned w64 s.step → from ≡ start_index (unsigned_abs (slice_start n s)) (unsigned_abs (slice_end n s)) s.step → i < slice_length n s → (from + i * cast_unsigned w64 s.step) % 2 ^ 64 ≡ slice_index_at n s i
   slice_index-mod from i fits word e lt =
       let high = (slice-ends n s h).high in
-      stepped-mod (unsigned_abs (slice_start n s)) (unsigned_abs (slice_end n s)) i from s.step (omega arith) (reached i lt) word e
+      step_index-mod (unsigned_abs (slice_start n s)) (unsigned_abs (slice_end n s)) i from s.step (omega arith) (reached i lt) word e
 
   -- the last of them lies no farther from the first than the axis reaches
   slice-near : (len : ℕ) → len ≡ slice_length n s → FitsSigned w64 s.step → reach len (cast_unsigned w64 s.step) ≤ n - 1
@@ -125,8 +125,8 @@ module _ (n : ℕ) (s : Slice) (h : IsSliceOf n s) where
       omega arith
 
   -- they are a cut of the axis
-  pub IsCut-slice : (from len : ℕ) → FitsSigned w64 s.step → len ≡ slice_length n s → ((i : ℕ) → i < len → (from + i * cast_unsigned w64 s.step) % 2 ^ 64 ≡ slice_index_at n s i) → IsCut n from len (cast_unsigned w64 s.step) (slice_index_at n s)
-  IsCut-slice from len word el steps =
+  pub IsAxisCut-slice : (from len : ℕ) → FitsSigned w64 s.step → len ≡ slice_length n s → ((i : ℕ) → i < len → (from + i * cast_unsigned w64 s.step) % 2 ^ 64 ≡ slice_index_at n s i) → IsAxisCut n from len (cast_unsigned w64 s.step) (slice_index_at n s)
+  IsAxisCut-slice from len word el steps =
       let a : ℕ = unsigned_abs (slice_start n s) in
       let b : ℕ = unsigned_abs (slice_end n s) in
       let e = slice-ends n s h in
@@ -136,7 +136,7 @@ module _ (n : ℕ) (s : Slice) (h : IsSliceOf n s) where
       let l = slice_length-is n a b s e in
       record {
         fewer = omega arith;
-        within = λ i lt. stepped-below a b n i s.step e.order e.high (reached i (omega arith));
+        within = λ i lt. step_index-below a b n i s.step e.order e.high (reached i (omega arith));
         steps = steps;
         near = slice-near len el word;
         moves = λ long. let m = magnitude-signed s.step word in omega arith;

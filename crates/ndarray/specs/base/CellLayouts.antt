@@ -1,4 +1,4 @@
--- Where an array lies among the elements of its storage: for `base` and `subviews`.
+-- Where an array lies among the elements of its storage: for `base`, `subviews` and `places`.
 use Rattle.std.specs.Prelude.{ℕ, List}
 use Rattle.ndarray.specs.base.Places.{place}
 

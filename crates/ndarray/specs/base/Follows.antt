@@ -12,7 +12,7 @@ abbrev pub with_slots : {M X : Type 0} → RegionRepr M X → List (Option X) �
 with_slots r cs = record { shared = r.shared; marker = r.marker; name = r.name; reborrow_name = r.reborrow_name; slots = cs }
 
 module _ (V : RattleType) where
-  -- the slice has the values that the loan ends at
+  -- the slice has the values that the borrow ends at
   abbrev pub follows_slice : MutBor (List V.Denot) → GName → Fml
   follows_slice s γ = follows (Array V 0) (Array V 0) s.ghost_name γ (λ ws. ws)
 

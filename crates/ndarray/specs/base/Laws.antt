@@ -4,7 +4,7 @@ use Rattle.std.specs.Prelude.{slice_get, slice_set, IsTrue}
 use Rattle.std.specs.Option.{is_some}
 use Rattle.ndarray.specs.base.Slots.{held_at}
 
--- what is put at a place stands there, and all other places keep what they have
+-- what is put at a place is there then, and all other places keep what they have
 pub slice_set-here : {X : Type 0} (xs : List X) (k : ℕ) (w : X) → IsTrue (is_some (slice_get xs k)) → slice_get (slice_set xs k w) k ≡ Some w
 slice_set-here [] k w h = cc
 slice_set-here (x ∷ xs) zero w h = refl

@@ -15,7 +15,7 @@ cells_from [] xs ws = []
 cells_from (p ∷ ps) [] ws = []
 cells_from (p ∷ ps) (x ∷ xs) ws = get_or ws p x ∷ cells_from ps xs ws
 
--- the array keeps its lengths, and has at its places the elements that the loan ends at
+-- the array keeps its lengths, and has at its places the elements that the borrow ends at
 abbrev pub follows_places : (A D : RattleType) → Ghosts D.Denot → MutBor (Grid A.Denot) → GName → List ℕ → Fml
 follows_places A D d a γ ps = follows (the_row (owned_row A) D A (ghosts A no_dict) d) (SliceOf A 0) a.ghost_name γ (λ ws. grid a.now.lengths (cells_from ps a.now.cells ws))
 

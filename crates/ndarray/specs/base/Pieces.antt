@@ -2,14 +2,14 @@
 use Rattle.std.specs.Prelude.{◌≡◌, ℕ, ◌*◌, ◌%◌, ◌^◌, ◌<◌, ◌⊎◌, List, length, map, replicate, slice_index, slice_set, Option, All}
 use Rattle.ndarray.specs.Index.{InBox, row_order}
 use Rattle.ndarray.specs.Limits.{IsWithinLimit}
-use Rattle.ndarray.specs.Grid.{Grid, IsGrid, arranged}
+use Rattle.ndarray.specs.Grid.{Grid, IsGrid, array_by}
 use Rattle.ndarray.specs.base.Places.{place, Reaches, grid_at}
 use Rattle.ndarray.specs.base.Masks.{Shares}
 use Rattle.ndarray.specs.base.CellLayouts.{CellLayout, cell_layout}
 
 -- at each position of the box of ps, the array of lengths ns that begins where the position lies
 abbrev pub pieces_at : {A : Type 0} → (ℕ → Option A) → List ℕ → ℕ → List ℕ → List ℕ → List ℕ → Grid (Grid A)
-pieces_at at ps start steps ns bs = arranged ps (λ p. grid_at at ns (place start steps p) bs)
+pieces_at at ps start steps ns bs = array_by ps (λ p. grid_at at ns (place start steps p) bs)
 
 -- each of them reaches elements
 pub record ReachPieces {A : Type 0} (at : ℕ → Option A) (ps : List ℕ) (start : ℕ) (steps ns bs : List ℕ) : Type 0 where

@@ -1,4 +1,4 @@
--- How an array's cells lie among the elements of its storage: for `base` and `subviews`.
+-- How an array's cells lie among the elements of its storage: for `base`, `subviews` and `places`.
 use Rattle.std.specs.Prelude.{◌≡◌, ℕ, ◌+◌, ◌*◌, ◌%◌, ◌^◌, ◌<◌, List, [], ◌∷◌, length, map, filter_map, Option, IsTrue}
 use Rattle.std.specs.Option.{is_some}
 use Rattle.ndarray.specs.Index.{InBox, row_order, size}

@@ -4,7 +4,7 @@ use base.Fml.{GName}
 use Rattle.ndarray.specs.Grid.{Grid}
 use Rattle.ndarray.specs.base.Places.{grid_at, Reaches}
 use Rattle.ndarray.specs.base.Slots.{held_at}
-use Rattle.ndarray.specs.declared.base.writing.RegionParts.{RegionParts}
+use Rattle.ndarray.specs.declared.base.view_mut.RegionParts.{RegionParts}
 
 module _ {A D : Type 0} where
   -- the name of the borrow of the array

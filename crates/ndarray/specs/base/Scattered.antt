@@ -18,7 +18,7 @@ module _ (V : RattleType) where
   scattered b o (Some c ∷ cs) [] = ffalse
   scattered b o (Some c ∷ cs) (w ∷ ws) = fsep ((mem V).own_at w b o) (scattered b (o + (mem V).size) cs ws)
 
-  -- these values as a type in memory, which a loan may be of
+  -- these values as a type in memory, which a borrow may be of
   abbrev pub ScatteredElements : List (Option V.Denot) → SemTy
   ScatteredElements cs = record { rep = List V.Denot; coded = coded_list V.coded; size = 0; own_at = λ ws b o. scattered b o cs ws }
 
@@ -30,7 +30,7 @@ module _ (V : RattleType) where
   abbrev pub lent_at : Lft → ℕ → ℕ → GName → List (Option V.Denot) → Fml
   lent_at κ b o γ cs = fsep (fobs γ ((coded_list V.coded).code (somes cs))) (fbor κ (Body (ScatteredElements cs) b o γ))
 
--- what a region owns beside its fields: that its places fit, and their loan of that name, for that lifetime
+-- what a region owns beside its fields: that its places fit, and their borrow of that name, for that lifetime
 abbrev pub region_owns : Lft → (V : RattleType) → Ptr → GName → List (Option V.Denot) → Fml
 region_owns κ V (block_ptr b o) γ cs = fsep (fit V cs) (lent_at V κ b o γ cs)
 region_owns κ V null_ptr γ cs = ffalse

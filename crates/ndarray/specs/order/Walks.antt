@@ -1,4 +1,4 @@
--- Where a walk stands in its box: for `order` and `places`.
+-- Where a walk is in its box: for `order` and `places`.
 use Rattle.std.specs.Prelude.{◌≡◌, ℕ, ◌+◌, ◌^◌, ◌<◌, ◌≤◌, List, take, drop, slice_index}
 use Rattle.ndarray.specs.Index.{InBox, size}
 use Rattle.ndarray.specs.Limits.{IsWithinLimit}
@@ -10,8 +10,8 @@ use Rattle.ndarray.specs.declared.base.shape.Order.{Order}
 abbrev pub walk_rest : Order → List ℕ → List ℕ → ℕ → List (List ℕ)
 walk_rest order ns is left = take left (drop (rank_in order ns is) (box_in order ns))
 
--- a walk at is, with `left` index lists to go, stands in its box
-pub record WalkStands (order : Order) (ns is : List ℕ) (left : ℕ) : Type 0 where
+-- a walk at is, with `left` index lists to go, is in its box
+pub record WalksFrom (order : Order) (ns is : List ℕ) (left : ℕ) : Type 0 where
   pub limit : IsWithinLimit ns
   pub within : 0 < left → InBox ns is
   pub fits : 0 < left → rank_in order ns is + left ≤ size ns

@@ -8,7 +8,7 @@ module _ {X : Type 0} where
   found slots places = filter_map (λ place. get_or slots place None) places
 
   -- each place still holds its element, unless the way has passed it; and so do those that are to come
-  pub record Stands (passed : ℕ → Type 0) (to_come : List ℕ) (slots : List (Option X)) : Type 0 where
+  pub record HoldsAllButPassed (passed : ℕ → Type 0) (to_come : List ℕ) (slots : List (Option X)) : Type 0 where
     pub there : (place : ℕ) → place < length slots → (passed place → ⊥) → IsFilled slots place
     pub gone : (place : ℕ) → passed place → get_or slots place None ≡ None
     pub ahead : All (IsFilled slots) to_come

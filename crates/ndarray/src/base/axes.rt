@@ -2,9 +2,9 @@
 //! takes memory.
 
 ghost use Rattle.std.specs.Prelude.{◌≡◌, ◌+◌, ◌<◌, ◌≤◌, length, slice_index, ◌↔◌, IsTrue, IsOk, IfOk, IfErr};
-ghost use Rattle.ndarray.specs.Errors.{refusal};
+ghost use Rattle.ndarray.specs.Errors.{shape_error};
 ghost use Rattle.ndarray.specs.Grid.{IsGrid};
-ghost use Rattle.ndarray.specs.Slices.{IsSliceOf, sliced};
+ghost use Rattle.ndarray.specs.Slices.{IsSliceOf, axis_slice};
 ghost use Rattle.ndarray.specs.Views.{axes_swapped, axis_item, axis_inserted, axis_part};
 ghost use Rattle.ndarray.specs.declared.base.error.ErrorKind.TheVariants.{IncompatibleShape};
 
@@ -50,7 +50,7 @@ impl<S: Data, D: Lengths> ArrayBase<S, D> {
     pub fn slice_axis(&self, axis: Axis, slice: Slice) -> ArrayView<'_, S::Elem, D>
         requires axis { axis.0 < length self.now.lengths }
         requires within { IsSliceOf (slice_index self.now.lengths axis.0) slice }
-        ensures value { result ≡ sliced self.now axis.0 slice }
+        ensures value { result ≡ axis_slice self.now axis.0 slice }
         ensures axes { D.has_axes (length result.lengths) }
         ensures whole { IsGrid result }
     {
@@ -59,11 +59,12 @@ impl<S: Data, D: Lengths> ArrayBase<S, D> {
         view
     }
 
-    /// The same in place of the array.
+    /// The same in place of the array, under the same condition: check with `slice_ok`. An array that owns its elements
+    /// keeps those that it hides.
     pub fn slice_axis_inplace(&mut self, axis: Axis, slice: Slice)
         requires axis { axis.0 < length self.old.lengths }
         requires within { IsSliceOf (slice_index self.old.lengths axis.0) slice }
-        ensures value { self.new ≡ sliced self.old axis.0 slice }
+        ensures value { self.new ≡ axis_slice self.old axis.0 slice }
         ensures whole { IsGrid self.new }
     {
         let (from, len) = slice.extent(self.layout.dim.axis(axis.0));
@@ -78,7 +79,7 @@ impl<S: Data, D: Lengths> ArrayBase<S, D> {
         ensures value { IfOk result (λ a. a ≡ self) }
         ensures axes { IfOk result (λ a. E.has_axes (length a.lengths)) }
         ensures whole { IfOk result IsGrid }
-        ensures kind { IfErr result (λ e. e ≡ refusal IncompatibleShape) }
+        ensures kind { IfErr result (λ e. e ≡ shape_error IncompatibleShape) }
     {
         if !E::may_have(self.layout.dim.ndim()) {
             return Err(ShapeError::from_kind(ErrorKind::IncompatibleShape));
@@ -108,7 +109,7 @@ impl<S: Data, D: RemoveAxis> ArrayBase<S, D> {
         self.view().index_axis_move(axis, index)
     }
 
-    /// The same of the array itself: a view to write in stays one.
+    /// The same of the array itself, under the same condition: a view to write in stays one.
     pub fn index_axis_move(self, axis: Axis, index: usize) -> ArrayBase<S, D::Smaller>
         requires axis { axis.0 < length self.lengths }
         requires within { index < slice_index self.lengths axis.0 }
@@ -132,7 +133,7 @@ impl<S: DataMut, D: Lengths> ArrayBase<S, D> {
     pub fn slice_axis_mut(&mut self, axis: Axis, slice: Slice) -> ArrayViewMut<'_, S::Elem, D>
         requires axis { axis.0 < length self.old.lengths }
         requires within { IsSliceOf (slice_index self.old.lengths axis.0) slice }
-        ensures value { result ≡ sliced self.old axis.0 slice }
+        ensures value { result ≡ axis_slice self.old axis.0 slice }
         ensures axes { D.has_axes (length result.lengths) }
         ensures whole { IsGrid result }
     {

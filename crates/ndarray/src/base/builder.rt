@@ -16,7 +16,7 @@ use std::marker::Model;
 
 /// An array that is being filled: its lengths, the order of its cells, and the cells so far.
 ///
-/// All of its memory is reserved before the first cell, so that no push can be refused.
+/// All of its memory is reserved before the first cell, so that no push can fail.
 #[derive(Drop)]
 pub(crate) struct ArrayBuilder<A, D: Lengths> {
     items: Vec<A>,

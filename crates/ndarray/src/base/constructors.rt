@@ -2,7 +2,7 @@
 
 ghost use Rattle.std.specs.Prelude.{◌≡◌, ◌≢◌, ◌↔◌, ◌<◌, ◌≤◌, ◌-◌, ◌^◌, [], ◌∷◌, length, min, replicate, take, IsOk, IfOk, IsErrOf};
 ghost use Rattle.std.specs.List.{AllClonesOf};
-ghost use Rattle.ndarray.specs.Errors.{refusal};
+ghost use Rattle.ndarray.specs.Errors.{shape_error};
 ghost use Rattle.ndarray.specs.Grid.{IsGrid, IsKnownByCells, one_axis};
 ghost use Rattle.ndarray.specs.declared.base.error.ErrorKind.TheVariants.{OutOfBounds, Overflow};
 ghost use Rattle.ndarray.specs.declared.base.shape.Order.TheVariants.{RowMajor};
@@ -17,7 +17,7 @@ use crate::base::error::{ErrorKind, ShapeError};
 use crate::base::layout::{Layout, default_strides};
 use crate::base::shape::{Order, Shape, ShapeBuilder};
 use crate::base::storage::{CowRepr, Data, DataOwned, ViewRepr};
-use crate::base::writing::Parts;
+use crate::base::view_mut::Parts;
 use num_traits::Zero;
 use std::alloc::{AllocError, Global};
 
@@ -37,8 +37,8 @@ impl<'a, A, D: Dimension> ArrayView<'a, A, D> {
         slice: &'a [A],
     ) -> Result<Self, ShapeError>
         ensures accepts { IsOk result ↔ (IsWithinLimit (Sh.shape_lengths shape) × (size (Sh.shape_lengths shape) ≤ length slice.now)) }
-        ensures overflow { IsErrOf result (refusal Overflow) ↔ (IsWithinLimit (Sh.shape_lengths shape) → ⊥) }
-        ensures short { IsErrOf result (refusal OutOfBounds) ↔ (IsWithinLimit (Sh.shape_lengths shape) × (length slice.now < size (Sh.shape_lengths shape))) }
+        ensures overflow { IsErrOf result (shape_error Overflow) ↔ (IsWithinLimit (Sh.shape_lengths shape) → ⊥) }
+        ensures short { IsErrOf result (shape_error OutOfBounds) ↔ (IsWithinLimit (Sh.shape_lengths shape) × (length slice.now < size (Sh.shape_lengths shape))) }
         ensures lengths { IfOk result (λ v. v.lengths ≡ Sh.shape_lengths shape) }
         ensures axes { IfOk result (λ v. D.has_axes (length v.lengths)) }
         ensures cells { IfOk result (λ v. HasInOrder (Sh.shape_order shape) v (take (size v.lengths) slice.now)) }
@@ -164,8 +164,8 @@ impl<A: Drop, S: DataOwned<Elem = A>, D: Dimension> ArrayBase<S, D> {
         v: Vec<A>,
     ) -> Result<Self, ShapeError>
         ensures accepts { IsOk result ↔ (IsWithinLimit (Sh.shape_lengths shape) × (size (Sh.shape_lengths shape) ≡ length v.items)) }
-        ensures overflow { IsErrOf result (refusal Overflow) ↔ (IsWithinLimit (Sh.shape_lengths shape) → ⊥) }
-        ensures other { IsErrOf result (refusal OutOfBounds) ↔ (IsWithinLimit (Sh.shape_lengths shape) × (size (Sh.shape_lengths shape) ≢ length v.items)) }
+        ensures overflow { IsErrOf result (shape_error Overflow) ↔ (IsWithinLimit (Sh.shape_lengths shape) → ⊥) }
+        ensures other { IsErrOf result (shape_error OutOfBounds) ↔ (IsWithinLimit (Sh.shape_lengths shape) × (size (Sh.shape_lengths shape) ≢ length v.items)) }
         ensures lengths { IfOk result (λ a. a.lengths ≡ Sh.shape_lengths shape) }
         ensures axes { IfOk result (λ a. D.has_axes (length a.lengths)) }
         ensures cells { IfOk result (λ a. HasInOrder (Sh.shape_order shape) a v.items) }

@@ -279,7 +279,7 @@ pub fn Ix6(a: usize, b: usize, c: usize, d: usize, e: usize, f: usize) -> Ix6
     Dim([a, b, c, d, e, f])
 }
 
-/// The dimension of the numbers of a slice. Requires at most 32.
+/// The dimension of the numbers of a slice. Requires at most 32 of them, which `numbers.len()` tells.
 pub fn IxDyn(numbers: &[usize]) -> IxDyn
     requires { length numbers.now ≤ 32 }
     ensures { held_numbers result.0 ≡ numbers.now }

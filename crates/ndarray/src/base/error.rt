@@ -1,7 +1,7 @@
-//! Refusals of shapes.
+//! Errors of shapes.
 
 ghost use Rattle.std.specs.Prelude.{◌≡◌, Some};
-ghost use Rattle.ndarray.specs.Errors.{refusal, refusal_text};
+ghost use Rattle.ndarray.specs.Errors.{shape_error, shape_error_text};
 
 use std::fmt;
 
@@ -31,21 +31,21 @@ pub struct ShapeError {
 impl ShapeError {
     /// The error of a kind.
     pub fn from_kind(kind: ErrorKind) -> Self
-        ensures { result ≡ refusal kind }
+        ensures { result ≡ shape_error kind }
     {
         ShapeError { kind }
     }
 
     /// What the shape offends against.
     pub fn kind(&self) -> ErrorKind
-        ensures { self.now ≡ refusal result }
+        ensures { self.now ≡ shape_error result }
     {
         self.kind
     }
 }
 
 impl fmt::Display for ShapeError {
-    ghost output = { λ e. Some (refusal_text e) };
+    ghost output = { λ e. Some (shape_error_text e) };
 
     fn fmt<W: fmt::Write>(&self, f: &mut fmt::Formatter<W>) -> fmt::Result {
         let text = match self.kind {

@@ -1,7 +1,7 @@
 //! The index lists of a box, as an array of them.
 
 ghost use Rattle.std.specs.Prelude.{◌≡◌, ◌+◌, ◌≤◌, ◌<◌, ◌^◌, ℕ, length, slice_index, Some, ⊤};
-ghost use Rattle.ndarray.specs.Grid.{IsGrid, arranged, cell};
+ghost use Rattle.ndarray.specs.Grid.{IsGrid, array_by, cell};
 ghost use Rattle.ndarray.specs.Index.{InBox};
 ghost use Rattle.ndarray.specs.Limits.{IsWithinLimit};
 ghost use Rattle.ndarray.specs.Views.{axis_part};
@@ -25,13 +25,13 @@ pub struct Indices<D: Lengths> {
 
 impl<D: Lengths> Model for Indices<D> {
     ghost use Rattle.std.specs.Prelude.{List, ℕ};
-    ghost use Rattle.ndarray.specs.Grid.{Grid, arranged};
+    ghost use Rattle.ndarray.specs.Grid.{Grid, array_by};
 
     ghost Value = { Grid (List ℕ) };
 
     ghost use Rattle.ndarray.specs.base.IndexLists.{StartsAt, shifted_index};
 
-    ghost view = { λ s. arranged (D.numbers s.dim) (shifted_index (D.numbers s.start)) };
+    ghost view = { λ s. array_by (D.numbers s.dim) (shifted_index (D.numbers s.start)) };
 
     ghost invariant = { λ s. StartsAt (D.numbers s.start) (D.numbers s.dim) };
 }
@@ -53,7 +53,7 @@ impl<D: Lengths> Indices<D> {
     /// The index lists of the box of the lengths.
     pub(crate) fn of(dim: D) -> Self
         requires { IsWithinLimit (D.numbers dim) }
-        ensures { result ≡ arranged (D.numbers dim) (λ is. is) }
+        ensures { result ≡ array_by (D.numbers dim) (λ is. is) }
     {
         let start = D::zeros(dim.ndim());
         Indices { start, dim }

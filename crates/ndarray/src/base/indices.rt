@@ -1,7 +1,7 @@
 //! The call that makes the index lists of a box a producer.
 
 ghost use Rattle.std.specs.Prelude.{◌≡◌, ◌↔◌, List, ℕ, Some};
-ghost use Rattle.ndarray.specs.Grid.{arranged, cell};
+ghost use Rattle.ndarray.specs.Grid.{array_by, cell};
 ghost use Rattle.ndarray.specs.Index.{InBox};
 ghost use Rattle.ndarray.specs.Limits.{IsWithinLimit};
 
@@ -19,7 +19,7 @@ use crate::base::into_dimension::IntoDimension;
 /// ```
 pub fn indices<E: IntoDimension>(dim: E) -> index_lists::Indices<E::Dim>
     requires { IsWithinLimit (E.written_numbers dim) }
-    ensures value { result ≡ arranged (E.written_numbers dim) (λ is. is) }
+    ensures value { result ≡ array_by (E.written_numbers dim) (λ is. is) }
     ensures items { (is : List ℕ) → InBox (E.written_numbers dim) is → (x : E.Dim.Pattern) → (cell result is ≡ Some (E.Dim.pattern_numbers x)) ↔ (E.Dim.pattern_numbers x ≡ is) }
 {
     index_lists::Indices::of(dim.into_dimension())

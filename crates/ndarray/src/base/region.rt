@@ -12,7 +12,7 @@ ghost use Rattle.ndarray.specs.base.Scattered.{region_owns, region_lent, shared_
 use crate::base::array::{ArrayBase, ArrayViewMut};
 use crate::base::dimension::Lengths;
 use crate::base::storage::{Data, DataMut, OwnedRepr, ViewRepr};
-use crate::base::writing::RegionParts;
+use crate::base::view_mut::RegionParts;
 use std::marker::{Model, PhantomData};
 use std::mem::replace;
 use std::slice;
@@ -197,7 +197,7 @@ impl<M, A> DataMut for RegionRepr<M, A> {
         self.get_mut(place)
     }
 
-    fn lend<D: Lengths>(array: &mut ArrayBase<Self, D>) -> ArrayViewMut<'_, A, D> {
+    fn view_mut_of<D: Lengths>(array: &mut ArrayBase<Self, D>) -> ArrayViewMut<'_, A, D> {
         let (layout, storage) = array.reborrow();
         let layout = layout.copied();
         ArrayBase { storage, layout }

@@ -2,7 +2,7 @@
 
 ghost use Rattle.std.specs.Prelude.{◌≡◌, ℕ, ◌+◌, ◌*◌, ◌%◌, ◌^◌, ◌<◌, ◌↔◌, IsTrue, pos, Some, None};
 ghost use Rattle.std.specs.Int.{cast_unsigned, w64};
-ghost use Rattle.ndarray.specs.Slices.{IsSliceOf, counted, slice_end, slice_index_at, slice_length, slice_start};
+ghost use Rattle.ndarray.specs.Slices.{IsSliceOf, index_from_start, slice_end, slice_index_at, slice_length, slice_start};
 
 use std::ops::{Range, RangeFrom, RangeFull, RangeTo};
 
@@ -44,9 +44,9 @@ impl Slice {
         ensures start { result.0 ≡ slice_start len self.now }
         ensures end { result.1 ≡ slice_end len self.now }
     {
-        let start = counted(len, self.start);
+        let start = index_from_start(len, self.start);
         let end = match self.end {
-            Some(end) => counted(len, end),
+            Some(end) => index_from_start(len, end),
             None => len as isize,
         };
         (start, start.max(end))
@@ -107,9 +107,9 @@ impl From<RangeFull> for Slice {
 }
 
 /// On an axis of length `len`, a negative number counts from it.
-fn counted(len: usize, number: isize) -> isize
+fn index_from_start(len: usize, number: isize) -> isize
     requires { len < 2 ^ 63 }
-    ensures { result ≡ counted len number }
+    ensures { result ≡ index_from_start len number }
 {
     if number < 0 {
         len as isize + number

@@ -9,7 +9,7 @@ ghost use Rattle.ndarray.specs.base.Storage.{owned_at, seen_at};
 use crate::base::array::{ArrayBase, ArrayViewMut};
 use crate::base::dimension::Lengths;
 use crate::base::region::SharedRegion;
-use crate::base::writing::RegionParts;
+use crate::base::view_mut::RegionParts;
 use std::alloc::AllocError;
 
 /// What an array keeps its elements in: elements by places, some of which may hold none.
@@ -61,7 +61,7 @@ pub trait DataMut: Data {
         ensures value { Self.at self.old place ≡ Some result.now };
 
     /// The cells of an array, to write in.
-    fn lend<D: Lengths>(array: &mut ArrayBase<Self, D>) -> ArrayViewMut<'_, Self::Elem, D>
+    fn view_mut_of<D: Lengths>(array: &mut ArrayBase<Self, D>) -> ArrayViewMut<'_, Self::Elem, D>
         ensures same { result ≡ array.old }
         ensures whole { IsGrid result };
 
@@ -119,7 +119,9 @@ pub trait DataOwned: Data {
 
 /// The elements of a reading view: those of a slice, or those that a writing view holds.
 pub enum ViewRepr<'a, A> {
+    /// The elements of a slice.
     Slice(&'a [A]),
+    /// The elements that a writing view holds.
     Part(&'a SharedRegion<A>),
 }
 
@@ -231,7 +233,7 @@ impl<A: Drop> DataMut for OwnedRepr<A> {
         &mut self.items[place]
     }
 
-    fn lend<D: Lengths>(array: &mut ArrayBase<Self, D>) -> ArrayViewMut<'_, A, D> {
+    fn view_mut_of<D: Lengths>(array: &mut ArrayBase<Self, D>) -> ArrayViewMut<'_, A, D> {
         array.parts_mut().into_view()
     }
 

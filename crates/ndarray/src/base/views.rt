@@ -4,7 +4,7 @@ ghost use Rattle.std.specs.Prelude.{◌≡◌, ◌<◌, length, ◌↔◌, IsSom
 ghost use Rattle.ndarray.specs.Broadcast.{BroadcastsTo};
 ghost use Rattle.ndarray.specs.Grid.{IsGrid};
 ghost use Rattle.ndarray.specs.Limits.{IsWithinLimit};
-ghost use Rattle.ndarray.specs.Views.{transposed, inverted, broadcast_to};
+ghost use Rattle.ndarray.specs.Views.{transpose_of, axis_inversion, broadcast_to};
 
 use crate::base::array::{ArrayBase, ArrayView};
 use crate::base::axis::Axis;
@@ -17,7 +17,7 @@ impl<S: Data, D: Lengths> ArrayBase<S, D> {
     /// The array with its axes from the last to the first: the cell at an index list is that at the
     /// reversed one.
     pub fn t(&self) -> ArrayView<'_, S::Elem, D>
-        ensures value { result ≡ transposed self.now }
+        ensures value { result ≡ transpose_of self.now }
         ensures axes { D.has_axes (length result.lengths) }
         ensures whole { IsGrid result }
     {
@@ -26,7 +26,7 @@ impl<S: Data, D: Lengths> ArrayBase<S, D> {
 
     /// The same of the array itself: a view to write in stays one.
     pub fn reversed_axes(self) -> ArrayBase<S, D>
-        ensures value { result ≡ transposed self }
+        ensures value { result ≡ transpose_of self }
         ensures axes { D.has_axes (length result.lengths) }
         ensures whole { IsGrid result }
     {
@@ -47,7 +47,7 @@ impl<S: Data, D: Lengths> ArrayBase<S, D> {
     /// Requires an axis below the number of axes; check with `axis_ok`.
     pub fn invert_axis(&mut self, axis: Axis)
         requires { axis.0 < length self.old.lengths }
-        ensures value { self.new ≡ inverted self.old axis.0 }
+        ensures value { self.new ≡ axis_inversion self.old axis.0 }
         ensures whole { IsGrid self.new }
     {
         let len = self.layout.dim.axis(axis.0);

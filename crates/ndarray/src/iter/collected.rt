@@ -10,7 +10,7 @@ use std::iter::ExactSizeIterator;
 
 /// A vector of the items that are still to come, in their order.
 ///
-/// Its memory is reserved once, before the first step. The error is that it was refused; no step was taken then.
+/// Its memory is reserved once, before the first step. The error is allocation failure; no step was taken then.
 ///
 /// ```
 /// let view = ArrayView::from_shape((2, 2), &[1, 2, 3, 4])?;
@@ -33,7 +33,7 @@ where
 
 /// A vector of what a function gives for each item that is still to come, in their order.
 ///
-/// Its memory is reserved once, before the first step. The error is that it was refused; no step was taken then, and
+/// Its memory is reserved once, before the first step. The error is allocation failure; no step was taken then, and
 /// the function was not called.
 ///
 /// ```

@@ -13,7 +13,7 @@ use crate::base::array::{ArrayBase, ArrayViewMut};
 use crate::base::dimension::{Ix1, Lengths};
 use crate::base::region::{Life, RegionRepr};
 use crate::base::storage::DataMut;
-use crate::base::writing::RegionParts;
+use crate::base::view_mut::RegionParts;
 use crate::order::Order;
 use crate::places::strided::StridedPlaces;
 use std::iter::ExactSizeIterator;
@@ -27,21 +27,21 @@ use std::marker::{Model, PhantomData};
 pub struct ElementsBaseMut<'a, A, D: Lengths> {
     region: RegionRepr<Life<'a>, A>,
     places: StridedPlaces<D>,
-    // the lifetime of what it lends, so that `A: 'a` follows from the type
-    lends: PhantomData<&'a mut A>,
+    // the lifetime of what it yields, so that `A: 'a` follows from the type
+    lifetime: PhantomData<&'a mut A>,
 }
 
 impl<'a, A, D: Lengths> Model for ElementsBaseMut<'a, A, D> {
     ghost use Rattle.std.specs.Prelude.{filter_map};
     ghost use Rattle.ndarray.specs.Writes.{BorrowedItems};
     ghost use Rattle.ndarray.specs.base.Slots.{held_at};
-    ghost use Rattle.ndarray.specs.places.Lent.{AreLentAt};
+    ghost use Rattle.ndarray.specs.places.ElementPlaces.{AreDistinctPlaces};
 
     ghost Value = { BorrowedItems A };
 
     ghost view = { λ s. record { items = filter_map (held_at s.region.slots) s.places; borrow_name = s.region.reborrow_name } };
 
-    ghost invariant = { λ s. AreLentAt (held_at s.region.slots) s.places };
+    ghost invariant = { λ s. AreDistinctPlaces (held_at s.region.slots) s.places };
 }
 
 impl<'a, A, D: Lengths> ElementsBaseMut<'a, A, D> {
@@ -65,7 +65,7 @@ impl<'a, A, D: Lengths> ElementsBaseMut<'a, A, D> {
         ElementsBaseMut {
             region: storage,
             places: StridedPlaces::new(layout, order),
-            lends: PhantomData,
+            lifetime: PhantomData,
         }
     }
 }
@@ -91,7 +91,7 @@ impl<S: DataMut, D: Lengths> ArrayBase<S, D> {
         ElementsBaseMut {
             region,
             places: StridedPlaces::new(layout, Order::RowMajor),
-            lends: PhantomData,
+            lifetime: PhantomData,
         }
     }
 }

@@ -29,7 +29,7 @@ impl<'a, A, D: Lengths> Model for IndexedIter<'a, A, D> {
     ghost use Rattle.std.specs.Prelude.{ℕ, List};
     ghost use Rattle.ndarray.specs.base.Storage.{seen_at};
     ghost use Rattle.ndarray.specs.base.Strided.{HaveElements};
-    ghost use Rattle.ndarray.specs.places.Lent.{with_elements, places_of};
+    ghost use Rattle.ndarray.specs.places.ElementPlaces.{with_elements, places_of};
 
     ghost Value = { List (List ℕ × A) };
 

@@ -11,7 +11,7 @@ ghost use Rattle.ndarray.specs.Writes.{keeps_lengths};
 use crate::base::array::ArrayBase;
 use crate::base::dimension::{Dimension, Lengths};
 use crate::base::storage::DataMut;
-use crate::places::lent::Places;
+use crate::places::region_places::Places;
 use std::iter::ExactSizeIterator;
 use std::marker::Model;
 
@@ -52,7 +52,7 @@ impl<S: DataMut, D: Dimension> ArrayBase<S, D> {
         ensures fits { length result.items < 2 ^ 63 }
     {
         IndexedIterMut {
-            places: self.lent_places(),
+            places: self.places_mut(),
         }
     }
 }

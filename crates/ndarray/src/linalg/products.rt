@@ -24,7 +24,11 @@ pub trait Dot<Rhs> {
     // Whether this is the product.
     ghost dot_gives: { Self → Rhs → Self.Output → Type 0 };
 
-    /// The product of the two, with this one on the left.
+    /// The product of the two, with this one on the left: at row i and column j the sum of the products of row i of the left
+    /// and column j of the right, and zero where the inner length is 0. A vector is one row on the left and one column on the
+    /// right, and the product has no axis for it: of an (m, k) and a (k, n) matrix it has lengths (m, n), of a matrix and a
+    /// vector (m), of a vector and a matrix (n), and of two vectors it is a number (an array of no axes where the vectors are
+    /// `IxDyn`).
     ///
     /// Requires shapes that multiply, which [`dot_ok`] tells, and that of the products of each inner sum every selection
     /// has its sum in range, for which `dot_fits` of each row and column is enough.

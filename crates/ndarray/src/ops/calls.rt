@@ -40,7 +40,7 @@ impl<'b, A: Clone, B: Clone, O: Operation<A, B, Output = A>> CellCall<A, &'b B> 
     }
 }
 
-/// What is computed of one cell, by clones that may be refused.
+/// What is computed of one cell, by clones that may fail.
 pub(crate) trait CellOperation<A>: Drop {
     /// What it answers.
     type Output;
@@ -54,7 +54,7 @@ pub(crate) trait CellOperation<A>: Drop {
     // Whether it needs no memory at the cell.
     ghost is_infallible: { Self → A → Type 0 };
 
-    /// Its answer on a cell, or that a clone was refused.
+    /// Its answer on a cell, or that a clone failed.
     fn apply(&self, cell: &A) -> Result<Self::Output, AllocError>
         requires { can_apply self.now cell.now }
         ensures gives { IfOk result (apply_gives self.now cell.now) }

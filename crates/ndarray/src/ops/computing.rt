@@ -16,7 +16,7 @@ use crate::base::dim_max::DimMax;
 use crate::base::dimension::Lengths;
 use crate::base::storage::Data;
 use crate::ops::calls::{CellOperation, IntoLeft, OnBoth, OnEach, WithLeft, WithRight};
-use crate::ops::operations::{Exchanged, Operation};
+use crate::ops::operations::{Exchange, Operation};
 use crate::zip::collecting::{try_collect_in_either_order, try_collect_of_both};
 use crate::zip::producer::{IntoBroadcast, NdProducer};
 use crate::zip::units::Units;
@@ -133,7 +133,7 @@ where
     requires right_clones { ClonesAreEqual B.is_clone }
     ensures { UpdatesCombined E.Output.has_axes O.apply_gives A.is_infallible B.is_infallible right.lengths left.now right result }
 {
-    combine_into_left::<Exchanged<O>, B, A, _, E, D>(right, left)
+    combine_into_left::<Exchange<O>, B, A, _, E, D>(right, left)
 }
 
 /// The lengths of two arrays broadcast together.

@@ -20,7 +20,7 @@ use std::alloc::{AllocError, Global};
 /// order: for left scalars of the types that have no operator of their own.
 ///
 /// The calls go through the index lists one after another, in row-major or in column-major order. All memory is
-/// reserved before the first call; the error is that it was refused, and `f` was not called then.
+/// reserved before the first call; the error is allocation failure, and `f` was not called then.
 ///
 /// ```
 /// let array = Array::from_shape_vec((2, 1), vec![in alloc; 1i16, 3]?)?;

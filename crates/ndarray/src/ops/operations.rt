@@ -41,9 +41,9 @@ pub(crate) trait UnaryOperation<A> {
 }
 
 /// An operation with its sides exchanged.
-pub(crate) struct Exchanged<O>(PhantomData<O>);
+pub(crate) struct Exchange<O>(PhantomData<O>);
 
-impl<A, B, O: Operation<B, A>> Operation<A, B> for Exchanged<O> {
+impl<A, B, O: Operation<B, A>> Operation<A, B> for Exchange<O> {
     type Output = O::Output;
 
     ghost can_apply = { λ a b. O.can_apply b a };

@@ -8,7 +8,7 @@ ghost use Rattle.ndarray.specs.Orders.{box_in};
 ghost use Rattle.ndarray.specs.base.Strided.{places_from};
 ghost use Rattle.ndarray.specs.base.Ranks.{row_from};
 ghost use Rattle.ndarray.specs.order.Walks.{FitsOnAxis};
-ghost use Rattle.ndarray.specs.places.Lent.{with_places};
+ghost use Rattle.ndarray.specs.places.ElementPlaces.{with_places};
 
 use crate::base::dimension::Lengths;
 use crate::base::layout::Layout;
@@ -117,7 +117,7 @@ pub(crate) struct IndexedPlaces<D: Lengths> {
 
 impl<D: Lengths> Model for IndexedPlaces<D> {
     ghost use Rattle.std.specs.Prelude.{List, ℕ, ◌≡◌, ◌++◌, ◌+◌, ◌<◌, ◌^◌, length, All};
-    ghost use Rattle.ndarray.specs.places.Lent.{with_places};
+    ghost use Rattle.ndarray.specs.places.ElementPlaces.{with_places};
 
     ghost Value = { List (List ℕ × ℕ) };
 

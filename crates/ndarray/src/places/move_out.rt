@@ -38,13 +38,13 @@ pub struct MoveOut<A, W: PlaceSequence> {
 
 impl<A, W: PlaceSequence> Model for MoveOut<A, W> {
     ghost use Rattle.std.specs.Prelude.{List};
-    ghost use Rattle.ndarray.specs.places.Moving.{found, Stands};
+    ghost use Rattle.ndarray.specs.places.Moving.{found, HoldsAllButPassed};
 
     ghost Value = { List A };
 
     ghost view = { λ m. found m.left (W.to_come m.way) };
 
-    ghost invariant = { λ m. Stands (W.passed m.way) (W.to_come m.way) m.left };
+    ghost invariant = { λ m. HoldsAllButPassed (W.passed m.way) (W.to_come m.way) m.left };
 }
 
 impl<A, W: PlaceSequence> MoveOut<A, W> {

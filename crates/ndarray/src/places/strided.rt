@@ -4,7 +4,7 @@ ghost use Rattle.std.specs.Prelude.{◌≡◌, ◌<◌, ◌^◌, length};
 ghost use Rattle.std.specs.Iterator.{YieldsFirst, YieldsLast};
 ghost use Rattle.ndarray.specs.Limits.{IsWithinLimit};
 ghost use Rattle.ndarray.specs.Orders.{box_in};
-ghost use Rattle.ndarray.specs.places.Lent.{places_along};
+ghost use Rattle.ndarray.specs.places.ElementPlaces.{places_along};
 
 use crate::base::dimension::{Ix1, Lengths};
 use crate::base::layout::Layout;
@@ -72,7 +72,7 @@ pub(crate) struct StridedPlaces<D: Lengths> {
 
 impl<D: Lengths> Model for StridedPlaces<D> {
     ghost use Rattle.std.specs.Prelude.{List, ℕ, ◌≡◌, ◌++◌, ◌+◌, ◌<◌, ◌^◌, length, All};
-    ghost use Rattle.ndarray.specs.places.Lent.{places_along};
+    ghost use Rattle.ndarray.specs.places.ElementPlaces.{places_along};
 
     ghost Value = { List ℕ };
 

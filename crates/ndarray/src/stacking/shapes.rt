@@ -3,7 +3,7 @@
 ghost use Rattle.std.specs.Prelude.{◌≡◌, ◌<◌, ◌≤◌, ◌^◌, length, IsTrue, MatchResult, MatchOption, Some, All, sum_by, slice_index};
 ghost use Rattle.std.specs.List.{list_all};
 ghost use Rattle.ndarray.specs.Grid.{IsGrid, same_index};
-ghost use Rattle.ndarray.specs.Joining.{concatenate_error, concatenated_lengths, is_same_but_along, shapes_of, stack_error, stacked_lengths};
+ghost use Rattle.ndarray.specs.Joining.{concatenate_error, concatenation_lengths, is_same_but_along, shapes_of, stack_error, stack_lengths};
 ghost use Rattle.ndarray.specs.stacking.Blocks.{JoinsAs, outer_lengths};
 
 use crate::base::array::ArrayView;
@@ -24,7 +24,7 @@ pub(crate) fn concatenated_shape<A, D: RemoveAxis>(
     axis: Axis,
     arrays: &[ArrayView<'_, A, D>],
 ) -> Result<JoinedShape<D, D>, ShapeError>
-    ensures { MatchResult result (λ s. JoinsAs axis.0 (concatenate_error axis.0) (concatenated_lengths axis.0) arrays.now (D.numbers s.outer) (D.numbers s.dim)) (λ e. concatenate_error axis.0 (shapes_of arrays.now) ≡ Some e.kind) }
+    ensures { MatchResult result (λ s. JoinsAs axis.0 (concatenate_error axis.0) (concatenation_lengths axis.0) arrays.now (D.numbers s.outer) (D.numbers s.dim)) (λ e. concatenate_error axis.0 (shapes_of arrays.now) ≡ Some e.kind) }
 {
     let Some((first, others)) = arrays.split_first() else {
         return Err(ShapeError::from_kind(ErrorKind::Unsupported));
@@ -53,7 +53,7 @@ pub(crate) fn stacked_shape<A, D: Dimension>(
     axis: Axis,
     arrays: &[ArrayView<'_, A, D>],
 ) -> Result<JoinedShape<D, D::Larger>, ShapeError>
-    ensures { MatchResult result (λ s. JoinsAs axis.0 (stack_error axis.0) (stacked_lengths axis.0) arrays.now (D.numbers s.outer) (D.Larger.numbers s.dim)) (λ e. stack_error axis.0 (shapes_of arrays.now) ≡ Some e.kind) }
+    ensures { MatchResult result (λ s. JoinsAs axis.0 (stack_error axis.0) (stack_lengths axis.0) arrays.now (D.numbers s.outer) (D.Larger.numbers s.dim)) (λ e. stack_error axis.0 (shapes_of arrays.now) ≡ Some e.kind) }
 {
     let Some((first, others)) = arrays.split_first() else {
         return Err(ShapeError::from_kind(ErrorKind::Unsupported));

@@ -1,7 +1,7 @@
 //! The items along an axis.
 
 ghost use Rattle.std.specs.Prelude.{◌≡◌, ◌<◌, ◌≤◌, ◌+◌, ◌^◌, ◌∷◌, [], length, take, drop, slice_get, slice_index};
-ghost use Rattle.ndarray.specs.Grid.{arranged};
+ghost use Rattle.ndarray.specs.Grid.{array_by};
 ghost use Rattle.ndarray.specs.Subviews.{axis_items};
 ghost use Rattle.ndarray.specs.Views.{axis_item};
 
@@ -49,7 +49,7 @@ impl<S: Data, D: RemoveAxis> ArrayBase<S, D> {
     /// The items along an axis, by their indices.
     fn items(&self, axis: Axis) -> Pieces<'_, S::Elem, Ix1, D::Smaller>
         requires { axis.0 < length self.now.lengths }
-        ensures { result ≡ arranged (slice_index self.now.lengths axis.0 ∷ []) (λ is. axis_item self.now axis.0 (slice_index is 0)) }
+        ensures { result ≡ array_by (slice_index self.now.lengths axis.0 ∷ []) (λ is. axis_item self.now axis.0 (slice_index is 0)) }
     {
         Pieces {
             storage: self.storage.seen(),

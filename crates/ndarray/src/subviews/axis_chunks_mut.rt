@@ -143,6 +143,6 @@ fn chunks<'a, A, D: Lengths>(
             size,
             walk: Walk::new(Ix1(count), Order::RowMajor),
         },
-        lends: PhantomData,
+        lifetime: PhantomData,
     }
 }

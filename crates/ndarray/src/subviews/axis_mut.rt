@@ -1,7 +1,7 @@
 //! The items along an axis, to write in.
 
 ghost use Rattle.std.specs.Prelude.{◌≡◌, ◌<◌, ◌^◌, ◌∷◌, [], length, slice_index};
-ghost use Rattle.ndarray.specs.Grid.{arranged};
+ghost use Rattle.ndarray.specs.Grid.{array_by};
 ghost use Rattle.ndarray.specs.Limits.{IsWithinLimit};
 ghost use Rattle.ndarray.specs.Subviews.{axis_items};
 ghost use Rattle.ndarray.specs.Views.{axis_item};
@@ -59,7 +59,7 @@ fn items<'a, A, D: RemoveAxis>(
     axis: Axis,
 ) -> PiecesMut<'a, A, Ix1, D::Smaller>
     requires { axis.0 < length view.lengths }
-    ensures { result ≡ arranged (slice_index view.entry.lengths axis.0 ∷ []) (λ is. axis_item view.entry axis.0 (slice_index is 0)) }
+    ensures { result ≡ array_by (slice_index view.entry.lengths axis.0 ∷ []) (λ is. axis_item view.entry axis.0 (slice_index is 0)) }
 {
     let ArrayBase { storage, layout } = view;
     PiecesMut {
@@ -71,7 +71,7 @@ fn items<'a, A, D: RemoveAxis>(
         },
         dim: layout.dim.remove_axis(axis),
         strides: layout.strides.remove_axis(axis),
-        lends: PhantomData,
+        lifetime: PhantomData,
     }
 }
 

@@ -53,6 +53,6 @@ fn pieces<'a, A, D: Lengths>(view: ArrayViewMut<'a, A, D>, chunk: D) -> ExactChu
         positions: window_positions(&layout, &chunk, &chunk),
         dim: chunk,
         strides: layout.strides,
-        lends: PhantomData,
+        lifetime: PhantomData,
     }
 }

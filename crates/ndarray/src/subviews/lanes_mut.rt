@@ -77,6 +77,6 @@ fn pieces<'a, A, D: Dimension>(
         },
         dim: Ix1(len),
         strides: Ix1(stride),
-        lends: PhantomData,
+        lifetime: PhantomData,
     }
 }

@@ -52,8 +52,8 @@ pub trait PieceLayoutsFromEnds: PieceLayouts {
 pub struct PiecesIterMut<'a, A, T: PieceLayouts> {
     pub(super) region: RegionRepr<Life<'a>, A>,
     pub(super) layouts: T,
-    // the lifetime of what it lends, so that `A: 'a` follows from the type
-    pub(super) lends: PhantomData<&'a mut A>,
+    // the lifetime of what it yields, so that `A: 'a` follows from the type
+    pub(super) lifetime: PhantomData<&'a mut A>,
 }
 
 impl<'a, A, T: PieceLayouts> Model for PiecesIterMut<'a, A, T> {
@@ -140,7 +140,7 @@ impl<'a, A, T: PieceLayoutsFromEnds> PiecesIterMut<'a, A, T> {
         let PiecesIterMut {
             region,
             mut layouts,
-            lends: _,
+            lifetime: _,
         } = self;
         let first = layouts.take_first(index);
         let (here, others) = region.split(&first);
@@ -148,12 +148,12 @@ impl<'a, A, T: PieceLayoutsFromEnds> PiecesIterMut<'a, A, T> {
             PiecesIterMut {
                 region: here,
                 layouts: first,
-                lends: PhantomData,
+                lifetime: PhantomData,
             },
             PiecesIterMut {
                 region: others,
                 layouts,
-                lends: PhantomData,
+                lifetime: PhantomData,
             },
         )
     }

@@ -24,8 +24,8 @@ pub struct PiecesMut<'a, A, P: Lengths, D: Lengths> {
     // the lengths and the strides of each piece
     pub(crate) dim: D,
     pub(crate) strides: D,
-    // the lifetime of what it lends, so that `A: 'a` follows from the type
-    pub(crate) lends: PhantomData<&'a mut A>,
+    // the lifetime of what it yields, so that `A: 'a` follows from the type
+    pub(crate) lifetime: PhantomData<&'a mut A>,
 }
 
 impl<'a, A, P: Lengths, D: Lengths> Model for PiecesMut<'a, A, P, D> {
@@ -94,7 +94,7 @@ impl<'a, A, P: Lengths, D: Lengths> PiecesMut<'a, A, P, D> {
             positions,
             dim,
             strides,
-            lends: _,
+            lifetime: _,
         } = self;
         let len = positions.dim.axis(axis.0);
         let mut low = positions.copied();
@@ -113,14 +113,14 @@ impl<'a, A, P: Lengths, D: Lengths> PiecesMut<'a, A, P, D> {
                 positions: part.positions,
                 dim: part.dim,
                 strides: part.strides,
-                lends: PhantomData,
+                lifetime: PhantomData,
             },
             PiecesMut {
                 region: rest,
                 positions: high,
                 dim,
                 strides,
-                lends: PhantomData,
+                lifetime: PhantomData,
             },
         )
     }
@@ -136,7 +136,7 @@ impl<'a, A, P: Lengths, D: Lengths> PiecesMut<'a, A, P, D> {
             positions,
             dim,
             strides,
-            lends,
+            lifetime,
         } = self;
         let walk = Walk::new(positions.dim.copied(), order);
         PiecesIterMut {
@@ -147,7 +147,7 @@ impl<'a, A, P: Lengths, D: Lengths> PiecesMut<'a, A, P, D> {
                 strides,
                 walk,
             },
-            lends,
+            lifetime,
         }
     }
 }

@@ -44,7 +44,7 @@ pub(crate) fn assign_items<
     }
 }
 
-/// A closure of an item, as one of the cell before and the item, which is never refused.
+/// A closure of an item, as one of the cell before and the item, which never fails.
 #[derive(Drop)]
 struct Anew<C>(C);
 

@@ -38,7 +38,7 @@ pub(crate) fn collect_items<P: NdProducer, R: Drop, C: ItemCall<P::Item, Out = R
     try_collect_items(alloc, p, order, NeverRefused(f))
 }
 
-/// The same of a closure that may refuse: the array where it answers `Ok` at each item, else its first refusal.
+/// The same of a closure that may fail: the array where it answers `Ok` at each item, else its first error.
 pub(crate) fn try_collect_items<
     P: NdProducer,
     R: Drop,
@@ -73,7 +73,7 @@ pub(crate) fn collect_in_either_order<P: NdProducer, R: Drop, C: ItemCall<P::Ite
     try_collect_in_either_order(alloc, p, NeverRefused(f))
 }
 
-/// The same of a closure that may refuse.
+/// The same of a closure that may fail.
 #[tactic(auto, using(crate::proofs::runs::Answers::may_gather_in))]
 pub(crate) fn try_collect_in_either_order<
     P: NdProducer,
@@ -108,7 +108,7 @@ pub(crate) fn collect_of_both<
     collect_in_either_order(alloc, Pair { first, second }, f)
 }
 
-/// The same of a closure that may refuse.
+/// The same of a closure that may fail.
 pub(crate) fn try_collect_of_both<
     P: NdProducer,
     Q: NdProducer,
@@ -155,7 +155,7 @@ impl<X, R: Drop, D: Lengths, C: ItemCall<X, Out = Result<R, AllocError>>> Turn<X
     }
 }
 
-/// A call that is never refused, as one that may be.
+/// A call that never fails, as one that may.
 #[derive(Drop)]
 struct NeverRefused<C>(C);
 

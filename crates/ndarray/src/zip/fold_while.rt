@@ -1,7 +1,7 @@
 //! Whether a fold goes on.
 
 ghost use Rattle.std.specs.Prelude.{◌≡◌, ◌↔◌, IsTrue, ⊤};
-ghost use Rattle.ndarray.specs.FoldWhiles.{held, IsDone};
+ghost use Rattle.ndarray.specs.FoldWhiles.{IsDone, value_in};
 
 /// What the closure of `fold_while` answers: whether to go on, and with which value.
 #[derive(Debug, Clone, Copy)]
@@ -15,7 +15,7 @@ pub enum FoldWhile<T> {
 impl<T> FoldWhile<T> {
     /// The value held.
     pub fn into_inner(self) -> T
-        ensures { result ≡ held self }
+        ensures { result ≡ value_in self }
     {
         match self {
             FoldWhile::Continue(x) => x,

@@ -1,8 +1,8 @@
-use Rattle.ndarray.proofs.joining.Joined.{stacked-is, may-stack}
+use Rattle.ndarray.proofs.joining.Joined.{stack_of-is, may-stack}
 use Rattle.ndarray.proofs.stacking.stack.Goals as goal
 
 pub joined_blocks-requires-clause-may : goal.joined_blocks-requires-clause-may
 joined_blocks-requires-clause-may g c = may-stack c.args.axis.0 c.args.arrays.now _ _ c.in_ok-shape.ensures
 
 pub returns-clause-cells : goal.returns-clause-cells
-returns-clause-cells g c = stacked-is c.args.axis.0 c.args.arrays.now _ _ c.in_ok-shape.ensures c.in_ok-joined.joined c.in_ok-joined.ensures.whole c.in_ok-joined.ensures.lengths c.in_ok-joined.ensures.cells
+returns-clause-cells g c = stack_of-is c.args.axis.0 c.args.arrays.now _ _ c.in_ok-shape.ensures c.in_ok-joined.joined c.in_ok-joined.ensures.whole c.in_ok-joined.ensures.lengths c.in_ok-joined.ensures.cells

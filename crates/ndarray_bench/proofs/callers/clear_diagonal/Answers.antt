@@ -1,5 +1,5 @@
 use Rattle.std.proofs.Common.{rules, ◌≡◌, ◌∙◌, ◌∷◌, [], ◌==◌, if◌then◌else◌, Some, ap, refl, sym, subst}
-use Rattle.ndarray.specs.Grid.{arranged, cell}
+use Rattle.ndarray.specs.Grid.{array_by, cell}
 use Rattle.ndarray.specs.Index.{InBox}
 use Rattle.ndarray.proofs.callers.Collecting.{collected, if_ok-both}
 use Rattle.ndarray_bench.specs.Callers.{off_diagonal}
@@ -11,7 +11,7 @@ returns g c =
     let nested = c.indexed.result.nested in
     let second : nested.second ≡ a = c.indexed.ensures.part in
     let lengths : nested.first.lengths ≡ a.lengths = ap (λ v. v.lengths) c.indexed.ensures.lists ∙ ap (λ v. v.lengths) second in
-    if_ok-both c.map_collect.result _ _ (λ b. b ≡ arranged a.lengths (off_diagonal a))
+    if_ok-both c.map_collect.result _ _ (λ b. b ≡ array_by a.lengths (off_diagonal a))
     (λ b ran whole.
     collected _ _ _ (off_diagonal a) _
     (λ i x r k inside shown call.
@@ -21,5 +21,5 @@ returns g c =
     let answer : r ≡ (if x.0.0 == x.0.1 then 0 else x.1.now) = search (rules, call) in
     (search (rules, call), answer ∙ rw (sym place, there) refl))
     ran.0 b whole ran.1
-    ∙ ap (λ ns. arranged ns (off_diagonal a)) lengths)
+    ∙ ap (λ ns. array_by ns (off_diagonal a)) lengths)
     c.map_collect.ensures.ran c.map_collect.ensures.whole

@@ -1,6 +1,6 @@
 use Rattle.std.proofs.Common.{rules, ◌≡◌, ◌∙◌, ℕ, List, ap, max}
 use Rattle.std.specs.List.{fold}
-use Rattle.ndarray.specs.Grid.{arranged}
+use Rattle.ndarray.specs.Grid.{array_by}
 use Rattle.ndarray.proofs.callers.Collecting.{collected, if_ok-both}
 use Rattle.ndarray_bench.proofs.callers.greatest_of_each.Goals as goal
 
@@ -14,5 +14,5 @@ returns g c =
     let answer : r ≡ fold max 0 view.cells = search (rules, call) in
     (search rules, answer ∙ ap (λ v. fold max 0 v.cells) (told i view (rw c.from.ensures at inside) (rw c.from.ensures at shown))))
     ran.0 d whole ran.1
-    ∙ ap (λ n. arranged (g.N.Shaped.lengths n) greatest_at) c.from.ensures)
+    ∙ ap (λ n. array_by (g.N.Shaped.lengths n) greatest_at) c.from.ensures)
     c.map_collect.ensures.ran c.map_collect.ensures.whole

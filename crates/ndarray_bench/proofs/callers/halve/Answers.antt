@@ -1,5 +1,5 @@
 use Rattle.std.proofs.Common.{rules, ◌≡◌, ◌∙◌, ◌/◌, Some, ap, refl}
-use Rattle.ndarray.specs.Grid.{arranged, cell}
+use Rattle.ndarray.specs.Grid.{array_by, cell}
 use Rattle.ndarray.proofs.callers.Collecting.{collected, if_ok-both}
 use Rattle.ndarray_bench.specs.Callers.{half_at}
 use Rattle.ndarray_bench.proofs.callers.halve.Goals as goal
@@ -8,7 +8,7 @@ pub returns : goal.returns
 returns g c =
     let a = c.args.a.now in
     let first : c.from.result.nested ≡ a = c.from.ensures in
-    if_ok-both c.map_collect.result _ _ (λ b. b ≡ arranged a.lengths (half_at a))
+    if_ok-both c.map_collect.result _ _ (λ b. b ≡ array_by a.lengths (half_at a))
     (λ b ran whole.
     collected _ _ _ (half_at a) _
     (λ i x r k inside shown call.
@@ -16,5 +16,5 @@ returns g c =
     let answer : r ≡ x.now / 2 = search (rules, call) in
     (search (rules, call), answer ∙ rw there refl))
     ran.0 b whole ran.1
-    ∙ ap (λ v. arranged v.lengths (half_at a)) first)
+    ∙ ap (λ v. array_by v.lengths (half_at a)) first)
     c.map_collect.ensures.ran c.map_collect.ensures.whole

@@ -1,7 +1,7 @@
 use Rattle.std.proofs.Common.{rules, ◌≡◌, ◌∙◌, ◌∷◌, [], ap}
-use Rattle.ndarray.specs.Grid.{arranged}
+use Rattle.ndarray.specs.Grid.{array_by}
 use Rattle.ndarray.specs.Subviews.{window, windows_of}
-use Rattle.ndarray.proofs.callers.Collecting.{arranged-at, if_ok-both}
+use Rattle.ndarray.proofs.callers.Collecting.{array_by-at, if_ok-both}
 use Rattle.ndarray_bench.specs.Callers.{greatest_in_square}
 use Rattle.ndarray_bench.proofs.callers.maximum_filter.Goals as goal
 
@@ -13,6 +13,6 @@ returns g c =
     let windows : c.windows.result ≡ windows_of a sides steps = search rules in
     if_ok-both c.greatest_of_each.result _ _ _
     (λ d made same.
-    made (window a sides steps) (λ i square inside shown. arranged-at _ (window a sides steps) c.windows.result i square windows inside shown)
-    ∙ ap (λ v. arranged v.lengths (greatest_in_square a)) windows)
+    made (window a sides steps) (λ i square inside shown. array_by-at _ (window a sides steps) c.windows.result i square windows inside shown)
+    ∙ ap (λ v. array_by v.lengths (greatest_in_square a)) windows)
     c.greatest_of_each.ensures c.greatest_of_each.ensures

@@ -1,5 +1,5 @@
 use Rattle.std.proofs.Common.{rules, ◌≡◌, ◌∙◌, Some, ap, max, refl}
-use Rattle.ndarray.specs.Grid.{arranged, cell}
+use Rattle.ndarray.specs.Grid.{array_by, cell}
 use Rattle.ndarray.specs.Views.{broadcast_to}
 use Rattle.ndarray.proofs.callers.Collecting.{collected, if_ok-both}
 use Rattle.ndarray_bench.specs.Callers.{greater_at}
@@ -11,7 +11,7 @@ returns g c =
     let limits = c.args.limits.now in
     let first : c.and_broadcast.result.nested.first ≡ a = c.and_broadcast.ensures.before ∙ c.from.ensures in
     let second : c.and_broadcast.result.nested.second ≡ broadcast_to limits a.lengths = c.and_broadcast.ensures.last ∙ ap (λ v. broadcast_to limits v.lengths) c.from.ensures in
-    if_ok-both c.map_collect.result _ _ (λ b. b ≡ arranged a.lengths (greater_at a limits))
+    if_ok-both c.map_collect.result _ _ (λ b. b ≡ array_by a.lengths (greater_at a limits))
     (λ b ran whole.
     collected _ _ _ (greater_at a limits) _
     (λ i x r k inside shown call.
@@ -20,5 +20,5 @@ returns g c =
     let answer : r ≡ max x.0.now x.1.now = search (rules, call) in
     (search (rules, call), answer ∙ rw (own, other) refl))
     ran.0 b whole ran.1
-    ∙ ap (λ v. arranged v.lengths (greater_at a limits)) first)
+    ∙ ap (λ v. array_by v.lengths (greater_at a limits)) first)
     c.map_collect.ensures.ran c.map_collect.ensures.whole

@@ -1,5 +1,5 @@
 use Rattle.std.proofs.Common.{rules, ◌≡◌, ◌∙◌, ◌-◌, Some, refl}
-use Rattle.ndarray.specs.Grid.{arranged, cell}
+use Rattle.ndarray.specs.Grid.{array_by, cell}
 use Rattle.ndarray.proofs.callers.Collecting.{collected, if_ok-both}
 use Rattle.ndarray_bench.specs.Callers.{rest_at}
 use Rattle.ndarray_bench.proofs.callers.rests.Goals as goal
@@ -8,7 +8,7 @@ pub returns : goal.returns
 returns g c =
     let parts = c.args.parts.now in
     let whole = c.args.whole in
-    if_ok-both c.scalar_left.result _ _ (λ b. b ≡ arranged parts.lengths (rest_at whole parts))
+    if_ok-both c.scalar_left.result _ _ (λ b. b ≡ array_by parts.lengths (rest_at whole parts))
     (λ b ran grid.
     collected _ _ _ (rest_at whole parts) _
     (λ i x r k inside shown call.

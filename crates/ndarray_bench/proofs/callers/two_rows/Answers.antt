@@ -2,15 +2,15 @@ use Rattle.std.proofs.Common.{◌≡◌, ◌∙◌, ◌∷◌, [], ap, subst}
 use Rattle.std.specs.Prelude.{IfOk}
 use Rattle.ndarray.specs.Grid.{IsGrid, cell}
 use Rattle.ndarray.specs.Index.{InBox}
-use Rattle.ndarray.specs.Joining.{stacked}
+use Rattle.ndarray.specs.Joining.{stack_of}
 use Rattle.ndarray.proofs.callers.Cells.{tabulate-cell}
 use Rattle.ndarray.proofs.callers.Collecting.{if_ok-both}
 use Rattle.ndarray_bench.proofs.callers.two_rows.Goals as goal
 
 pub returns-clause-table : goal.returns-clause-table
 returns-clause-table c =
-    subst (λ g. IfOk c.stack.result (λ t. t ≡ stacked 0 (g ∷ c.args.second.now ∷ []))) c.view.ensures.same
-    (subst (λ g. IfOk c.stack.result (λ t. t ≡ stacked 0 (c.view.result ∷ g ∷ []))) c.view-2.ensures.same c.stack.ensures.cells)
+    subst (λ g. IfOk c.stack.result (λ t. t ≡ stack_of 0 (g ∷ c.args.second.now ∷ []))) c.view.ensures.same
+    (subst (λ g. IfOk c.stack.result (λ t. t ≡ stack_of 0 (c.view.result ∷ g ∷ []))) c.view-2.ensures.same c.stack.ensures.cells)
 
 pub returns-clause-second_row : goal.returns-clause-second_row
 returns-clause-second_row c =

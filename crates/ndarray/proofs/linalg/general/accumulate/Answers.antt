@@ -2,7 +2,7 @@ use Rattle.std.proofs.Common.{◌≡◌, ◌∙◌, ap, refl, subst}
 use Rattle.ndarray.specs.Grid.{cell}
 use Rattle.ndarray.specs.Index.{InBox}
 use Rattle.ndarray.specs.Products.{AddsScaled}
-use Rattle.ndarray.proofs.callers.Collecting.{arranged-at, may-gather}
+use Rattle.ndarray.proofs.callers.Collecting.{array_by-at, may-gather}
 use Rattle.ndarray.proofs.cells.Cells.{cell-inside}
 use Rattle.ndarray.proofs.cells.CollectedCells.{Collects-at}
 use Rattle.ndarray.proofs.cells.Products.{same-item}
@@ -12,7 +12,7 @@ use Rattle.ndarray.proofs.linalg.general.accumulate.Goals as goal
 pub try_update-requires-clause-callable : goal.try_update-requires-clause-callable
 try_update-requires-clause-callable g c = λ o. may-gather _ _ _ _ (λ i x r k s h. h.1) _ o
     (λ i x b s.
-    let at = arranged-at _ (λ is. is) c.of-lists.result i _ c.of-lists.ensures (cell-inside c.of-lists.result i _ s.1) s.1 in
+    let at = array_by-at _ (λ is. is) c.of-lists.result i _ c.of-lists.ensures (cell-inside c.of-lists.result i _ s.1) s.1 in
     c.requires x.1 x.0 (ap (λ j. cell c.args.array.now j) at ∙ s.0))
 
 pub returns : goal.returns
@@ -33,7 +33,7 @@ returns g c =
           let same = same-item _ k.item.0 x there.0 at in (
             k.item.1,
             s,
-            arranged-at _ (λ js. js) c.of-lists.result is _ c.of-lists.ensures (cell-inside c.of-lists.result is _ there.1) there.1,
+            array_by-at _ (λ js. js) c.of-lists.result is _ c.of-lists.ensures (cell-inside c.of-lists.result is _ there.1) there.1,
             subst (λ f. g.C.Entries.computes f k.item.1 s) k.known.0 computed,
             subst (λ y. AddsScaled v (v.meaning c.args.alpha) (v.meaning c.args.beta) (v.meaning y) (v.meaning s) (v.meaning z)) same
                 (subst (λ y. AddsScaled v (v.meaning c.args.alpha) (v.meaning y) (v.meaning k.item.0) (v.meaning s) (v.meaning z)) k.known.2

@@ -1,6 +1,6 @@
 use Rattle.std.proofs.Common.{◌≡◌, ◌+◌, ◌-◌, ◌∷◌, [], ap, ◌∙◌, arith, rules, length, drop, inl, inr}
 use Rattle.std.proofs.lemmas.Bool.{cases_lt}
-use Rattle.ndarray.specs.order.Walks.{WalkStands, walk_rest}
+use Rattle.ndarray.specs.order.Walks.{WalksFrom, walk_rest}
 use Rattle.ndarray.proofs.boxes.Walks.{walk-later, length-walk_rest, one-fits}
 use Rattle.ndarray.proofs.order.Walk+Ix1.take_first.Goals as goal
 
@@ -15,7 +15,7 @@ overflow_add-self c =
       | inr none ↦ omega arith
     ]
 
-later : (c : goal.After-self-2-1) → WalkStands c.self.inside.order c.self.inside.dim.0 ((c.axis.result + c.args.count) ∷ []) (c.self.inside.left - c.args.count) × (walk_rest c.self.inside.order c.self.inside.dim.0 ((c.axis.result + c.args.count) ∷ []) (c.self.inside.left - c.args.count) ≡ drop c.args.count (walk_rest c.self.inside.order c.self.inside.dim.0 c.self.inside.index.0 c.self.inside.left))
+later : (c : goal.After-self-2-1) → WalksFrom c.self.inside.order c.self.inside.dim.0 ((c.axis.result + c.args.count) ∷ []) (c.self.inside.left - c.args.count) × (walk_rest c.self.inside.order c.self.inside.dim.0 ((c.axis.result + c.args.count) ∷ []) (c.self.inside.left - c.args.count) ≡ drop c.args.count (walk_rest c.self.inside.order c.self.inside.dim.0 c.self.inside.index.0 c.self.inside.left))
 later c =
     let w = c.self.inside in
     let one : length w.index.0 ≡ 1 = search rules in

@@ -1,7 +1,7 @@
 use Rattle.std.proofs.Common.{ap, sym, ◌∙◌, length, ◌≡◌, replicate, subst, List, ℕ}
 use Rattle.ndarray.specs.Orders.{IsBoxIn}
-use Rattle.ndarray.specs.order.Walks.{WalkStands, walk_rest}
-use Rattle.ndarray.proofs.boxes.Walks.{walk-new, walk-stands_new}
+use Rattle.ndarray.specs.order.Walks.{WalksFrom, walk_rest}
+use Rattle.ndarray.proofs.boxes.Walks.{walk-new, walks-from_new}
 use Rattle.ndarray.proofs.boxes.Orders.{box_in-is}
 use Rattle.ndarray.proofs.lists.Permutations.{IsBoxIn-rearranges}
 use Rattle.ndarray.proofs.boxes.UniqueOrder.{box_in-unique}
@@ -11,9 +11,9 @@ pub invariant_of-result : goal.invariant_of-result
 invariant_of-result g c =
     let ns = g.D.Lengths.numbers c.args.dim in
     let z : g.D.Lengths.numbers c.zeros-index.result ≡ replicate (length ns) 0 = c.zeros-index.ensures ∙ ap (λ x. replicate x 0) c.ndim.ensures.value in
-    let P : List ℕ → Type 0 = λ x. WalkStands c.args.order ns x c.size-left.result in
-    let Q : ℕ → Type 0 = λ x. WalkStands c.args.order ns (replicate (length ns) 0) x in
-    subst P (sym z) (subst Q (sym c.size-left.ensures) (walk-stands_new c.args.order ns c.requires))
+    let P : List ℕ → Type 0 = λ x. WalksFrom c.args.order ns x c.size-left.result in
+    let Q : ℕ → Type 0 = λ x. WalksFrom c.args.order ns (replicate (length ns) 0) x in
+    subst P (sym z) (subst Q (sym c.size-left.ensures) (walks-from_new c.args.order ns c.requires))
 
 pub returns-clause-list : goal.returns-clause-list
 returns-clause-list g c =

@@ -2,7 +2,7 @@ use Rattle.std.proofs.Common.{◌≡◌, ◌∙◌, ◌+◌, ◌≤◌, ◌<◌,
 use Rattle.std.proofs.lemmas.List.{length-append}
 use Rattle.ndarray.specs.Index.{row_order, size}
 use Rattle.ndarray.specs.Orders.{cells_in}
-use Rattle.ndarray.proofs.cells.RunningProducts.{RunningProducts, blocks-of, products-start, products-room, products-axis, products-back, products-can, products-next, products-within, products-all, cumulates-of}
+use Rattle.ndarray.proofs.cells.RunningProducts.{RunningProducts, blocks-of, products-start, products-room, products-axis, products-back, products-can, running-products-next, products-within, products-all, cumulates-of}
 use Rattle.ndarray.proofs.reduce.cumprod.running_products.Goals as goal
 
 none-at_most : (n s : ℕ) → n ≡ 0 → n ≤ s
@@ -60,7 +60,7 @@ loop-index-preserved g c =
       order = ap (λ p. p.order) c.push.ensures ∙ i.order;
       room = one-more (length ms) _ _ _ (products-room g.A.Mul.mul_gives c.args.array.now c.args.axis.0 c.axis-step.result (blocks-of c.args.array.now c.args.axis.0 c.axis-step.result _ _ c.raw_dim-dim.ensures.whole c.requires.axis c.raw_dim-dim.ensures.lengths c.default_strides.ensures.strides c.axis-step.ensures) c.loop-index.products.cells _ _ _ c.loop-index.invariant.pushed c.in-Some.ensures.steps) (length-append ms (z ∷ [])) (ap length more);
       pushed = subst (λ zs. RunningProducts g.A.Mul.mul_gives c.args.array.now c.args.axis.0 zs c.next.new.self) (sym more)
-          (products-next g.A.Mul.mul_gives c.args.array.now c.args.axis.0 c.axis-step.result (blocks-of c.args.array.now c.args.axis.0 c.axis-step.result _ _ c.raw_dim-dim.ensures.whole c.requires.axis c.raw_dim-dim.ensures.lengths c.default_strides.ensures.strides c.axis-step.ensures) c.loop-index.products.cells _ _ _ c.loop-index.invariant.pushed c.in-Some.ensures.steps _ z c.item.ensures (λ zero. made.first (c.axis.ensures ∙ zero)) (λ some. made.next (subst (λ n. 0 < n) (sym c.axis.ensures) some)));
+          (running-products-next g.A.Mul.mul_gives c.args.array.now c.args.axis.0 c.axis-step.result (blocks-of c.args.array.now c.args.axis.0 c.axis-step.result _ _ c.raw_dim-dim.ensures.whole c.requires.axis c.raw_dim-dim.ensures.lengths c.default_strides.ensures.strides c.axis-step.ensures) c.loop-index.products.cells _ _ _ c.loop-index.invariant.pushed c.in-Some.ensures.steps _ z c.item.ensures (λ zero. made.first (c.axis.ensures ∙ zero)) (λ some. made.next (subst (λ n. 0 < n) (sym c.axis.ensures) some)));
     }
 
 pub finish-requires : goal.finish-requires

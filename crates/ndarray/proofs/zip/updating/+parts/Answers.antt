@@ -8,7 +8,7 @@ use Rattle.ndarray.specs.Updates.{is_beside, OverwritesTo}
 use Rattle.ndarray.specs.Producers.{IsPart}
 use Rattle.ndarray.specs.order.Cuts.{IsCut, IsSlowest, counted_from}
 use Rattle.ndarray.proofs.boxes.Cuts.{slowest-below}
-use Rattle.ndarray.proofs.runs.OverwrittenParts.{Left, left-all, elements-each, first-along, first-may, first-failed, left-rest, left-along, left-ran, may-overwrite-less, overwrote-less}
+use Rattle.ndarray.proofs.runs.OverwrittenParts.{Left, left-all, elements-each, first-seen_along, first-may, first-failed, left-rest, left-along, left-ran, may-overwrite-less, overwrote-less}
 use Rattle.ndarray.proofs.runs.Parts.{first-sum, rest-sum, rest-len, rest-slowest, noted, follows-noted, long-left, next-left, first-fewer, last-fewer, cut-fewer, shows-own}
 use Rattle.ndarray.proofs.zip.updating.+parts.Goals as goal
 
@@ -139,7 +139,7 @@ update_cut-update_parts-requires g t c κs within =
     let left : Left o (g.P.Shaped.lengths c.args.p) (g.P.NdProducer.yields_at c.args.p) g.C.CellCall.call_gives g.C.CellCall.can_call c.args.f c.args.slice.now q.0 ns shown c.loop-done.f c.loop-done.slice c.loop-done.from = i.5 q.0 q.1.0 in
     let less = first-sum o slowest long low high in
     let seen : List ℕ → Option g.row.A.Denot = λ is. left.seen (counted_from axis 0 is) in
-    let along = first-along left slowest long low high each wide part all-of in
+    let along = first-seen_along left slowest long low high each wide part all-of in
     (subst (λ n. 2 * sum (g.P.Shaped.lengths first) + 1 < n) c.decreases (first-fewer (sum (g.P.Shaped.lengths first)) (slice_index ns axis) c.loop-done.done c.in-Some.cut.len (sum ns) (sum (g.P.Shaped.lengths c.args.p)) less i.1 i.2 c.in-Some.ensures.long), (within.0, (within.1.0, (within.1.1.0, (within.1.1.1.0, (within.1.1.1.1.0, (within.1.1.1.1.1.0, (within.1.1.1.1.1.1.0, (within.1.1.1.1.1.1.1, (seen, (along, first-may left slowest long low high q.1.1)))))))))))
 
 pub update_cut-returns-in-Err-clause-ran : goal.update_cut-returns-in-Err-clause-ran
@@ -161,7 +161,7 @@ update_cut-returns-in-Err-clause-ran g t c = λ at along.
     let all-of : part ≡ each = cut-back c.loop-done.from each in
     let left : Left o (g.P.Shaped.lengths c.args.p) (g.P.NdProducer.yields_at c.args.p) g.C.CellCall.call_gives g.C.CellCall.can_call c.args.f c.args.slice.now at ns shown c.loop-done.f c.loop-done.slice c.loop-done.from = i.5 at along in
     first-failed left slowest long low high each wide part all-of c.in-Err.refused c.update_parts.new.slice c.in-Err.ensures.as_long
-    (c.in-Err.ensures.ran (λ is. left.seen (counted_from axis 0 is)) (first-along left slowest long low high each wide part all-of))
+    (c.in-Err.ensures.ran (λ is. left.seen (counted_from axis 0 is)) (first-seen_along left slowest long low high each wide part all-of))
 
 pub update_cut-slice_bounds-update_run-count : goal.update_cut-slice_bounds-update_run-count
 update_cut-slice_bounds-update_run-count g t c =
@@ -204,7 +204,7 @@ update_cut-update_run-requires-then-not-flat-clause-can g t c =
     let q = c.requires in
     let left : Left o (g.P.Shaped.lengths c.args.p) (g.P.NdProducer.yields_at c.args.p) g.C.CellCall.call_gives g.C.CellCall.can_call c.args.f c.args.slice.now q.0 ns shown c.loop-done.f c.loop-done.slice c.loop-done.from = i.5 q.0 q.1.0 in
     let seen : List ℕ → Option g.row.A.Denot = λ is. left.seen (counted_from axis 0 is) in
-    let here = first-along left slowest long low high each wide part all-of in
+    let here = first-seen_along left slowest long low high each wide part all-of in
     let k = c.in-Ok.field-0.turn in
     let ys = c.update_parts.new.slice in
     let ran = c.in-Ok.ensures.ran seen here in
@@ -230,7 +230,7 @@ update_cut-returns-then-not-flat-clause-ran g t c = λ at along.
     let all-of : part ≡ each = cut-back c.loop-done.from each in
     let left : Left o (g.P.Shaped.lengths c.args.p) (g.P.NdProducer.yields_at c.args.p) g.C.CellCall.call_gives g.C.CellCall.can_call c.args.f c.args.slice.now at ns shown c.loop-done.f c.loop-done.slice c.loop-done.from = i.5 at along in
     let seen : List ℕ → Option g.row.A.Denot = λ is. left.seen (counted_from axis 0 is) in
-    let here = first-along left slowest long low high each wide part all-of in
+    let here = first-seen_along left slowest long low high each wide part all-of in
     let k = c.in-Ok.field-0.turn in
     let ys = c.update_parts.new.slice in
     let ran = c.in-Ok.ensures.ran seen here in
@@ -272,7 +272,7 @@ update_cut-loop-done-preserved g t c =
       λ at along.
           let left : Left o (g.P.Shaped.lengths c.args.p) (g.P.NdProducer.yields_at c.args.p) g.C.CellCall.call_gives g.C.CellCall.can_call c.args.f c.args.slice.now at ns shown c.loop-done.f c.loop-done.slice c.loop-done.from = i.5 at along in
           let seen : List ℕ → Option g.row.A.Denot = λ is. left.seen (counted_from axis 0 is) in
-          let here = first-along left slowest long low high each wide part all-of in
+          let here = first-seen_along left slowest long low high each wide part all-of in
           left-rest left slowest long low high each wide part all-of c.in-Ok.field-0.turn ys c.in-Ok.ensures.as_long (from-within c.loop-done.from (slice_index ns axis) each (length c.loop-done.slice) wide)
           (c.in-Ok.ensures.ran seen here) after (c.loop-done.from + length c.args.slice.now / c.in-Some.cut.len) refl (ap (λ n. c.loop-done.from + n) (sym all-of)),
     )

@@ -3,7 +3,7 @@ use Rattle.ndarray.specs.Grid.{IsGrid, one_axis}
 use Rattle.ndarray.specs.Subviews.{ArePositive, window, window_counts, windows_of}
 use Rattle.ndarray.specs.base.Pieces.{AreWindowsOf}
 use Rattle.ndarray.proofs.cells.AlongAxis.{AreAlong-set}
-use Rattle.ndarray.proofs.cells.Cells.{arranged-whole}
+use Rattle.ndarray.proofs.cells.Cells.{array_by-whole}
 use Rattle.ndarray.proofs.pieces.OneAxisWindows.{ArePositive-set, AreWindowsOf-set, axis_windows-one_axis, window_counts-axis}
 use Rattle.ndarray.proofs.base.array.ArrayBase.axis_windows_with_stride.Goals as goal
 
@@ -35,7 +35,7 @@ invariant_of-result g c =
     let k = c.args.axis.0 in
     let ws = set a.lengths k c.args.window in
     let ss = set (replicate (length a.lengths) 1) k c.args.step in
-    AreAlong-set (length a.lengths) k _ _ (subst IsGrid (sym (pieces g c)) (arranged-whole (window_counts a.lengths ws ss) (window a ws ss))) c.requires.axis
+    AreAlong-set (length a.lengths) k _ _ (subst IsGrid (sym (pieces g c)) (array_by-whole (window_counts a.lengths ws ss) (window a ws ss))) c.requires.axis
     (ap (λ v. v.lengths) (pieces g c) ∙ window_counts-axis a.lengths k c.args.window c.args.step c.requires.axis)
 
 pub returns : goal.returns

@@ -5,7 +5,7 @@ use Rattle.ndarray.proofs.base.array.ArrayBase.indexed_iter_mut.Goals as goal
 pub returns : goal.returns
 returns g c =
     let v = c.args.self.now in
-    let e = c.lent_places.ensures in (
+    let e = c.places_mut.ensures in (
       (refl, λ w. refl),
       record {
         writes_back = tt;

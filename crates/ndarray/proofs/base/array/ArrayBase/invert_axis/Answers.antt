@@ -3,7 +3,7 @@ use Rattle.std.proofs.lemmas.List.{set-get_or}
 use Rattle.ndarray.specs.Grid.{cell, tabulate}
 use Rattle.ndarray.specs.Views.{mirrored_index}
 use Rattle.ndarray.specs.base.Places.{Rearranges}
-use Rattle.ndarray.proofs.views.Cuts.{IsCut, IsCut-turned, rearranges-cut}
+use Rattle.ndarray.proofs.views.Cuts.{IsAxisCut, IsAxisCut-turned, rearranges-cut}
 use Rattle.ndarray.proofs.views.Images.{Reaches-rearranged, grid-seen}
 use Rattle.ndarray.proofs.strides.Reach.{length-cells_at}
 use Rattle.ndarray.proofs.boxes.Sizes.{length-fits}
@@ -16,8 +16,8 @@ turn g c =
     let ns = g.D.Lengths.numbers a.dim in
     let lt : c.args.axis.0 < length ns = omega (arith, ap (λ v. length v.lengths) c.self.view_is, c.requires) in
     let n = get_or ns c.args.axis.0 0 in
-    let cut : IsCut n ((c.axis-len.result + (2 ^ 64 - 1)) % 2 ^ 64) c.axis-len.result (2 ^ 64 - 1) (λ i. n - 1 - i) =
-    subst (λ len. IsCut n ((len + (2 ^ 64 - 1)) % 2 ^ 64) len (2 ^ 64 - 1) (λ i. n - 1 - i)) (sym c.axis-len.ensures) (IsCut-turned n (length-fits ns c.args.axis.0 lt c.self.invariant.limit)) in
+    let cut : IsAxisCut n ((c.axis-len.result + (2 ^ 64 - 1)) % 2 ^ 64) c.axis-len.result (2 ^ 64 - 1) (λ i. n - 1 - i) =
+    subst (λ len. IsAxisCut n ((len + (2 ^ 64 - 1)) % 2 ^ 64) len (2 ^ 64 - 1) (λ i. n - 1 - i)) (sym c.axis-len.ensures) (IsAxisCut-turned n (length-fits ns c.args.axis.0 lt c.self.invariant.limit)) in
     rw (c.cut.ensures.dim, c.cut.ensures.start, c.cut.ensures.strides) (rearranges-cut (g.S.Data.apart c.self.inside.storage) _ ns a.start (g.D.Lengths.numbers a.strides) c.self.invariant c.args.axis.0 lt ((c.axis-len.result + (2 ^ 64 - 1)) % 2 ^ 64) c.axis-len.result (2 ^ 64 - 1) (λ i. n - 1 - i) cut)
 
 pub invariant_of-self : goal.invariant_of-self

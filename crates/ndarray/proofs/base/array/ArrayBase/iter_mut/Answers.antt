@@ -4,9 +4,9 @@ use Rattle.ndarray.specs.Limits.{IsWithinLimit}
 use Rattle.ndarray.specs.Orders.{HasInOrder, box_in, cells_in}
 use Rattle.ndarray.specs.base.Slots.{held_at}
 use Rattle.ndarray.specs.declared.base.shape.Order.TheVariants.{RowMajor}
-use Rattle.ndarray.specs.places.Lent.{AreLentAt}
+use Rattle.ndarray.specs.places.ElementPlaces.{AreDistinctPlaces}
 use Rattle.ndarray.proofs.cells.Cells.{along-row_order, cells_in-HasInOrder, length-along}
-use Rattle.ndarray.proofs.moving.LentCells.{AreLentAt-all, found-all}
+use Rattle.ndarray.proofs.moving.BorrowedCells.{AreDistinctPlaces-all, found-all}
 use Rattle.ndarray.proofs.boxes.Orders.{box_in-within, length-box_in}
 use Rattle.ndarray.proofs.strides.Reach.{length-cells_at}
 use Rattle.ndarray.proofs.boxes.Sizes.{size-le}
@@ -16,7 +16,7 @@ pub invariant_of-result : goal.invariant_of-result
 invariant_of-result g c =
     let l = c.region_parts-region.result in
     let axes = g.D.Lengths.numbers in
-    subst (AreLentAt (held_at l.region.slots)) (sym c.new.ensures) (AreLentAt-all (held_at l.region.slots) (axes l.layout.dim) l.layout.start (axes l.layout.strides) c.region_parts-region.ensures.reaches RowMajor)
+    subst (AreDistinctPlaces (held_at l.region.slots)) (sym c.new.ensures) (AreDistinctPlaces-all (held_at l.region.slots) (axes l.layout.dim) l.layout.start (axes l.layout.strides) c.region_parts-region.ensures.reaches RowMajor)
 
 pub returns : goal.returns
 returns g c =

@@ -47,9 +47,9 @@ use Rattle.ndarray.specs.base.Slots.{held_at}
 use Rattle.ndarray.specs.declared.base.storage.Data as Data
 use Rattle.ndarray.specs.declared.base.storage.DataMut as DataMut
 use Rattle.ndarray.specs.contracts.base.array.ArrayBase as A-type
-use Rattle.ndarray.specs.contracts.base.writing.RegionParts as L-type
+use Rattle.ndarray.specs.contracts.base.view_mut.RegionParts as L-type
 use Rattle.ndarray.specs.contracts.base.storage.DataMut.region_parts as F₁
-use Rattle.ndarray.proofs.base.writing.RegionParts.TheLaws as L-laws
+use Rattle.ndarray.proofs.base.view_mut.RegionParts.TheLaws as L-laws
 use Rattle.ndarray.proofs.regions.Memory.{says_both}
 use Rattle.ndarray.proofs.regions.ReborrowedViews.{Dm}
 use Rattle.ndarray.specs.contracts.base.array.ArrayBase.region_parts as F

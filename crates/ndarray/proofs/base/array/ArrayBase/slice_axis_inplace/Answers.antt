@@ -5,11 +5,11 @@ use Rattle.std.proofs.lemmas.Int.{to_z-of_z}
 use Rattle.ndarray.specs.Grid.{cell, tabulate}
 use Rattle.ndarray.specs.Slices.{IsSliceOf, slice_index_at, slice_length}
 use Rattle.ndarray.specs.base.Places.{Rearranges}
-use Rattle.ndarray.proofs.views.Cuts.{IsCut, rearranges-cut}
+use Rattle.ndarray.proofs.views.Cuts.{IsAxisCut, rearranges-cut}
 use Rattle.ndarray.proofs.views.Images.{Reaches-rearranged, grid-seen}
 use Rattle.ndarray.proofs.strides.Reach.{length-cells_at}
 use Rattle.ndarray.proofs.boxes.Sizes.{length-fits}
-use Rattle.ndarray.proofs.views.Slices.{IsCut-slice}
+use Rattle.ndarray.proofs.views.Slices.{IsAxisCut-slice}
 use Rattle.ndarray.proofs.base.array.ArrayBase.slice_axis_inplace.Goals as goal
 
 pub extent-from-requires-clause-fits : goal.extent-from-requires-clause-fits
@@ -31,9 +31,9 @@ taken g c =
     let within : IsSliceOf c.axis.result s = subst (λ n. IsSliceOf n s) (sym (length-is g c)) c.requires.within in
     let word : FitsSigned w64 s.step = search rules in
     let step : c.cast_unsigned.result ≡ cast_unsigned w64 s.step = c.cast_unsigned.ensures ∙ ap (cast_unsigned w64) (to_z-of_z w64 s.step word) in
-    let cut : IsCut (get_or ns c.args.axis.0 0) c.extent-from.result.0 c.extent-from.result.1 (cast_unsigned w64 s.step) (slice_index_at c.axis.result s) =
-    subst (λ n. IsCut n c.extent-from.result.0 c.extent-from.result.1 (cast_unsigned w64 s.step) (slice_index_at c.axis.result s)) c.axis.ensures
-    (IsCut-slice c.axis.result s within c.extent-from.result.0 c.extent-from.result.1 word c.extent-from.ensures.len c.extent-from.ensures.indices) in
+    let cut : IsAxisCut (get_or ns c.args.axis.0 0) c.extent-from.result.0 c.extent-from.result.1 (cast_unsigned w64 s.step) (slice_index_at c.axis.result s) =
+    subst (λ n. IsAxisCut n c.extent-from.result.0 c.extent-from.result.1 (cast_unsigned w64 s.step) (slice_index_at c.axis.result s)) c.axis.ensures
+    (IsAxisCut-slice c.axis.result s within c.extent-from.result.0 c.extent-from.result.1 word c.extent-from.ensures.len c.extent-from.ensures.indices) in
     rw (c.cut.ensures.dim, c.cut.ensures.start, c.cut.ensures.strides, step) (rearranges-cut (g.S.Data.apart c.self.inside.storage) _ ns a.start (g.D.Lengths.numbers a.strides) c.self.invariant c.args.axis.0 lt c.extent-from.result.0 c.extent-from.result.1 (cast_unsigned w64 s.step) (slice_index_at c.axis.result s) cut)
 
 pub invariant_of-self : goal.invariant_of-self

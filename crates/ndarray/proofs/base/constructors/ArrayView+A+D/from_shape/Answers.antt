@@ -7,7 +7,7 @@ use Rattle.ndarray.proofs.cells.Cells.{cells-row_major, cells_in-HasInOrder}
 use Rattle.ndarray.proofs.strides.Reach.{length-cells_at}
 use Rattle.ndarray.proofs.strides.Strides.{Reaches-slice, cells_in-slice}
 use Rattle.ndarray.proofs.lists.Decisions.{from_yes}
-use Rattle.ndarray.proofs.lists.Outcomes.{overflow-apart, refused, refused-otherwise, not_refused}
+use Rattle.ndarray.proofs.boxes.ShapeErrors.{overflow-apart, is_error, is_other_error, is_no_error}
 use Rattle.ndarray.proofs.base.constructors.ArrayView+A+D.from_shape.Goals as goal
 
 pub invariant_of-result : goal.invariant_of-result
@@ -35,12 +35,12 @@ returns-then-not-size_ok-clause-accepts g c =
 pub returns-then-not-size_ok-clause-overflow : goal.returns-then-not-size_ok-clause-overflow
 returns-then-not-size_ok-clause-overflow g c =
     let over : IsWithinLimit (g.Sh.ShapeBuilder.shape_lengths c.args.shape) → ⊥ = λ limit. false≢true (c.if-not-size_ok.ensures.1 (subst IsWithinLimit (sym c.into_shape_with_order-dim.ensures.lengths) limit)) in
-    refused _ _ _ c.from_kind.ensures over
+    is_error _ _ _ c.from_kind.ensures over
 
 pub returns-then-not-size_ok-clause-short : goal.returns-then-not-size_ok-clause-short
 returns-then-not-size_ok-clause-short g c =
     let over : IsWithinLimit (g.Sh.ShapeBuilder.shape_lengths c.args.shape) → ⊥ = λ limit. false≢true (c.if-not-size_ok.ensures.1 (subst IsWithinLimit (sym c.into_shape_with_order-dim.ensures.lengths) limit)) in
-    refused-otherwise _ _ _ _ c.from_kind.ensures overflow-apart (λ w. over w.0)
+    is_other_error _ _ _ _ c.from_kind.ensures overflow-apart (λ w. over w.0)
 
 pub returns-clause-accepts : goal.returns-clause-accepts
 returns-clause-accepts g c =
@@ -51,9 +51,9 @@ returns-clause-accepts g c =
 pub returns-clause-overflow : goal.returns-clause-overflow
 returns-clause-overflow g c =
     let limit : IsWithinLimit (g.Sh.ShapeBuilder.shape_lengths c.args.shape) = subst IsWithinLimit c.into_shape_with_order-dim.ensures.lengths (c.if-not-size_ok.ensures.0 refl) in
-    not_refused _ _ _ (λ no. no limit)
+    is_no_error _ _ _ (λ no. no limit)
 
 pub returns-clause-short : goal.returns-clause-short
 returns-clause-short g c =
     let same : size (g.Sh.ShapeBuilder.shape_lengths c.args.shape) ≤ length c.args.slice.now = let e = ap size c.into_shape_with_order-dim.ensures.lengths in omega arith in
-    not_refused _ _ _ (λ w. absurd (omega (arith, same, w.1)))
+    is_no_error _ _ _ (λ w. absurd (omega (arith, same, w.1)))

@@ -2,7 +2,7 @@ use Rattle.std.proofs.Common.{Some, ap, sym, subst, arith, length, ◌∙◌}
 use Rattle.ndarray.specs.Index.{InBox}
 use Rattle.ndarray.specs.Grid.{cell}
 use Rattle.ndarray.proofs.boxes.Boxes.{InBox-get, InBox-length}
-use Rattle.ndarray.proofs.cells.Cells.{arranged-cell}
+use Rattle.ndarray.proofs.cells.Cells.{array_by-cell}
 use Rattle.ndarray.proofs.base.index_lists.Indices.list.Goals as goal
 
 pub counted_from-requires-clause-as_many : goal.counted_from-requires-clause-as_many
@@ -25,4 +25,4 @@ pub returns : goal.returns
 returns g c =
     let is = g.D.Lengths.numbers c.args.index.now in
     let b : InBox (g.D.Lengths.numbers c.self.inside.dim) is = subst (λ v. InBox v.lengths is) (sym c.self.view_is) c.requires in
-    ap (λ v. cell v is) (sym c.self.view_is) ∙ (arranged-cell (g.D.Lengths.numbers c.self.inside.dim) _ is b ∙ ap (λ js. Some js) (sym c.counted_from.ensures))
+    ap (λ v. cell v is) (sym c.self.view_is) ∙ (array_by-cell (g.D.Lengths.numbers c.self.inside.dim) _ is b ∙ ap (λ js. Some js) (sym c.counted_from.ensures))

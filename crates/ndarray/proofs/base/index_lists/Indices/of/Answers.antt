@@ -1,7 +1,7 @@
 use Rattle.std.proofs.Common.{get_or, length, arith, ap, refl, ◌∙◌}
 use Rattle.std.proofs.lemmas.List.{get_or-replicate, length-replicate}
 use Rattle.ndarray.specs.base.IndexLists.{shifted_index}
-use Rattle.ndarray.proofs.cells.Cells.{arranged-same}
+use Rattle.ndarray.proofs.cells.Cells.{array_by-same}
 use Rattle.ndarray.proofs.boxes.ShiftedBoxes.{shifted_index-zeros}
 use Rattle.ndarray.proofs.boxes.Sizes.{length-fits}
 use Rattle.ndarray.proofs.base.index_lists.Indices.of.Goals as goal
@@ -20,4 +20,4 @@ invariant_of-result g c =
     }
 
 pub returns : goal.returns
-returns g c = arranged-same _ _ _ _ refl (λ is b. ap (λ ss. shifted_index ss is) c.zeros-start.ensures ∙ shifted_index-zeros c.ndim.result is)
+returns g c = array_by-same _ _ _ _ refl (λ is b. ap (λ ss. shifted_index ss is) c.zeros-start.ensures ∙ shifted_index-zeros c.ndim.result is)

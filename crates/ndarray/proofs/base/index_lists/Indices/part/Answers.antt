@@ -1,8 +1,8 @@
 use Rattle.std.proofs.Common.{◌≡◌, ◌+◌, ◌≤◌, ◌<◌, get_or, set, length, arith, ap, ◌∙◌}
-use Rattle.ndarray.specs.Grid.{arranged}
+use Rattle.ndarray.specs.Grid.{array_by}
 use Rattle.ndarray.specs.Views.{axis_part}
 use Rattle.ndarray.specs.base.IndexLists.{shifted_index}
-use Rattle.ndarray.proofs.cells.Cells.{arranged-whole}
+use Rattle.ndarray.proofs.cells.Cells.{array_by-whole}
 use Rattle.ndarray.proofs.boxes.ShiftedBoxes.{lists-part, StartsAt-part}
 use Rattle.ndarray.proofs.base.index_lists.Indices.part.Goals as goal
 
@@ -28,9 +28,9 @@ invariant_of-result g c = rw (start-is g c, dim-is g c) (StartsAt-part _ _ c.sel
 
 pub returns-clause-value : goal.returns-clause-value
 returns-clause-value g c =
-    ap (λ ns. arranged ns (shifted_index (g.D.Lengths.numbers c.set_axis.new.self))) (dim-is g c)
-    ∙ (ap (λ ss. arranged (set (g.D.Lengths.numbers c.self.inside.dim) c.args.axis c.args.len) (shifted_index ss)) (start-is g c)
+    ap (λ ns. array_by ns (shifted_index (g.D.Lengths.numbers c.set_axis.new.self))) (dim-is g c)
+    ∙ (ap (λ ss. array_by (set (g.D.Lengths.numbers c.self.inside.dim) c.args.axis c.args.len) (shifted_index ss)) (start-is g c)
     ∙ (lists-part _ _ c.self.invariant c.args.axis (axis-lt g c) c.args.from c.args.len (fits g c) ∙ ap (λ v. axis_part v c.args.axis c.args.from (c.args.from + c.args.len)) c.self.view_is))
 
 pub returns-clause-whole : goal.returns-clause-whole
-returns-clause-whole g c = arranged-whole _ _
+returns-clause-whole g c = array_by-whole _ _

@@ -5,7 +5,7 @@ use Rattle.ndarray.specs.Index.{InBox}
 use Rattle.ndarray.specs.base.Places.{place}
 use Rattle.ndarray.specs.base.Nested.{magnitude, sum_over_axes, forward_index, below_first, AreNested}
 use Rattle.ndarray.proofs.boxes.Boxes.{InBox-some}
-use Rattle.ndarray.proofs.strides.IndexOfPlace.{Sought, nested-known, sought-first, sought-below, sought-next, sought-last}
+use Rattle.ndarray.proofs.strides.IndexOfPlace.{SearchState, nested-known, sought-first, sought-below, sought-next, sought-last}
 use Rattle.ndarray.proofs.base.layout.Layout.index_of.Goals as goal
 use Rattle.ndarray.proofs.base.layout.Layout.index_of.Goals.{After-axis-len, After-find, in_default-find-via-in-Some-find+else-found-at, in_default-find-via-in_default-find}
 
@@ -29,8 +29,8 @@ loop-k-init g c =
           let s = sought-first ns bs (g.D.Lengths.numbers c.zeros-index.result) is c.args.self.now.start c.args.at c.requires.as_many nested (omega arith) b at
           (λ k lt. ap (λ xs. get_or xs k 0) c.zeros-index.ensures ∙ get_or-replicate c.ndim.result k 0 0 (omega (arith, lt, n, ln))) in
           let d : ((c.args.at + (2 ^ 64 - c.args.self.now.start)) % 2 ^ 64 + sum_over_axes below_first ns bs) % 2 ^ 64 ≡ ((c.args.at + (2 ^ 64 - c.args.self.now.start)) % 2 ^ 64 + c.below_start.result) % 2 ^ 64 = ap (λ x. ((c.args.at + (2 ^ 64 - c.args.self.now.start)) % 2 ^ 64 + x) % 2 ^ 64) (sym c.below_start.ensures) in
-          subst (λ ms. Sought ns bs ms (((c.args.at + (2 ^ 64 - c.args.self.now.start)) % 2 ^ 64 + c.below_start.result) % 2 ^ 64) (g.D.Lengths.numbers c.zeros-index.result) is) (sym e)
-          (subst (λ r. Sought ns bs ns r (g.D.Lengths.numbers c.zeros-index.result) is) d s);
+          subst (λ ms. SearchState ns bs ms (((c.args.at + (2 ^ 64 - c.args.self.now.start)) % 2 ^ 64 + c.below_start.result) % 2 ^ 64) (g.D.Lengths.numbers c.zeros-index.result) is) (sym e)
+          (subst (λ r. SearchState ns bs ns r (g.D.Lengths.numbers c.zeros-index.result) is) d s);
     }
 
 -- the size of the stride of the axis that is told
@@ -47,7 +47,7 @@ module _ (g : _) (c : After-axis-len g) (is : List ℕ) (b : InBox (g.D.Lengths.
       rw (stride_size g c, c.axis-len.ensures) s
 
   -- and with it known the others are sought
-  next : (v : ℕ) → v ≡ forward_index c.axis-len.result c.axis-stride.result (c.loop-k.rest / c.magnitude-m.result) → Sought (g.D.Lengths.numbers c.args.self.now.dim) (g.D.Lengths.numbers c.args.self.now.strides) (set (g.D.Lengths.numbers c.loop-k.dim) c.in-Some.k 1) (c.loop-k.rest % c.magnitude-m.result) (set (g.D.Lengths.numbers c.loop-k.index) c.in-Some.k v) is
+  next : (v : ℕ) → v ≡ forward_index c.axis-len.result c.axis-stride.result (c.loop-k.rest / c.magnitude-m.result) → SearchState (g.D.Lengths.numbers c.args.self.now.dim) (g.D.Lengths.numbers c.args.self.now.strides) (set (g.D.Lengths.numbers c.loop-k.dim) c.in-Some.k 1) (c.loop-k.rest % c.magnitude-m.result) (set (g.D.Lengths.numbers c.loop-k.index) c.in-Some.k v) is
   next v ev =
       let i = c.loop-k.invariant in
       let e = c.in-Some.ensures in
@@ -72,8 +72,8 @@ loop-k-preserved g c =
       indices = x ∙ i.indices;
       nested = subst (λ ms. AreNested ms (g.D.Lengths.numbers c.args.self.now.strides)) (sym c.set_axis-in-Some.ensures) (nested-known (g.D.Lengths.numbers c.loop-k.dim) (g.D.Lengths.numbers c.args.self.now.strides) c.in-Some.k (let y = i.dims in omega (arith, as_many, y)) e.0 e.1 i.nested);
       each = λ is b at.
-          subst (λ ms. Sought (g.D.Lengths.numbers c.args.self.now.dim) (g.D.Lengths.numbers c.args.self.now.strides) ms (c.loop-k.rest % c.magnitude-m.result) (g.D.Lengths.numbers c.set_axis.new.self) is) (sym c.set_axis-in-Some.ensures)
-          (subst (λ xs. Sought (g.D.Lengths.numbers c.args.self.now.dim) (g.D.Lengths.numbers c.args.self.now.strides) (set (g.D.Lengths.numbers c.loop-k.dim) c.in-Some.k 1) (c.loop-k.rest % c.magnitude-m.result) xs is) (sym c.set_axis.ensures)
+          subst (λ ms. SearchState (g.D.Lengths.numbers c.args.self.now.dim) (g.D.Lengths.numbers c.args.self.now.strides) ms (c.loop-k.rest % c.magnitude-m.result) (g.D.Lengths.numbers c.set_axis.new.self) is) (sym c.set_axis-in-Some.ensures)
+          (subst (λ xs. SearchState (g.D.Lengths.numbers c.args.self.now.dim) (g.D.Lengths.numbers c.args.self.now.strides) (set (g.D.Lengths.numbers c.loop-k.dim) c.in-Some.k 1) (c.loop-k.rest % c.magnitude-m.result) xs is) (sym c.set_axis.ensures)
           (next g (goal.at.loop-k-preserved g c).After-axis-len is b at c.forward_index.result c.forward_index.ensures));
     }
 

@@ -5,7 +5,7 @@ use Rattle.std.proofs.lemmas.Bool.{cases_lt}
 use Rattle.ndarray.specs.Index.{size}
 use Rattle.ndarray.specs.declared.base.shape.Order.TheVariants.{RowMajor}
 use Rattle.ndarray.proofs.boxes.Sizes.{size-one_of}
-use Rattle.ndarray.proofs.strides.Strides.{Follows, block_in-fits, block-step, last-fits, place-follows, stride-follows}
+use Rattle.ndarray.proofs.strides.Strides.{IsContiguousAt, block_in-fits, block-step, last-fits, place-follows, stride-follows}
 use Rattle.ndarray.proofs.base.layout.Layout.is_row_major.Goals as goal
 use Rattle.ndarray.proofs.base.layout.Layout.is_row_major.Goals.{else-len-ne1-via-then-len-ne1+else-axis-block, else-len-ne1-via-else-len-ne1}
 
@@ -40,7 +40,7 @@ loop-p-preserved g c =
     let bs = g.D.Lengths.numbers c.args.self.now.strides in
     let n = c.ndim-ndim.ensures.value in
     let p = c.loop-p.p in
-    let this : Follows ns bs p = elim c.else-len-ne1.branch [
+    let this : IsContiguousAt ns bs p = elim c.else-len-ne1.branch [
       | else-len-ne1-via-then-len-ne1+else-axis-block w ↦ inr (ap (λ m. get_or bs (m - 1 - p) 0) (sym n) ∙ (sym w.axis.ensures ∙ (w.if-axis-block.false ∙ c.loop-p.invariant.block)))
       | else-len-ne1-via-else-len-ne1 w ↦ inl (ap (λ m. get_or ns (m - 1 - p) 0) (sym n) ∙ (sym c.axis-len.ensures ∙ w.if-len-ne1.false))
     ] in
@@ -48,7 +48,7 @@ loop-p-preserved g c =
       block = block-step RowMajor ns c.ndim-ndim.result p (c.ndim-ndim.result - 1 - p) c.loop-p.block c.axis-len.result n c.loop-p-test.true refl c.axis-len.ensures c.loop-p.invariant.block;
       each = λ q h. elim (cases_lt q p) [
         | inl below ↦ c.loop-p.invariant.each q below
-        | inr above ↦ (let e : p ≡ q = omega (arith, above) in subst (Follows ns bs) e this)
+        | inr above ↦ (let e : p ≡ q = omega (arith, above) in subst (IsContiguousAt ns bs) e this)
       ];
     }
 

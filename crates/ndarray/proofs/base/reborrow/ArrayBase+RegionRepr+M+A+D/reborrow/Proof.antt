@@ -49,7 +49,7 @@ use Rattle.core.proofs.mem.Param.{El, R, el_x}
 use Rattle.ndarray.specs.Grid.{Grid}
 use Rattle.ndarray.specs.base.Slots.{somes}
 use Rattle.ndarray.specs.base.Scattered.{ScatteredElements, region_owns}
-use Rattle.ndarray.proofs.regions.Memory.{lives_as, reg, pair_val, two_of, says_both, Rg, Words, at_start, words_had, words_made, words_new}
+use Rattle.ndarray.proofs.regions.Memory.{lives_as, reg, pair_val, two_of, says_both, Rg, Words, shared_at_start, words_had, words_made, words_new}
 use denote.Param.{param}
 use denote.Signature.{mut_ref_to}
 use Rattle.ndarray.specs.contracts.base.region.Life as Life-type
@@ -162,7 +162,7 @@ module _ (E : El) (P : Dm) (W : El) {M : Type 1} {𝓤 : Ura M} (𝓛 : Logic �
       (opens a E P 𝓛 κ inm q rb ro v d x.1.0 x.1.1 γ b o e) $ await ! tt $ pick ! (λ g. let ν = g.1.0 in let cs' = g.1.1.0.0 in split3 ! $ fjoin ! $
       flt_i ! (length cs' * (mem (R E)).size) (2 ^ 63) g.1.1.1.1 $ fjoin ! $ rewrite ! 0 (λ (p : Ptr). ‵ (region_owns κ (R E) p ν cs')) (sym e) refl $
       rewrite ! 0 (λ (k : Lft). ‵ (region_owns k (R E) rd.shared.ptr ν cs')) life refl $
-      use0 𝓛 (‵ ((Words a' E).own_val (at_start E (block_ptr b o), (tt, tt)) (me ∷ []))) (words_new a' E 𝓛 b o) $ rewrite ! 0 (λ (p : Ptr). ‵ ((Words a' E).own_val (at_start E p, (tt, tt)) (me ∷ []))) (sym e) refl $ fjoin ! $
+      use0 𝓛 (‵ ((Words a' E).own_val (shared_at_start E (block_ptr b o), (tt, tt)) (me ∷ []))) (words_new a' E 𝓛 b o) $ rewrite ! 0 (λ (p : Ptr). ‵ ((Words a' E).own_val (shared_at_start E p, (tt, tt)) (me ∷ []))) (sym e) refl $ fjoin ! $
       -- [the new region; the token, what follows, the layout's loan; the other tokens]
       move ! (1 ∷ []) $ split3 ! $ move ! (2 ∷ 0 ∷ []) $
       use2 𝓛 (later (‵ (shared_of Lr v.layout rb (ro + lo a E P) κ) ⊛ ‵ (flft κ q)))
@@ -170,7 +170,7 @@ module _ (E : El) (P : Dm) (W : El) {M : Type 1} {𝓤 : Ura M} (𝓛 : Logic �
       -- [the layout, shared; the token; what follows; the new region; the other tokens]
       let top : Bor Lr.Denot = record { ref_ptr = (rb, ro + lo a E P); now = v.layout } in
       let put : Val = vptr rb (ro + lo a E P) in
-      let lent : (Rg a' E).Denot = record { shared = at_start E rd.shared.ptr; marker = record {}; name = ν; reborrow_name = g.0; slots = cs' } in
+      let lent : (Rg a' E).Denot = record { shared = shared_at_start E rd.shared.ptr; marker = record {}; name = ν; reborrow_name = g.0; slots = cs' } in
       hide ! $ feq_i ! (List Val) (put ∷ []) (put ∷ []) refl $ fjoin ! $ move ! (0 ∷ 3 ∷ []) $
       use2 𝓛 (‵ ((Tuple (ShrRef (named 0) κ Lr ∷ Rg a' E ∷ [])).own_val (top, lent) (pair_val put me ∷ []))) (two_of 𝓛 (ShrRef (named 0) κ Lr) (Rg a' E) top lent put me) $
       -- [the pair; the token; what follows; the other tokens]

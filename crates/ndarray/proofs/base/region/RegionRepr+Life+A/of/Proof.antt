@@ -46,7 +46,7 @@ use Rattle.core.proofs.mem.Param.{El, R, args, el_x}
 use contract.BorrowLft.{◌⊑◌}
 use Rattle.ndarray.specs.base.Scattered.{ScatteredElements, scattered, region_owns}
 use Rattle.ndarray.proofs.regions.Slots.{somes_all}
-use Rattle.ndarray.proofs.regions.Memory.{lives_as, Rg, Words, reg, at_start, words_new, of_cells, to_cells}
+use Rattle.ndarray.proofs.regions.Memory.{lives_as, Rg, Words, reg, shared_at_start, words_new, of_cells, to_cells}
 use Rattle.ndarray.specs.contracts.base.region.Life as Life-type
 use Rattle.ndarray.specs.contracts.base.region.RegionRepr+Life+A.of as F
 use Rattle.ndarray.specs.contracts.base.region.RegionRepr+Life+A.of.Key.{name as #self}
@@ -93,7 +93,7 @@ module _ (E : El) {M : Type 1} {𝓤 : Ura M} (𝓛 : Logic 𝓤) (at_mem : Memo
   n = length xs
 
   abbrev part : GName → (Rg a E).Denot
-  part δ = record { shared = at_start E (block_ptr b o); marker = record {}; name = δ; reborrow_name = δ; slots = all }
+  part δ = record { shared = shared_at_start E (block_ptr b o); marker = record {}; name = δ; reborrow_name = δ; slots = all }
 
   abbrev out : Val
   out = reg (block_ptr b o)
@@ -119,7 +119,7 @@ module _ (E : El) {M : Type 1} {𝓤 : Ura M} (𝓛 : Logic 𝓤) (at_mem : Memo
       rewrite ! 0 (λ (zs : List (el_x E)). ‵ (fobs δ ((coded_list (R E).coded).code zs))) (sym (somes_all xs)) refl $ fjoin ! $
       flt_i ! (length all * s) (2 ^ 63) (subst (λ k. k * s < 2 ^ 63) (sym (length-map xs Some)) rm.1) $ fjoin ! $
       rewrite ! 0 (λ (k : Lft). ‵ (region_owns k (R E) (block_ptr b o) δ all)) life refl $
-      use0 𝓛 (‵ ((Words a E).own_val (at_start E (block_ptr b o), (tt, tt)) (out ∷ []))) (words_new a E 𝓛 b o) $ fjoin ! $ move ! (1 ∷ []) $ cut_item ! $
+      use0 𝓛 (‵ ((Words a E).own_val (shared_at_start E (block_ptr b o), (tt, tt)) (out ∷ []))) (words_new a E 𝓛 b o) $ fjoin ! $ move ! (1 ∷ []) $ cut_item ! $
       sets ! (addr ! (from ! (fld ! refl (hop ! (look_in_at ! 1 (sub ! 0 refl (whole !))) (stop !))))) refl (tt, tt) $
       sets ! (agg ! (no_more !)) refl (tt, tt) $ sets ! (agg ! (and_then ! (get ! refl) (and_then ! (get ! refl) (no_more !)))) refl (tt, (tt, (tt, tt))) $
       sets ! (agg ! (no_more !)) refl (tt, tt) $ sets ! (agg ! (and_then ! (get ! refl) (and_then ! (get ! refl) (no_more !)))) refl (tt, ((tt, (tt, tt)), (tt, tt))) $

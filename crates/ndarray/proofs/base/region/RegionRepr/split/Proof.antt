@@ -54,7 +54,7 @@ use types.Kit.{feq_l}
 use Rattle.ndarray.specs.base.Slots.{somes, slots_in, slots_outside, weave}
 use Rattle.ndarray.specs.base.Scattered.{ScatteredElements, scattered, region_owns}
 use Rattle.ndarray.proofs.regions.Slots.{length-slots_in, length-slots_outside}
-use Rattle.ndarray.proofs.regions.Memory.{Rg, Words, reg, at_start, words_had, words_new, pair_val, two_of, says_both, cut, mend}
+use Rattle.ndarray.proofs.regions.Memory.{Rg, Words, reg, shared_at_start, words_had, words_new, pair_val, two_of, says_both, cut, mend}
 use Rattle.ndarray.specs.contracts.base.region.RegionRepr.split as F
 use Rattle.ndarray.specs.contracts.base.region.RegionRepr.split.Key.{name as #self}
 use Rattle.ndarray.proofs.base.region.RegionRepr.split.Statement as stated
@@ -132,7 +132,7 @@ module _ (E W N : El) {M : Type 1} {𝓤 : Ura M} (𝓛 : Logic 𝓤) (at_mem : 
   Two = Tuple (Rg a E ∷ Rg a E ∷ [])
 
   abbrev part : List (Option (el_x E)) → GName → (Rg a E).Denot
-  part ds δ = record { shared = at_start E d.shared.ptr; marker = record {}; name = δ; reborrow_name = d.reborrow_name; slots = ds }
+  part ds δ = record { shared = shared_at_start E d.shared.ptr; marker = record {}; name = δ; reborrow_name = d.reborrow_name; slots = ds }
 
   module _ (b o : ℕ) (e : d.shared.ptr ≡ block_ptr b o) where
     abbrev me : Val
@@ -157,7 +157,7 @@ module _ (E W N : El) {M : Type 1} {𝓤 : Ura M} (𝓛 : Logic 𝓤) (at_mem : 
         → ent 𝓤 (sep 𝓤 (A.obs δ ((ScatteredElements (R E) ds).coded.code (somes ds))) (A.bor κ (Borrowed (ScatteredElements (R E) ds) b o δ))) (sem 𝓛 ((Rg a E).own_val (part ds δ) (me ∷ [])))
     made ds δ small = qed 𝓛 (‵ (fobs δ ((ScatteredElements (R E) ds).coded.code (somes ds))) ∷ ‵ (fbor κ (Borrowed (ScatteredElements (R E) ds) b o δ)) ∷ []) ∵ fjoin ! $
         flt_i ! (length ds * (mem (R E)).size) (2 ^ 63) small $ fjoin ! $ rewrite ! 0 (λ (p : Ptr). ‵ (region_owns κ (R E) p δ ds)) (sym e) refl $
-        use0 𝓛 (‵ ((Words a E).own_val (at_start E (block_ptr b o), (tt, tt)) (me ∷ []))) (words_new a E 𝓛 b o) $ rewrite ! 0 (λ (p : Ptr). ‵ ((Words a E).own_val (at_start E p, (tt, tt)) (me ∷ []))) (sym e) refl $ fjoin ! $ done !
+        use0 𝓛 (‵ ((Words a E).own_val (shared_at_start E (block_ptr b o), (tt, tt)) (me ∷ []))) (words_new a E 𝓛 b o) $ rewrite ! 0 (λ (p : Ptr). ‵ ((Words a E).own_val (shared_at_start E p, (tt, tt)) (me ∷ []))) (sym e) refl $ fjoin ! $ done !
 
     abbrev Had : List (Item 𝓤)
     Had = ‵ (region_owns κ (R E) (block_ptr b o) γ cs) ∷ tokens ∷ []

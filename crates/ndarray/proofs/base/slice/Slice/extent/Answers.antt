@@ -3,7 +3,7 @@ use Rattle.std.specs.Prelude.{ℤ, pos, unsigned_abs, ◌-ℤ◌, ◌≤ℤ◌, 
 use Rattle.std.specs.Int.{div_ceil, cast_signed, cast_unsigned}
 use Rattle.std.proofs.lemmas.Int.{ints, to_z-of_z, of_z-to_z}
 use Rattle.ndarray.specs.Slices.{slice_end, slice_start}
-use Rattle.ndarray.proofs.views.Slices.{slice-ends, slice_length-is, ceil-is, size-pos, counted_from, counted_from-up, counted_from-down, slice_index-mod}
+use Rattle.ndarray.proofs.views.Slices.{slice-ends, slice_length-is, ceil-is, size-pos, start_index, start_index-up, start_index-down, slice_index-mod}
 use Rattle.ndarray.proofs.base.slice.Slice.extent.Goals as goal
 use Rattle.ndarray.proofs.base.slice.Slice.extent.Goals.{then-self-gt0, else-self-gt0}
 
@@ -54,9 +54,9 @@ returns-clause-indices c = λ i lt.
     let end : c.ends-start.result.1 ≡ pos b = c.ends-start.ensures.end ∙ e.end in
     let order = e.order in
     let high = e.high in
-    let from : c.cast_unsigned.result ≡ counted_from a b s.step =
+    let from : c.cast_unsigned.result ≡ start_index a b s.step =
     elim c.if-self-gt0.branch [
-      | then-self-gt0 w ↦ (let up : pos 0 <ℤ s.step = omega (arith, ints, w.if-self-gt0.true) in let at : c.cast_unsigned.result ≡ a = c.cast_unsigned.ensures ∙ (ap (cast_unsigned w64) (w.from-is ∙ ap (λ z. cast_signed w64 (cast_unsigned w64 z)) start) ∙ of_z-to_z w64 a (omega arith)) in at ∙ sym (counted_from-up a b s.step up))
-      | else-self-gt0 w ↦ (let down : s.step ≤ℤ pos 0 = omega (arith, ints, w.if-self-gt0.false) in let at : c.cast_unsigned.result ≡ (b + (2 ^ 64 - 1)) % 2 ^ 64 = c.cast_unsigned.ensures ∙ (ap (cast_unsigned w64) (w.from-is ∙ ap (λ z. cast_signed w64 ((cast_unsigned w64 z + (2 ^ 64 - 1)) % 2 ^ 64)) end) ∙ of_z-to_z w64 ((b + (2 ^ 64 - 1)) % 2 ^ 64) (omega arith)) in at ∙ sym (counted_from-down a b s.step c.requires.within.step down))
+      | then-self-gt0 w ↦ (let up : pos 0 <ℤ s.step = omega (arith, ints, w.if-self-gt0.true) in let at : c.cast_unsigned.result ≡ a = c.cast_unsigned.ensures ∙ (ap (cast_unsigned w64) (w.from-is ∙ ap (λ z. cast_signed w64 (cast_unsigned w64 z)) start) ∙ of_z-to_z w64 a (omega arith)) in at ∙ sym (start_index-up a b s.step up))
+      | else-self-gt0 w ↦ (let down : s.step ≤ℤ pos 0 = omega (arith, ints, w.if-self-gt0.false) in let at : c.cast_unsigned.result ≡ (b + (2 ^ 64 - 1)) % 2 ^ 64 = c.cast_unsigned.ensures ∙ (ap (cast_unsigned w64) (w.from-is ∙ ap (λ z. cast_signed w64 ((cast_unsigned w64 z + (2 ^ 64 - 1)) % 2 ^ 64)) end) ∙ of_z-to_z w64 ((b + (2 ^ 64 - 1)) % 2 ^ 64) (omega arith)) in at ∙ sym (start_index-down a b s.step c.requires.within.step down))
     ] in
     slice_index-mod n s c.requires.within c.cast_unsigned.result i c.requires.fits word from (omega (arith, returns-clause-len c))

@@ -4,7 +4,7 @@ use Rattle.std.proofs.lemmas.List.Elements.{All-take, All-drop}
 use Rattle.ndarray.specs.Grid.{HasCells, cell}
 use Rattle.ndarray.specs.Index.{InBox, row_order}
 use Rattle.ndarray.specs.base.Ranks.{rank}
-use Rattle.ndarray.specs.order.Walks.{walk_rest, WalkStands}
+use Rattle.ndarray.specs.order.Walks.{walk_rest, WalksFrom}
 use Rattle.ndarray.specs.declared.base.shape.Order.TheVariants.{RowMajor}
 use Rattle.ndarray.proofs.boxes.Orders.{length-row_order}
 use Rattle.ndarray.proofs.boxes.Sizes.{size-le}
@@ -15,7 +15,7 @@ use Rattle.ndarray.proofs.iter.elements.ElementsBase.starting_at.Goals.{After-no
 pub starting_at-walk-requires : goal.starting_at-walk-requires
 starting_at-walk-requires g c =
     let is = g.D.Lengths.numbers c.args.index in
-    subst (λ ns. WalkStands RowMajor ns is c.args.count) (sym c.raw_dim.ensures.lengths)
+    subst (λ ns. WalksFrom RowMajor ns is c.args.count) (sym c.raw_dim.ensures.lengths)
     (record { limit = c.raw_dim.ensures.limit; within = c.requires.within; fits = c.requires.fits })
 
 rest-cells : (g : _) (c : After-no_cells g) → HasCells c.args.v (drop (rank c.args.v.lengths (g.D.Lengths.numbers c.args.index)) (row_order c.args.v.lengths))

@@ -3,9 +3,9 @@ use Rattle.ndarray.specs.Grid.{IsGrid}
 use Rattle.ndarray.specs.Limits.{IsWithinLimit}
 use Rattle.ndarray.specs.Orders.{HasInOrder, box_in, cells_in}
 use Rattle.ndarray.specs.base.Slots.{held_at}
-use Rattle.ndarray.specs.places.Lent.{AreLentAt}
+use Rattle.ndarray.specs.places.ElementPlaces.{AreDistinctPlaces}
 use Rattle.ndarray.proofs.cells.Cells.{cells_in-HasInOrder, length-along}
-use Rattle.ndarray.proofs.moving.LentCells.{AreLentAt-all, found-all}
+use Rattle.ndarray.proofs.moving.BorrowedCells.{AreDistinctPlaces-all, found-all}
 use Rattle.ndarray.proofs.boxes.Orders.{box_in-within, length-box_in}
 use Rattle.ndarray.proofs.strides.Reach.{length-cells_at}
 use Rattle.ndarray.proofs.boxes.Sizes.{size-le}
@@ -15,7 +15,7 @@ pub invariant_of-result : goal.invariant_of-result
 invariant_of-result g c =
     let axes = g.D.Lengths.numbers in
     let a = c.v.inside in
-    subst (AreLentAt (held_at a.storage.slots)) (sym c.new.ensures) (AreLentAt-all (held_at a.storage.slots) (axes a.layout.dim) a.layout.start (axes a.layout.strides) c.v.invariant c.args.order)
+    subst (AreDistinctPlaces (held_at a.storage.slots)) (sym c.new.ensures) (AreDistinctPlaces-all (held_at a.storage.slots) (axes a.layout.dim) a.layout.start (axes a.layout.strides) c.v.invariant c.args.order)
 
 pub returns-clause-cells : goal.returns-clause-cells
 returns-clause-cells g c =

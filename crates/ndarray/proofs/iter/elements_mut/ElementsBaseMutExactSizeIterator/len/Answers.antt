@@ -1,6 +1,6 @@
 use Rattle.std.proofs.Common.{ap, length, arith}
 use Rattle.ndarray.specs.base.Slots.{held_at}
-use Rattle.ndarray.proofs.moving.LentCells.{length-lent_at}
+use Rattle.ndarray.proofs.moving.BorrowedCells.{length-lent_at}
 use Rattle.ndarray.proofs.iter.elements_mut.ElementsBaseMutExactSizeIterator.len.Goals as goal
 
 pub returns-clause-value : goal.returns-clause-value

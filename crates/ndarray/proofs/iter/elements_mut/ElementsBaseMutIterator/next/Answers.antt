@@ -1,6 +1,6 @@
 use Rattle.std.proofs.Common.{rules, ◌∙◌, ap, sym, length}
 use Rattle.ndarray.specs.base.Slots.{held_at}
-use Rattle.ndarray.proofs.moving.LentCells.{lent_at-next, lent_at-rest, found-first}
+use Rattle.ndarray.proofs.moving.BorrowedCells.{lent_at-next, lent_at-rest, found-first}
 use Rattle.ndarray.proofs.iter.elements_mut.ElementsBaseMutIterator.next.Goals as goal
 
 pub take-requires : goal.take-requires

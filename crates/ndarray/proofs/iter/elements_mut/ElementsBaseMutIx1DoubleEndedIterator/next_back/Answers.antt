@@ -1,6 +1,6 @@
 use Rattle.std.proofs.Common.{rules, ◌∙◌, ap, sym, length, length-append}
 use Rattle.ndarray.specs.base.Slots.{held_at}
-use Rattle.ndarray.proofs.moving.LentCells.{lent_at-next_back, lent_at-beginning, found-last}
+use Rattle.ndarray.proofs.moving.BorrowedCells.{lent_at-next_back, lent_at-beginning, found-last}
 use Rattle.ndarray.proofs.iter.elements_mut.ElementsBaseMutIx1DoubleEndedIterator.next_back.Goals as goal
 
 pub take-requires : goal.take-requires

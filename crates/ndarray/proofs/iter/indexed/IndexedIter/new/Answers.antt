@@ -5,9 +5,9 @@ use Rattle.ndarray.specs.Orders.{cells_in}
 use Rattle.ndarray.specs.base.Storage.{seen_at}
 use Rattle.ndarray.specs.base.Strided.{HaveElements}
 use Rattle.ndarray.specs.declared.base.shape.Order.TheVariants.{RowMajor}
-use Rattle.ndarray.specs.places.Lent.{places_of, with_elements}
+use Rattle.ndarray.specs.places.ElementPlaces.{places_of, with_elements}
 use Rattle.ndarray.proofs.cells.Cells.{along-row_order}
-use Rattle.ndarray.proofs.moving.LentCells.{held-all, with_elements-all, with_places-places}
+use Rattle.ndarray.proofs.moving.BorrowedCells.{held-all, with_elements-all, with_places-places}
 use Rattle.ndarray.proofs.strides.Reach.{length-cells_at}
 use Rattle.ndarray.proofs.iter.indexed.IndexedIter.new.Goals as goal
 

@@ -3,8 +3,8 @@ use Rattle.std.proofs.lemmas.List.{length-map}
 use Rattle.std.proofs.lemmas.Slice.Zip.{length-zip}
 use Rattle.std.specs.Prelude.{filter_map, map}
 use Rattle.ndarray.specs.base.Storage.{seen_at}
-use Rattle.ndarray.specs.places.Lent.{places_of}
-use Rattle.ndarray.proofs.moving.LentCells.{length-held_at}
+use Rattle.ndarray.specs.places.ElementPlaces.{places_of}
+use Rattle.ndarray.proofs.moving.BorrowedCells.{length-held_at}
 use Rattle.ndarray.proofs.iter.indexed.IndexedIterExactSizeIterator.len.Goals as goal
 
 pub returns-clause-value : goal.returns-clause-value

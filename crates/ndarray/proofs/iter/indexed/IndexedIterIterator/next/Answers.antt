@@ -4,7 +4,7 @@ use Rattle.std.specs.Option.{is_some}
 use Rattle.std.proofs.lemmas.List.Elements.{All-tail}
 use Rattle.ndarray.specs.base.Storage.{seen_at}
 use Rattle.ndarray.specs.base.Strided.{HaveElements}
-use Rattle.ndarray.specs.places.Lent.{places_of}
+use Rattle.ndarray.specs.places.ElementPlaces.{places_of}
 use Rattle.ndarray.proofs.iter.indexed.IndexedIterIterator.next.Goals as goal
 
 pub invariant_of-self-2 : goal.invariant_of-self-2

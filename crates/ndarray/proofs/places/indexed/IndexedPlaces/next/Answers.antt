@@ -5,7 +5,7 @@ use Rattle.std.proofs.lemmas.List.{nil_from_length}
 use Rattle.ndarray.specs.base.Strided.{places_from}
 use Rattle.ndarray.specs.declared.places.indexed.IndexedPlaces.TheInside.{Inside}
 use Rattle.ndarray.specs.base.Ranks.{row_from}
-use Rattle.ndarray.specs.places.Lent.{with_places}
+use Rattle.ndarray.specs.places.ElementPlaces.{with_places}
 use Rattle.ndarray.proofs.strides.Rows.{rest-as_many, with_places-split, places-count, length-indexed_row, yields-front, yields-fewer}
 use Rattle.ndarray.proofs.places.indexed.IndexedPlaces.next.Goals as goal
 use Rattle.ndarray.proofs.places.indexed.IndexedPlaces.next.Goals.{then-len-eq0+in-Some, else-len-eq0}

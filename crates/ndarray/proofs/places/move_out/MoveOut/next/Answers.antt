@@ -1,13 +1,13 @@
-use Rattle.ndarray.proofs.moving.MovedOut.{stands-next, found-next}
+use Rattle.ndarray.proofs.moving.MovedOut.{holds-next, found-next}
 use Rattle.std.proofs.Common.{ℕ, ◌∷◌, List, Option, sym, subst, ap, ◌∙◌}
-use Rattle.ndarray.specs.places.Moving.{found, Stands}
+use Rattle.ndarray.specs.places.Moving.{found, HoldsAllButPassed}
 use Rattle.ndarray.proofs.places.move_out.MoveOut.next.Goals as goal
 
 pub invariant_of-self-2 : goal.invariant_of-self-2
 invariant_of-self-2 g c =
     let w = g.W.PlaceSequence in let old = c.self.inside in let places = w.to_come c.next_place.new.self in
-    subst (Stands (w.passed c.next_place.new.self) places) (sym c.take.ensures.slots)
-    (stands-next (w.passed old.way) (w.passed c.next_place.new.self) c.in-Some.place places old.left (subst (λ (l : List ℕ). Stands (w.passed old.way) l old.left) c.in-Some.ensures.rest c.self.invariant) c.in-Some.ensures.once c.in-Some.ensures.passed)
+    subst (HoldsAllButPassed (w.passed c.next_place.new.self) places) (sym c.take.ensures.slots)
+    (holds-next (w.passed old.way) (w.passed c.next_place.new.self) c.in-Some.place places old.left (subst (λ (l : List ℕ). HoldsAllButPassed (w.passed old.way) l old.left) c.in-Some.ensures.rest c.self.invariant) c.in-Some.ensures.once c.in-Some.ensures.passed)
 
 pub returns : goal.returns
 returns g c =

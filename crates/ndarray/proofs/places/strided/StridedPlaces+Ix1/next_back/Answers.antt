@@ -1,6 +1,6 @@
 use Rattle.std.proofs.Common.{◌++◌, ◌∷◌, [], sym, ap, ◌∙◌, arith, length, length-append, append_assoc}
 use Rattle.ndarray.specs.base.Places.{place}
-use Rattle.ndarray.specs.places.Lent.{places_along}
+use Rattle.ndarray.specs.places.ElementPlaces.{places_along}
 use Rattle.ndarray.proofs.strides.Rows.{places-last, beginning-as_many}
 use Rattle.ndarray.proofs.places.strided.StridedPlaces+Ix1.next_back.Goals as goal
 

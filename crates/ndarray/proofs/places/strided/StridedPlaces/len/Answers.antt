@@ -1,7 +1,7 @@
 use Rattle.std.proofs.Common.{ap, length, arith, length-append}
 use Rattle.std.proofs.lemmas.List.{length-map}
 use Rattle.ndarray.specs.base.Places.{place}
-use Rattle.ndarray.specs.places.Lent.{places_along}
+use Rattle.ndarray.specs.places.ElementPlaces.{places_along}
 use Rattle.ndarray.proofs.places.strided.StridedPlaces.len.Goals as goal
 
 pub overflow_add-result : goal.overflow_add-result

@@ -1,7 +1,7 @@
 use Rattle.std.proofs.Common.{◌≡◌, ◌∙◌, ap, arith, length, subst, sym}
 use Rattle.std.specs.Prelude.{All}
 use Rattle.ndarray.specs.Orders.{box_in}
-use Rattle.ndarray.specs.places.Lent.{places_along}
+use Rattle.ndarray.specs.places.ElementPlaces.{places_along}
 use Rattle.ndarray.proofs.boxes.Boxes.{InBox-length}
 use Rattle.ndarray.proofs.boxes.Orders.{box_in-within, length-box_in}
 use Rattle.ndarray.proofs.boxes.Sizes.{size-le}

@@ -1,7 +1,7 @@
 use Rattle.std.proofs.Common.{◌++◌, sym, ap, ◌∙◌, arith, length}
 use Rattle.std.specs.Prelude.{slice_index}
 use Rattle.ndarray.specs.base.Strided.{places_from}
-use Rattle.ndarray.specs.places.Lent.{places_along}
+use Rattle.ndarray.specs.places.ElementPlaces.{places_along}
 use Rattle.ndarray.proofs.strides.Rows.{row-as_many, rest-as_many, places-split, places-count, length-places_from}
 use Rattle.ndarray.proofs.places.strided.StridedPlaces.next.Goals as goal
 

@@ -2,7 +2,7 @@ use Rattle.std.proofs.Common.{sym, ◌∙◌, ap, subst, length, arith}
 use Rattle.ndarray.specs.Index.{InBox}
 use Rattle.ndarray.specs.Grid.{cell}
 use Rattle.ndarray.proofs.boxes.Boxes.{InBox-length}
-use Rattle.ndarray.proofs.cells.Cells.{arranged-cell}
+use Rattle.ndarray.proofs.cells.Cells.{array_by-cell}
 use Rattle.ndarray.proofs.subviews.pieces.Pieces.item.Goals as goal
 
 pub place-requires : goal.place-requires
@@ -13,4 +13,4 @@ returns g c =
     let t = c.self.inside in
     let p = g.P.Lengths.numbers c.args.position.now in
     let b : InBox (g.P.Lengths.numbers t.positions.dim) p = subst (λ ns. InBox ns p) (sym (ap (λ v. v.lengths) c.self.view_is)) c.requires in
-    rw (c.copied.ensures.value, c.copied-2.ensures.value, c.place.ensures) (ap (λ v. cell v p) (sym c.self.view_is) ∙ arranged-cell (g.P.Lengths.numbers t.positions.dim) _ p b)
+    rw (c.copied.ensures.value, c.copied-2.ensures.value, c.place.ensures) (ap (λ v. cell v p) (sym c.self.view_is) ∙ array_by-cell (g.P.Lengths.numbers t.positions.dim) _ p b)

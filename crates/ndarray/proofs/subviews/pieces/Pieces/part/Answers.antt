@@ -1,7 +1,7 @@
 use Rattle.std.proofs.Common.{◌<◌, ◌≤◌, ◌+◌, arith, length, get_or, set, ap, ◌∙◌}
 use Rattle.ndarray.specs.base.Places.{Rearranges}
 use Rattle.ndarray.specs.base.Storage.{seen_at}
-use Rattle.ndarray.proofs.cells.Cells.{arranged-whole}
+use Rattle.ndarray.proofs.cells.Cells.{array_by-whole}
 use Rattle.ndarray.proofs.pieces.Pieces.{some-reach, some-seen}
 use Rattle.ndarray.proofs.pieces.SomePieces.{positions-cut}
 use Rattle.ndarray.proofs.subviews.pieces.Pieces.part.Goals as goal
@@ -24,4 +24,4 @@ returns-clause-value g c =
     (c.cut.ensures.dim ∙ (ap (λ v. set v.lengths c.args.axis c.args.len) (c.part.view_is ∙ c.again-part.ensures) ∙ ap (set c.args.self.now.lengths c.args.axis) (omega arith)))
 
 pub returns-clause-whole : goal.returns-clause-whole
-returns-clause-whole g c = arranged-whole _ _
+returns-clause-whole g c = array_by-whole _ _

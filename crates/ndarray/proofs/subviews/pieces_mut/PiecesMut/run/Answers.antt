@@ -6,7 +6,7 @@ use Rattle.ndarray.specs.Orders.{box_in, cells_in}
 use Rattle.ndarray.specs.base.Masks.{Shares, grids_at}
 use Rattle.ndarray.specs.base.Slots.{held_at}
 use Rattle.ndarray.specs.base.Pieces.{piece_layouts}
-use Rattle.ndarray.proofs.cells.Cells.{arranged-whole, length-along}
+use Rattle.ndarray.proofs.cells.Cells.{array_by-whole, length-along}
 use Rattle.ndarray.proofs.boxes.Orders.{box_in-within, length-box_in}
 use Rattle.ndarray.proofs.boxes.Sizes.{size-le}
 use Rattle.ndarray.proofs.pieces.SomePieces.{pieces-share_in, pieces-in}
@@ -34,7 +34,7 @@ returns-clause-items g c =
     ∙ ap (cells_in c.args.order) c.self.view_is)
 
 pub returns-clause-whole : goal.returns-clause-whole
-returns-clause-whole g c = subst IsGrid c.self.view_is (arranged-whole _ _)
+returns-clause-whole g c = subst IsGrid c.self.view_is (array_by-whole _ _)
 
 pub returns-clause-fits : goal.returns-clause-fits
 returns-clause-fits g c =

@@ -5,7 +5,7 @@ use Rattle.ndarray.specs.base.Places.{Rearranges}
 use Rattle.ndarray.specs.base.CellLayouts.{CellLayout}
 use Rattle.ndarray.specs.base.Slots.{held_at}
 use Rattle.ndarray.specs.base.Pieces.{piece_layouts}
-use Rattle.ndarray.proofs.cells.Cells.{arranged-whole}
+use Rattle.ndarray.proofs.cells.Cells.{array_by-whole}
 use Rattle.ndarray.proofs.views.Cuts.{cuts-apart, part-once}
 use Rattle.ndarray.proofs.pieces.Pieces.{some-seen}
 use Rattle.ndarray.specs.base.Masks.{SharesBoth}
@@ -93,10 +93,10 @@ returns-clause-second g c =
     (c.cut-2.ensures.dim ∙ (ap (λ n. set (ps g c) c.args.axis.0 (n - c.args.index)) c.axis-len.ensures ∙ ap (λ v. set v.lengths c.args.axis.0 (get_or v.lengths c.args.axis.0 0 - c.args.index)) c.self.view_is)))
 
 pub returns-clause-first_whole : goal.returns-clause-first_whole
-returns-clause-first_whole g c = arranged-whole _ _
+returns-clause-first_whole g c = array_by-whole _ _
 
 pub returns-clause-second_whole : goal.returns-clause-second_whole
-returns-clause-second_whole g c = arranged-whole _ _
+returns-clause-second_whole g c = array_by-whole _ _
 
 -- what names the places outlives the call
 pub split-here-requires : goal.split-here-requires

@@ -1,0 +1,25 @@
+-- Cells that are borrowed one after another, along a list of index lists.
+use Rattle.std.specs.Prelude.{◌≡◌, ℕ, List, map, zip, filter_map, Option, All, AllPairs, IsTrue}
+use Rattle.std.specs.Option.{is_some}
+use Rattle.ndarray.specs.base.Places.{place}
+
+-- the places of the index lists
+abbrev pub places_along : ℕ → List ℕ → List (List ℕ) → List ℕ
+places_along start bs iss = map (place start bs) iss
+
+-- the index lists, each beside its place
+abbrev pub with_places : ℕ → List ℕ → List (List ℕ) → List (List ℕ × ℕ)
+with_places start bs iss = map (λ is. (is, place start bs is)) iss
+
+-- the places beside index lists
+abbrev pub places_of : List (List ℕ × ℕ) → List ℕ
+places_of items = map (λ item. item.1) items
+
+-- index lists beside places, each beside the element at its place
+abbrev pub with_elements : {A : Type 0} → (ℕ → Option A) → List (List ℕ × ℕ) → List (List ℕ × A)
+with_elements at items = zip (map (λ item. item.0) items) (filter_map at (places_of items))
+
+-- each of the places has an element, and none comes twice
+pub record AreDistinctPlaces {A : Type 0} (at : ℕ → Option A) (ps : List ℕ) : Type 0 where
+  pub held : All (λ p. IsTrue (is_some (at p))) ps
+  pub once : AllPairs (λ p q. p ≡ q → ⊥) ps
