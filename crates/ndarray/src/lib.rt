@@ -11,7 +11,8 @@
 //!
 //! # Operators
 //!
-//! `+ - * / % & | ^ << >>` between two arrays, one of them an `Array`, and between an `Array` and a scalar, return a
+//! `+ - * / % & | ^ << >>` between an `Array`, or a reference to one, and another array, between a reference to any array
+//! and an owned `Array`, and between an `Array`, or a reference to one, and a scalar, return a
 //! `Result<Array<..>, AllocError>`: at each index list what the elements' operation answers on the two cells there, the
 //! left one first, with the shapes broadcast together. `-` and `!` are on each cell of an `Array`.
 //!
