@@ -137,14 +137,14 @@ module _ {A : Type 0} (e : ValuedGhosts A) where
   pub record Accumulates (alpha beta : A) (sum : List ℕ → e.Carrier) (old new : Grid A) : Type 0 where
     pub lengths : new.lengths ≡ old.lengths
     pub whole : IsGrid new
-    pub cells : (is : List ℕ) (x z : A) → cell old is ≡ Some x → cell new is ≡ Some z → AddsScaled (e.meaning alpha) (e.meaning beta) (e.meaning x) (sum is) (e.meaning z)
+    pub cells : (is : List ℕ) (z : A) → cell new is ≡ Some z → (x : A) × (cell old is ≡ Some x) × AddsScaled (e.meaning alpha) (e.meaning beta) (e.meaning x) (sum is) (e.meaning z)
 
   -- the same of sums that are the values of elements which are computed at each index list
   pub record AccumulatesEntries {X : Type 0} (numbers : X → List ℕ) (computes : X → A → Type 0) (alpha beta : A) (old new : Grid A) : Type 0 where
     pub lengths : new.lengths ≡ old.lengths
     pub whole : IsGrid new
-    pub cells : (is : List ℕ) (x z : A) → cell old is ≡ Some x → cell new is ≡ Some z
-        → (t : X) × (s : A) × (numbers t ≡ is) × computes t s × AddsScaled (e.meaning alpha) (e.meaning beta) (e.meaning x) (e.meaning s) (e.meaning z)
+    pub cells : (is : List ℕ) (z : A) → cell new is ≡ Some z
+        → (x : A) × (cell old is ≡ Some x) × (t : X) × (s : A) × (numbers t ≡ is) × computes t s × AddsScaled (e.meaning alpha) (e.meaning beta) (e.meaning x) (e.meaning s) (e.meaning z)
 
   -- ---- scaled addition
 

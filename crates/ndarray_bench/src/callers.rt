@@ -356,7 +356,7 @@ pub fn multiply_into(
     ensures shapes { IsTrue result ↔ ShapesMultiplyInto a.now.lengths x.now.lengths y.old.lengths }
     ensures unchanged { result ≡ false → y.new ≡ y.old }
     ensures lengths { y.new.lengths ≡ y.old.lengths }
-    ensures product { IsTrue result → (i : ℕ) (old new : Below 5) → cell y.old (i ∷ []) ≡ Some old → cell y.new (i ∷ []) ≡ Some new → new ≡ (product_of ⟦<Residue<5> as Valued>⟧ (matrix_of ⟦<Residue<5> as Valued>⟧ a.now) (column_of ⟦<Residue<5> as Valued>⟧ x.now)).cell i 0 }
+    ensures product { IsTrue result → (i : ℕ) (z : Below 5) → cell y.new (i ∷ []) ≡ Some z → z ≡ (product_of ⟦<Residue<5> as Valued>⟧ (matrix_of ⟦<Residue<5> as Valued>⟧ a.now) (column_of ⟦<Residue<5> as Valued>⟧ x.now)).cell i 0 }
 {
     if !mat_vec_ok(a, x, y) {
         return false;
@@ -375,7 +375,7 @@ pub fn add_product(
     ensures shapes { IsTrue result ↔ ShapesMultiplyInto a.now.lengths b.now.lengths c.old.lengths }
     ensures unchanged { result ≡ false → c.new ≡ c.old }
     ensures lengths { c.new.lengths ≡ c.old.lengths }
-    ensures sum { IsTrue result → (i j : ℕ) (old new : Below 5) → cell c.old (i ∷ j ∷ []) ≡ Some old → cell c.new (i ∷ j ∷ []) ≡ Some new → new ≡ (residue_sums 5 (modulus_pos 5)).op old ((product_of ⟦<Residue<5> as Valued>⟧ (matrix_of ⟦<Residue<5> as Valued>⟧ a.now) (matrix_of ⟦<Residue<5> as Valued>⟧ b.now)).cell i j) }
+    ensures sum { IsTrue result → (i j : ℕ) (z : Below 5) → cell c.new (i ∷ j ∷ []) ≡ Some z → (x : Below 5) × (cell c.old (i ∷ j ∷ []) ≡ Some x) × (z ≡ (residue_sums 5 (modulus_pos 5)).op x ((product_of ⟦<Residue<5> as Valued>⟧ (matrix_of ⟦<Residue<5> as Valued>⟧ a.now) (matrix_of ⟦<Residue<5> as Valued>⟧ b.now)).cell i j)) }
 {
     if !mat_mul_ok(a, b, c) {
         return false;

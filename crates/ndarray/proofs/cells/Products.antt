@@ -1,5 +1,5 @@
 -- Arrays that have the values of products.
-use Rattle.std.proofs.Common.{◌≡◌, ◌∙◌, ℕ, ◌<◌, ◌-◌, ◌/◌, ◌%◌, get_or, length, List, [], ◌∷◌, Option, Some, ap, subst, sym}
+use Rattle.std.proofs.Common.{◌≡◌, ◌∙◌, ℕ, ◌<◌, ◌-◌, ◌/◌, ◌%◌, get_or, length, List, [], ◌∷◌, Some, ap, subst, sym}
 use Rattle.std.specs.Prelude.{Result, IfOk, IsOk, ◌==◌, if◌then◌else◌}
 use Rattle.ndarray.specs.Entries.{HasEntries}
 use Rattle.ndarray.specs.Grid.{Grid, cell}
@@ -8,10 +8,6 @@ use Rattle.ndarray.specs.Matrices.{Matrix, kronecker_product}
 use Rattle.ndarray.specs.Products.{Accumulates, AccumulatesEntries, AddsScaled, CanSumInner, HasSumsInRange, MakesValues, ShapesMultiply, column_of, left_matrix, matrix_of, product_entries, product_lengths, product_of, right_matrix, row_of, value_at, value_or}
 use Rattle.ndarray.specs.declared.elements.Valued.{Ghosts as ValuedGhosts}
 use Rattle.ndarray.proofs.callers.Collecting.{if_ok-both}
-
--- an option has one item
-pub same-item : {A : Type 0} (o : Option A) (x y : A) → o ≡ Some x → o ≡ Some y → x ≡ y
-same-item o x y p q = let k : Some x ≡ Some y = sym p ∙ q in cc
 
 module _ {A : Type 0} (e : ValuedGhosts A) where
   -- an array of entries whose values are known
@@ -33,9 +29,9 @@ module _ {A : Type 0} (e : ValuedGhosts A) where
   accumulates-of numbers computes value alpha beta old new each h = record {
     lengths = h.lengths;
     whole = h.whole;
-    cells = λ is x z at there.
-        let (t, s, num, computed, added) = h.cells is x z at there in
-        subst (λ y. AddsScaled e (e.meaning alpha) (e.meaning beta) (e.meaning x) y (e.meaning z)) (each t s computed ∙ ap value num) added;
+    cells = λ is z there.
+        let (x, at, t, s, num, computed, added) = h.cells is z there in
+        (x, at, subst (λ y. AddsScaled e (e.meaning alpha) (e.meaning beta) (e.meaning x) y (e.meaning z)) (each t s computed ∙ ap value num) added);
   }
 
   -- sums of products of views are those of what they view

@@ -7,4 +7,6 @@ once : (one s new : Below 5) → one ≡ (residue_products 5 (modulus_pos 5)).un
 once one s new e f = f ∙ (ap (λ t. (residue_products 5 (modulus_pos 5)).op t s) e ∙ (residue_products 5 (modulus_pos 5)).unit_op s)
 
 pub returns-clause-product : goal.returns-clause-product
-returns-clause-product c = λ _ i old new before after. once c.one.result _ new c.one.ensures ((c.general_mat_vec_mul.ensures.cells (i ∷ []) old new before after).zero c.zero.ensures)
+returns-clause-product c = λ _ i z there.
+    let left = c.general_mat_vec_mul.ensures.cells (i ∷ []) z there in
+    once c.one.result _ z c.one.ensures (left.2.zero c.zero.ensures)

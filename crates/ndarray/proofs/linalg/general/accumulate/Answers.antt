@@ -5,7 +5,6 @@ use Rattle.ndarray.specs.Products.{AddsScaled}
 use Rattle.ndarray.proofs.callers.Collecting.{array_by-at, may-gather}
 use Rattle.ndarray.proofs.cells.Cells.{cell-inside}
 use Rattle.ndarray.proofs.cells.CollectedCells.{Collects-at}
-use Rattle.ndarray.proofs.cells.Products.{same-item}
 use Rattle.ndarray.proofs.cells.UpdatedCells.{updates-collect}
 use Rattle.ndarray.proofs.linalg.general.accumulate.Goals as goal
 
@@ -24,19 +23,19 @@ returns g c =
     record {
       lengths = ran.lengths;
       whole = whole;
-      cells = λ is x z at e.
+      cells = λ is z e.
           let b = subst (λ ms. InBox ms is) ran.lengths (cell-inside c.try_update.new.array is z e) in
           let k = Collects-at _ _ (λ f. (f.sums ≡ c.args.sums) × (f.alpha ≡ c.args.alpha) × (f.beta ≡ c.args.beta))
           (λ f x z h n k. (ap (λ f. f.sums) k.1 ∙ n.0, ap (λ f. f.alpha) k.1 ∙ n.1, ap (λ f. f.beta) k.1 ∙ n.2)) o _ _ c.try_update.new.array (refl, refl, refl) ran is b z e in
           let (s, computed, added) = k.given.0 in
-          let there = k.yielded in
-          let same = same-item _ k.item.0 x there.0 at in (
+          let there = k.yielded in (
+            k.item.0,
+            there.0,
             k.item.1,
             s,
             array_by-at _ (λ js. js) c.of-lists.result is _ c.of-lists.ensures (cell-inside c.of-lists.result is _ there.1) there.1,
             subst (λ f. g.C.Entries.computes f k.item.1 s) k.known.0 computed,
-            subst (λ y. AddsScaled v (v.meaning c.args.alpha) (v.meaning c.args.beta) (v.meaning y) (v.meaning s) (v.meaning z)) same
-                (subst (λ y. AddsScaled v (v.meaning c.args.alpha) (v.meaning y) (v.meaning k.item.0) (v.meaning s) (v.meaning z)) k.known.2
-                (subst (λ y. AddsScaled v (v.meaning y) (v.meaning k.before.beta) (v.meaning k.item.0) (v.meaning s) (v.meaning z)) k.known.1 added)),
+            subst (λ y. AddsScaled v (v.meaning c.args.alpha) (v.meaning y) (v.meaning k.item.0) (v.meaning s) (v.meaning z)) k.known.2
+                (subst (λ y. AddsScaled v (v.meaning y) (v.meaning k.before.beta) (v.meaning k.item.0) (v.meaning s) (v.meaning z)) k.known.1 added),
           );
     }
