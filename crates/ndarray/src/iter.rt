@@ -4,23 +4,23 @@ ghost use Rattle.std.specs.Prelude.{◌≡◌, ◌<◌, ◌^◌, length};
 ghost use Rattle.ndarray.specs.Orders.{HasInOrder};
 ghost use Rattle.ndarray.specs.declared.base.shape.Order.TheVariants.{RowMajor};
 
-pub mod collected;
 pub mod elements;
 pub mod elements_mut;
 pub mod indexed;
 pub mod indexed_mut;
 pub mod into_iter;
+pub mod vectors;
 
 use crate::base::array::{ArrayBase, ArrayView};
 use crate::base::dimension::Lengths;
 pub use crate::base::index_lists::Indices;
 use crate::base::storage::Data;
-pub use crate::iter::collected::{to_vec, to_vec_mapped};
 pub use crate::iter::elements::{ElementsBase, Iter};
 pub use crate::iter::elements_mut::{ElementsBaseMut, IterMut};
 pub use crate::iter::indexed::IndexedIter;
 pub use crate::iter::indexed_mut::IndexedIterMut;
 pub use crate::iter::into_iter::IntoIter;
+pub use crate::iter::vectors::{to_vec, to_vec_mapped};
 pub use crate::subviews::axis::AxisIter;
 pub use crate::subviews::axis_chunks::AxisChunksIter;
 pub use crate::subviews::axis_chunks_mut::AxisChunksIterMut;

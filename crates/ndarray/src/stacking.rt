@@ -42,7 +42,7 @@ pub fn concatenate<A: Clone, D: RemoveAxis>(
     arrays: &[ArrayView<'_, A, D>],
 ) -> Result<Array<A, D>, StackError>
     requires clones { ClonesAreEqual A.is_clone }
-    ensures refused { (k : ErrorKind) → (result ≡ Err (Shape (shape_error k))) ↔ (concatenate_error axis.0 (shapes_of arrays.now) ≡ Some k) }
+    ensures errors { (k : ErrorKind) → (result ≡ Err (Shape (shape_error k))) ↔ (concatenate_error axis.0 (shapes_of arrays.now) ≡ Some k) }
     ensures memory { (e : AllocError) → result ≡ Err (Memory e) → concatenate_error axis.0 (shapes_of arrays.now) ≡ None }
     ensures cells { IfOk result (λ r. r ≡ concatenation axis.0 arrays.now) }
     ensures whole { IfOk result IsGrid }
@@ -75,7 +75,7 @@ pub fn stack<A: Clone, D: Dimension>(
 where
     D::Larger: RemoveAxis,
     requires clones { ClonesAreEqual A.is_clone }
-    ensures refused { (k : ErrorKind) → (result ≡ Err (Shape (shape_error k))) ↔ (stack_error axis.0 (shapes_of arrays.now) ≡ Some k) }
+    ensures errors { (k : ErrorKind) → (result ≡ Err (Shape (shape_error k))) ↔ (stack_error axis.0 (shapes_of arrays.now) ≡ Some k) }
     ensures memory { (e : AllocError) → result ≡ Err (Memory e) → stack_error axis.0 (shapes_of arrays.now) ≡ None }
     ensures cells { IfOk result (λ r. r ≡ stack_of axis.0 arrays.now) }
     ensures whole { IfOk result IsGrid }

@@ -32,7 +32,7 @@ fn main() {
     }
 }
 
-fn added<'a>(numbers: impl Iterator<Item = &'a i64>) -> i64 {
+fn sum_of<'a>(numbers: impl Iterator<Item = &'a i64>) -> i64 {
     numbers.fold(0, |sum, x| sum.wrapping_add(*x))
 }
 
@@ -40,7 +40,7 @@ fn added<'a>(numbers: impl Iterator<Item = &'a i64>) -> i64 {
 fn walk(name: &str, n: usize, a: &mut [i64], b: &[i64], c: &[i64]) -> i64 {
     let mut sum = 0i64;
     match name {
-        "sum" | "iter" | "zip_one_fold" => return added(a.iter()),
+        "sum" | "iter" | "zip_one_fold" => return sum_of(a.iter()),
         "iter_transposed" => {
             for j in 0..n {
                 for i in 0..n {
@@ -95,7 +95,7 @@ fn walk(name: &str, n: usize, a: &mut [i64], b: &[i64], c: &[i64]) -> i64 {
         }
         "axis_iter" => {
             for row in a.chunks(n) {
-                sum = sum.wrapping_add(added(row.iter())).wrapping_mul(3);
+                sum = sum.wrapping_add(sum_of(row.iter())).wrapping_mul(3);
             }
         }
         "columns" => {
@@ -107,7 +107,7 @@ fn walk(name: &str, n: usize, a: &mut [i64], b: &[i64], c: &[i64]) -> i64 {
             }
         }
         "sum_axis_rows" => {
-            let made: Vec<i64> = b.chunks(n).map(|row| added(row.iter())).collect();
+            let made: Vec<i64> = b.chunks(n).map(|row| sum_of(row.iter())).collect();
             return made[1];
         }
         "sum_axis_columns" => {

@@ -11,7 +11,7 @@ pub mod fibonacci;
 pub mod refusing;
 pub mod residue;
 mod rows;
-pub mod walked;
+pub mod walks;
 
 use crate::counts::Counts;
 use std::process::ExitCode;

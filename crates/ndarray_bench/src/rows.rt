@@ -2,21 +2,21 @@
 
 mod along;
 mod answer;
+mod arrays;
 mod calls;
 mod items;
 mod joining;
 mod layouts;
 mod lists;
 mod operators;
-mod owned;
 mod products;
 mod reading;
-mod shown;
 mod spelling;
 mod stepping;
 mod steps;
+mod text;
 mod values;
-mod wrapped;
+mod wrapping;
 mod writing;
 
 use crate::counts::Counts;

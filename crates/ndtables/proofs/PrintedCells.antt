@@ -5,7 +5,7 @@ use Rattle.std.specs.List.{join_by}
 use Rattle.std.proofs.lemmas.List.{take-take, take_all, drop-take, drop-drop}
 use Rattle.ndarray.specs.Grid.{Grid}
 use Rattle.ndarray.specs.Index.{size}
-use Rattle.ndtables.specs.Printing.{pieces, printed, printed_cells, separator_text}
+use Rattle.ndtables.specs.Printing.{pieces, array_text, cells_text, separator_text}
 
 -- the pieces are made of the first elements alone
 pub pieces-take : {A : Type 0} (n s : ℕ) (xs : List A) → pieces n s (take (n * s) xs) ≡ pieces n s xs
@@ -70,8 +70,8 @@ module _ {X : Type 0} (f : X → List ℕ) (sep : List ℕ) where
       ∙ ap (λ zs. old ++ joined_after f sep first zs) (sym e))))
 
 -- the subarrays along the first axis are made of the first cells alone
-pub printed_cells-first : (n : ℕ) (ns : List ℕ) (xs : List ℤ) → printed_cells (n ∷ ns) (take (size (n ∷ ns)) xs) ≡ join_by (printed_cells ns) (separator_text ns) (pieces n (size ns) xs)
-printed_cells-first n ns xs = ap (join_by (printed_cells ns) (separator_text ns)) (pieces-take n (size ns) xs)
+pub cells_text-first : (n : ℕ) (ns : List ℕ) (xs : List ℤ) → cells_text (n ∷ ns) (take (size (n ∷ ns)) xs) ≡ join_by (cells_text ns) (separator_text ns) (pieces n (size ns) xs)
+cells_text-first n ns xs = ap (join_by (cells_text ns) (separator_text ns)) (pieces-take n (size ns) xs)
 
 few-axes : (a b : ℕ) → a ≤ 1 → (nat_lt 1 a && nat_eq b 0) ≡ false
 few-axes a b h = search rules
@@ -79,15 +79,15 @@ few-axes a b h = search rules
 some-cells : (a b : ℕ) → 0 < b → (nat_lt 1 a && nat_eq b 0) ≡ false
 some-cells a b h = search rules
 
-lines : (g : Grid ℤ) → length g.cells ≡ size g.lengths → (nat_lt 1 (length g.lengths) && nat_eq (length g.cells) 0) ≡ false → printed_cells g.lengths (take (size g.lengths) g.cells) ++ 10 ∷ [] ≡ printed g
+lines : (g : Grid ℤ) → length g.cells ≡ size g.lengths → (nat_lt 1 (length g.lengths) && nat_eq (length g.cells) 0) ≡ false → cells_text g.lengths (take (size g.lengths) g.cells) ++ 10 ∷ [] ≡ array_text g
 lines g whole e =
     let all : take (size g.lengths) g.cells ≡ g.cells = take_all (size g.lengths) g.cells (omega arith) in
-    rw e (ap (λ xs. printed_cells g.lengths xs ++ 10 ∷ []) all)
+    rw e (ap (λ xs. cells_text g.lengths xs ++ 10 ∷ []) all)
 
 -- an array of at most one axis has a line
-pub printed-line : (g : Grid ℤ) → length g.cells ≡ size g.lengths → length g.lengths ≤ 1 → printed_cells g.lengths (take (size g.lengths) g.cells) ++ 10 ∷ [] ≡ printed g
-printed-line g whole h = lines g whole (few-axes _ _ h)
+pub array_text-line : (g : Grid ℤ) → length g.cells ≡ size g.lengths → length g.lengths ≤ 1 → cells_text g.lengths (take (size g.lengths) g.cells) ++ 10 ∷ [] ≡ array_text g
+array_text-line g whole h = lines g whole (few-axes _ _ h)
 
 -- and so has each with cells
-pub printed-lines : (g : Grid ℤ) → length g.cells ≡ size g.lengths → 0 < length g.cells → printed_cells g.lengths (take (size g.lengths) g.cells) ++ 10 ∷ [] ≡ printed g
-printed-lines g whole h = lines g whole (some-cells _ _ h)
+pub array_text-lines : (g : Grid ℤ) → length g.cells ≡ size g.lengths → 0 < length g.cells → cells_text g.lengths (take (size g.lengths) g.cells) ++ 10 ∷ [] ≡ array_text g
+array_text-lines g whole h = lines g whole (some-cells _ _ h)

@@ -12,7 +12,7 @@ use Rattle.ndarray.specs.declared.base.shape.Order.TheVariants.{RowMajor, Column
 use Rattle.ndarray.proofs.callers.Cells.{beside-at, cells_in-HasInOrder, same_grid, tabulate-is}
 use Rattle.ndarray.proofs.callers.IndexLists.{IsBefore-not_itself, box_in-at, box_in-is, length-box_in, rank_in-lt}
 use Rattle.std.proofs.lemmas.Option.{slice_get-map, slice_get-get_or}
-use Rattle.ndtables.specs.Stored.{stored}
+use Rattle.ndtables.specs.Stored.{stored_array}
 
 module _ {A : Type 0} where
   beside-box : (o : Order) (ns : List ℕ) (xs : List A) (k : ℕ) → length xs ≡ length (box_in o ns) → k < length (box_in o ns) → beside (box_in o ns) xs (get_or (box_in o ns) k []) ≡ slice_get xs k
@@ -38,9 +38,9 @@ module _ {A : Type 0} where
       Some-inner (cell g is) (slice_get xs k) both
       ∙ (sym (beside-box o ns xs k same lt) ∙ ap (beside jss xs) here)
 
-  -- an array is the stored one of its cells in the order
-  pub stored-is : (o : Order) (g : Grid A) (ns : List ℕ) (xs : List A) → IsGrid g → g.lengths ≡ ns → map (cell g) (box_in o g.lengths) ≡ map Some xs → g ≡ stored o ns xs
-  stored-is o g ns xs whole e h =
+  -- an array is that of its cells in the order
+  pub stored_array-is : (o : Order) (g : Grid A) (ns : List ℕ) (xs : List A) → IsGrid g → g.lengths ≡ ns → map (cell g) (box_in o g.lengths) ≡ map Some xs → g ≡ stored_array o ns xs
+  stored_array-is o g ns xs whole e h =
       tabulate-is g ns (beside (box_in o ns) xs) whole e (λ is in_box. subst (λ z. cell g is ≡ beside (box_in o z) xs is) e (cell-beside o g xs h is in_box))
 
   -- an array with its cells in row order
@@ -50,9 +50,9 @@ module _ {A : Type 0} where
       same_grid g (grid ns xs) whole same e (λ is in_box. subst (λ z. cell g is ≡ beside (row_order z) xs is) e (cell-beside RowMajor g xs h is in_box))
 
   -- in row order the cells are kept as they are
-  pub stored-rows : (ns : List ℕ) (xs : List A) → length xs ≡ size ns → stored RowMajor ns xs ≡ grid ns xs
+  pub stored_array-rows : (ns : List ℕ) (xs : List A) → length xs ≡ size ns → stored_array RowMajor ns xs ≡ grid ns xs
   unfolding cell
-  stored-rows ns xs same = sym (tabulate-is (grid ns xs) ns (beside (row_order ns) xs) same refl (λ is in_box. refl))
+  stored_array-rows ns xs same = sym (tabulate-is (grid ns xs) ns (beside (row_order ns) xs) same refl (λ is in_box. refl))
 
   -- the cells in an order, one for each index list
   pub cells_in-list : (o : Order) (g : Grid A) → IsGrid g → map (cell g) (box_in o g.lengths) ≡ map Some (cells_in o g)

@@ -17,10 +17,10 @@ separator_text (n ∷ []) = 10 ∷ []
 separator_text (n ∷ m ∷ ns) = 10 ∷ 10 ∷ []
 
 -- the cells of an array of these lengths, in row order, as text: with no axes its cell in decimal, else its subarrays along the first axis, with the separator between each two
-abbrev pub printed_cells : List ℕ → List ℤ → List ℕ
-printed_cells [] xs = flat_map signed_decimal xs
-printed_cells (n ∷ ns) xs = join_by (printed_cells ns) (separator_text ns) (pieces n (size ns) xs)
+abbrev pub cells_text : List ℕ → List ℤ → List ℕ
+cells_text [] xs = flat_map signed_decimal xs
+cells_text (n ∷ ns) xs = join_by (cells_text ns) (separator_text ns) (pieces n (size ns) xs)
 
 -- an array as text: its cells and a newline. One of two or more axes that has no cells is no text
-abbrev pub printed : Grid ℤ → List ℕ
-printed g = if nat_lt 1 (length g.lengths) && nat_eq (length g.cells) 0 then [] else (printed_cells g.lengths g.cells ++ 10 ∷ [])
+abbrev pub array_text : Grid ℤ → List ℕ
+array_text g = if nat_lt 1 (length g.lengths) && nat_eq (length g.cells) 0 then [] else (cells_text g.lengths g.cells ++ 10 ∷ [])

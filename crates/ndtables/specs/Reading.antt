@@ -7,7 +7,7 @@ use Rattle.ndarray.specs.Grid.{Grid}
 use Rattle.ndarray.specs.Sums.{total}
 use Rattle.ndarray.specs.declared.base.shape.Order.{Order}
 use Rattle.ndtables.specs.Adding.{AreSums}
-use Rattle.ndtables.specs.Printing.{printed}
+use Rattle.ndtables.specs.Printing.{array_text}
 use Rattle.ndtables.specs.Reducing.{AreDifferences, AreRunningProducts, AreTotalsAlong}
 use Rattle.ndtables.specs.Spelling.{IsDigits, IsSignedDigits, SpellsShape}
 
@@ -49,7 +49,7 @@ pub record PrintsAdd (words : List (List ℕ)) (text : List ℕ) : Type 0 where
   pub read_left : ReadsTable words rest left
   pub read_right : ReadsTable rest [] right
   pub added : AreSums left right sums
-  pub lines : text ≡ printed sums
+  pub lines : text ≡ array_text sums
 
 -- all of the words were read as an axis and a table, and the text is the array of the totals of the table's lanes along the axis
 pub record PrintsTotals (M : CommutativeMonoid ℤ) (words : List (List ℕ)) (text : List ℕ) : Type 0 where
@@ -60,7 +60,7 @@ pub record PrintsTotals (M : CommutativeMonoid ℤ) (words : List (List ℕ)) (t
   pub read_axis : ReadsCount words rest axis
   pub read_table : ReadsTable rest [] table
   pub added : AreTotalsAlong M table axis totals
-  pub lines : text ≡ printed totals
+  pub lines : text ≡ array_text totals
 
 -- all of the words were read as an order, an axis and a table, and the text is the table's difference of that order along the axis
 pub record PrintsDiff (words : List (List ℕ)) (text : List ℕ) : Type 0 where
@@ -74,7 +74,7 @@ pub record PrintsDiff (words : List (List ℕ)) (text : List ℕ) : Type 0 where
   pub read_axis : ReadsCount after_order after_axis axis
   pub read_table : ReadsTable after_axis [] table
   pub subtracted : AreDifferences table order axis differences
-  pub lines : text ≡ printed differences
+  pub lines : text ≡ array_text differences
 
 -- all of the words were read as an axis and a table, and the text is the array of the table's running products along the axis
 pub record PrintsCumprod (words : List (List ℕ)) (text : List ℕ) : Type 0 where
@@ -85,4 +85,4 @@ pub record PrintsCumprod (words : List (List ℕ)) (text : List ℕ) : Type 0 wh
   pub read_axis : ReadsCount words rest axis
   pub read_table : ReadsTable rest [] table
   pub multiplied : AreRunningProducts table axis products
-  pub lines : text ≡ printed products
+  pub lines : text ≡ array_text products

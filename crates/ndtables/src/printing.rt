@@ -2,7 +2,7 @@
 
 ghost use Rattle.std.specs.Prelude.{◌≡◌, ◌++◌, [], take, drop, IfOk, OnOk, string_bytes};
 ghost use Rattle.ndarray.specs.Index.{size};
-ghost use Rattle.ndtables.specs.Printing.{printed, printed_cells, separator_text};
+ghost use Rattle.ndtables.specs.Printing.{array_text, cells_text, separator_text};
 
 use ndarray::iter::Iter;
 use ndarray::{ArrayView, Lengths};
@@ -16,7 +16,7 @@ pub fn text_of<D: Lengths>(
     alloc: Global,
     array: &ArrayView<'_, i64, D>,
 ) -> Result<String, AllocError>
-    ensures { IfOk result (λ text. string_bytes text ≡ printed array.now) }
+    ensures { IfOk result (λ text. string_bytes text ≡ array_text array.now) }
 {
     let mut text = String::new(alloc);
     if array.len() == 0 && array.ndim() > 1 {
@@ -33,7 +33,7 @@ fn push_cells<D: Lengths>(
     lengths: &[usize],
     cells: &mut Iter<'_, i64, D>,
 ) -> Result<(), AllocError>
-    ensures text { OnOk result (string_bytes text.new ≡ string_bytes text.old ++ printed_cells lengths.now (take (size lengths.now) cells.old)) }
+    ensures text { OnOk result (string_bytes text.new ≡ string_bytes text.old ++ cells_text lengths.now (take (size lengths.now) cells.old)) }
     ensures rest { OnOk result (cells.new ≡ drop (size lengths.now) cells.old) }
 {
     let Some((length, rest)) = lengths.split_first() else {
@@ -50,7 +50,7 @@ fn push_cells<D: Lengths>(
 
 /// Appends the first cell and takes it off.
 fn push_cell<D: Lengths>(text: &mut String, cells: &mut Iter<'_, i64, D>) -> Result<(), AllocError>
-    ensures text { OnOk result (string_bytes text.new ≡ string_bytes text.old ++ printed_cells [] (take 1 cells.old)) }
+    ensures text { OnOk result (string_bytes text.new ≡ string_bytes text.old ++ cells_text [] (take 1 cells.old)) }
     ensures rest { OnOk result (cells.new ≡ drop 1 cells.old) }
 {
     if let Some(cell) = cells.next() {

@@ -26,9 +26,9 @@ impl<D: Dimension> Model for Table<D> {
 
     ghost Value = { Grid ℤ };
 
-    ghost use Rattle.ndtables.specs.Stored.{stored, IsStored};
+    ghost use Rattle.ndtables.specs.Stored.{stored_array, IsStored};
 
-    ghost view = { λ t. stored t.order (D.numbers t.dim) t.cells.items };
+    ghost view = { λ t. stored_array t.order (D.numbers t.dim) t.cells.items };
 
     ghost invariant = { λ t. IsStored (D.numbers t.dim) t.cells.items };
 }

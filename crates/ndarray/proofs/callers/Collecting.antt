@@ -51,8 +51,8 @@ module _ {F A R : Type 0} (yields_at : List ℕ → A → Type 0) (call_gives : 
       let u = each i x r m.0 b.0 s (subst (λ g. call_gives g x r m.0) e k) in
       chain is b.1 m q u.0 rest ∙ ap (λ l. l ++ map h is) (a ∙ ap (λ v. p.1 ++ (v ∷ [])) u.1) ∙ append_assoc p.1 (h i ∷ []) (map h is)
 
-  pub collected : (o : Order) (g : Grid R) → IsGrid g → Collects yields_at call_gives o ns f g → g ≡ array_by ns h
-  collected o g whole c =
+  pub collect-follows : (o : Order) (g : Grid R) → IsGrid g → Collects yields_at call_gives o ns f g → g ≡ array_by ns h
+  collect-follows o g whole c =
       let b = All-to_recursion (InBox ns) (box_in o ns) (box_in-within o ns) in
       let a : c.answers ≡ map h (box_in o ns) = chain (box_in o ns) b (f, []) (c.gathered.0, c.answers) refl c.gathered.1 in
       let e : map (cell g) (box_in o g.lengths) ≡ map Some c.answers = c.cells (box_in o g.lengths) (box_in-is o g.lengths) in

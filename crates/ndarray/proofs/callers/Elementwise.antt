@@ -38,9 +38,9 @@ module _ {A B : Type 0} (g : Grid A) (h : Grid B) (left_whole : IsGrid g) (right
   }
 
   -- the array that an operator returns has these lengths, and at each index list what a function answers that the operation computes
-  pub combined : {C : Type 0} (gives : A → B → C → Type 0) (r : Grid C) (f : List ℕ → C) → ((is : List ℕ) (x : A) (y : B) (z : C) → cell g is ≡ Some x → cell h is ≡ Some y → gives x y z → z ≡ f is)
+  pub combine-follows : {C : Type 0} (gives : A → B → C → Type 0) (r : Grid C) (f : List ℕ → C) → ((is : List ℕ) (x : A) (y : B) (z : C) → cell g is ≡ Some x → cell h is ≡ Some y → gives x y z → z ≡ f is)
       → Combines g h gives r → r ≡ array_by g.lengths f
-  combined gives r f each c =
+  combine-follows gives r f each c =
       array_by-by r g.lengths f c.whole (c.lengths ∙ lengths-same)
       (λ is z there.
       let (x, y, at, given) = c.cells is z there in
@@ -69,10 +69,10 @@ module _ {A B : Type 0} (g : Grid A) (h : Grid B) (whole : IsGrid h) (n : ℕ) (
   given-below gives f each (i ∷ js) x y z p given = each i js x y z p.0 (below i js x y p) given
 
   -- the array that it leaves has at each index list what a function answers that the operation computes
-  pub assigned-row : (gives : A → B → A → Type 0) (new : Grid A) (f : List ℕ → A)
+  pub assign_row-follows : (gives : A → B → A → Type 0) (new : Grid A) (f : List ℕ → A)
       → ((i : ℕ) (js : List ℕ) (x : A) (y : B) (z : A) → cell g (i ∷ js) ≡ Some x → cell h js ≡ Some y → gives x y z → z ≡ f (i ∷ js))
       → Assigns gives g h new → new ≡ array_by g.lengths f
-  assigned-row gives new f each c =
+  assign_row-follows gives new f each c =
       array_by-by new g.lengths f c.whole c.lengths
       (λ is z there.
       let (x, y, at, given) = c.cells is z there in

@@ -5,7 +5,7 @@ use crate::rows::layouts::Table;
 use crate::rows::operators::{View, push_answer};
 use crate::rows::reading::{apply_all, kind};
 use crate::rows::spelling::numbers;
-use crate::rows::wrapped::wrap_all;
+use crate::rows::wrapping::wrap_all;
 use ndarray::Axis;
 use std::alloc::{AllocError, Global};
 

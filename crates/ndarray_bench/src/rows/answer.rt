@@ -3,7 +3,7 @@
 use crate::rows::calls::ViewCall;
 use crate::rows::layouts::{Layout, Table};
 use crate::rows::writing::parse_views;
-use crate::rows::{along, joining, operators, owned, products, reading, spelling, writing};
+use crate::rows::{along, arrays, joining, operators, products, reading, spelling, writing};
 use std::alloc::{AllocError, Global};
 
 /// What the calls of a row give on a layout of its table: `TABLE | CALL | ..`.
@@ -113,8 +113,8 @@ fn carry_out_on(
 ) -> Result<String, AllocError> {
     match first {
         "view_mut" => writing::answer(alloc, table, rest),
-        "owned" => owned::answer(alloc, table, rest),
-        "cow_array" => owned::borrow(alloc, &table, rest),
+        "owned" => arrays::answer(alloc, table, rest),
+        "cow_array" => arrays::borrow(alloc, &table, rest),
         _ => read(alloc, &table, calls),
     }
 }

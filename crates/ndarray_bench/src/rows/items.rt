@@ -2,7 +2,7 @@
 
 ghost use Rattle.std.specs.Iterator.{IsFinite};
 
-use crate::rows::shown::{push_numbers, push_view};
+use crate::rows::text::{push_numbers, push_view};
 use ndarray::{ArrayView, ArrayViewMut, IxDyn, Lengths};
 use std::alloc::AllocError;
 

@@ -5,8 +5,8 @@ use crate::rows::calls::ViewCall;
 use crate::rows::layouts::{LAYOUTS, Layout, Table};
 use crate::rows::operators::push_text;
 use crate::rows::reading::{apply_all, kind};
-use crate::rows::shown::as_text;
 use crate::rows::spelling::{axis, whole_number};
+use crate::rows::text::as_text;
 use ndarray::{Array, ArrayView, Axis, IxDyn, StackError, concatenate, stack};
 use std::alloc::{AllocError, Global};
 

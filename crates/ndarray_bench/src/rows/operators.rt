@@ -6,9 +6,9 @@ use crate::rows::answer::parse_table;
 use crate::rows::calls::ViewCall;
 use crate::rows::layouts::{LAYOUTS, Table};
 use crate::rows::reading::{apply_all, kind};
-use crate::rows::shown::push_lengths;
 use crate::rows::spelling::cell;
-use crate::rows::wrapped::{Wrapped, wrap_all};
+use crate::rows::text::push_lengths;
+use crate::rows::wrapping::{Wrapped, wrap_all};
 use ndarray::{Array, ArrayView, IxDyn, Lengths};
 use std::alloc::{AllocError, Global};
 

@@ -6,7 +6,7 @@ use crate::rows::calls::ViewCall;
 use crate::rows::layouts::{LAYOUTS, Table};
 use crate::rows::operators::push_text;
 use crate::rows::reading::{apply_all, kind};
-use crate::rows::shown::push_lengths;
+use crate::rows::text::push_lengths;
 use ndarray::linalg::{Dot, dot_ok, kron, kron_ok};
 use ndarray::{Array, ArrayView, Ix2, IxDyn, Lengths};
 use std::alloc::{AllocError, Global};

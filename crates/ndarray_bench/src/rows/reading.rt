@@ -1,9 +1,9 @@
 //! Calls that read.
 
 use crate::rows::calls::{Cells, PartCall, Pieces, ViewCall};
-use crate::rows::shown::as_text;
 use crate::rows::stepping::Ending;
 use crate::rows::steps::Step;
+use crate::rows::text::as_text;
 use crate::rows::{lists, spelling, values};
 use ndarray::{
     ArrayBase, ArrayView, Axis, Data, Ix0, Ix1, Ix2, Ix3, Ix6, IxDyn, Lengths, ShapeError,

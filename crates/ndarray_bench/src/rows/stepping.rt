@@ -3,8 +3,8 @@
 ghost use Rattle.std.specs.Iterator.{IsFinite};
 
 use crate::rows::items::{Item, number_all};
-use crate::rows::shown::{push_separator, push_word};
 use crate::rows::steps::Step;
+use crate::rows::text::{push_separator, push_word};
 use ndarray::iter::{AxisChunksIter, AxisChunksIterMut, AxisIter, AxisIterMut};
 use ndarray::{ArrayView, IxDyn};
 use std::alloc::{AllocError, Global};

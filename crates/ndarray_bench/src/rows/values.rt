@@ -3,8 +3,8 @@
 ghost use Rattle.std.specs.Prelude.{◌<◌, length};
 
 use crate::rows::reading::View;
-use crate::rows::shown::{as_text, push_lengths, push_view};
 use crate::rows::spelling::{index, numbers, shape, slice_of_axis, two_shapes};
+use crate::rows::text::{as_text, push_lengths, push_view};
 use ndarray::Axis;
 use std::alloc::{AllocError, Global};
 

@@ -1,5 +1,5 @@
 use Rattle.std.proofs.Common.{◌∙◌, refl}
-use Rattle.ndarray.proofs.callers.Elementwise.{assigned-row, can-assign-row}
+use Rattle.ndarray.proofs.callers.Elementwise.{assign_row-follows, can-assign-row}
 use Rattle.ndarray_bench.specs.Callers.{multiple_added}
 use Rattle.ndarray_bench.specs.Residue.{residue_sums}
 use Rattle.ndarray_bench.proofs.callers.add_multiple_of_row.Goals as goal
@@ -11,6 +11,6 @@ pub returns : goal.returns
 unfolding residue_sums
 returns c =
     let (n, long) = c.requires.as_long in
-    assigned-row _ _ c.raw_dim-length.ensures.whole n long _ _ (multiple_added c.args.factor c.args.table.now c.args.row.now)
+    assign_row-follows _ _ c.raw_dim-length.ensures.whole n long _ _ (multiple_added c.args.factor c.args.table.now c.args.row.now)
     (λ i js x y z above below given. given ∙ rw (above, below) refl)
     c.scaled_add.ensures

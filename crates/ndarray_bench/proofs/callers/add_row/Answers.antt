@@ -1,5 +1,5 @@
 use Rattle.std.proofs.Common.{◌∙◌, refl}
-use Rattle.ndarray.proofs.callers.Elementwise.{assigned-row, can-assign-row}
+use Rattle.ndarray.proofs.callers.Elementwise.{assign_row-follows, can-assign-row}
 use Rattle.ndarray_bench.specs.Callers.{sum_below}
 use Rattle.ndarray_bench.proofs.callers.add_row.Goals as goal
 
@@ -9,6 +9,6 @@ add_assign-requires c = let (n, long) = c.requires.as_long in can-assign-row _ _
 pub returns : goal.returns
 returns c =
     let (n, long) = c.requires.as_long in
-    assigned-row _ _ c.raw_dim-length.ensures.whole n long _ _ (sum_below c.args.table.now c.args.row.now)
+    assign_row-follows _ _ c.raw_dim-length.ensures.whole n long _ _ (sum_below c.args.table.now c.args.row.now)
     (λ i js x y z above below given. given ∙ rw (above, below) refl)
     c.add_assign.ensures.after

@@ -1,7 +1,7 @@
 use Rattle.std.proofs.Common.{rules, ◌≡◌, ◌∙◌, ◌∷◌, [], ◌==◌, if◌then◌else◌, Some, ap, refl, sym, subst}
 use Rattle.ndarray.specs.Grid.{array_by, cell}
 use Rattle.ndarray.specs.Index.{InBox}
-use Rattle.ndarray.proofs.callers.Collecting.{collected, if_ok-both}
+use Rattle.ndarray.proofs.callers.Collecting.{collect-follows, if_ok-both}
 use Rattle.ndarray_bench.specs.Callers.{off_diagonal}
 use Rattle.ndarray_bench.proofs.callers.clear_diagonal.Goals as goal
 
@@ -13,7 +13,7 @@ returns g c =
     let lengths : nested.first.lengths ≡ a.lengths = ap (λ v. v.lengths) c.indexed.ensures.lists ∙ ap (λ v. v.lengths) second in
     if_ok-both c.map_collect.result _ _ (λ b. b ≡ array_by a.lengths (off_diagonal a))
     (λ b ran whole.
-    collected _ _ _ (off_diagonal a) _
+    collect-follows _ _ _ (off_diagonal a) _
     (λ i x r k inside shown call.
     let within : InBox nested.second.lengths i = subst (λ ns. InBox ns i) (lengths ∙ sym (ap (λ v. v.lengths) second)) inside in
     let place : x.0.0 ∷ x.0.1 ∷ [] ≡ i = (c.indexed.ensures.items i within x.0).0 shown.0 in

@@ -1,6 +1,6 @@
 use Rattle.std.proofs.Common.{rules, ◌≡◌, ◌∙◌, ◌/◌, Some, ap, refl}
 use Rattle.ndarray.specs.Grid.{array_by, cell}
-use Rattle.ndarray.proofs.callers.Collecting.{collected, if_ok-both}
+use Rattle.ndarray.proofs.callers.Collecting.{collect-follows, if_ok-both}
 use Rattle.ndarray_bench.specs.Callers.{half_at}
 use Rattle.ndarray_bench.proofs.callers.halve.Goals as goal
 
@@ -10,7 +10,7 @@ returns g c =
     let first : c.from.result.nested ≡ a = c.from.ensures in
     if_ok-both c.map_collect.result _ _ (λ b. b ≡ array_by a.lengths (half_at a))
     (λ b ran whole.
-    collected _ _ _ (half_at a) _
+    collect-follows _ _ _ (half_at a) _
     (λ i x r k inside shown call.
     let there : cell a i ≡ Some x.now = rw first at shown in
     let answer : r ≡ x.now / 2 = search (rules, call) in

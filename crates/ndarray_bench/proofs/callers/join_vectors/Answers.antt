@@ -12,7 +12,7 @@ pub returns : goal.returns
 returns g c =
     let gs = c.view.result ∷ c.view-2.result ∷ [] in
     let whole = All-cons IsGrid c.view.result (c.view-2.result ∷ []) c.view.ensures.whole (All-cons IsGrid c.view-2.result [] c.view-2.ensures.whole (All-nil IsGrid)) in
-    if_ok-unless c.concatenate.result (concatenate_error 0 (shapes_of gs)) (λ k. Shape (shape_error k)) _ c.concatenate.ensures.refused
+    if_ok-unless c.concatenate.result (concatenate_error 0 (shapes_of gs)) (λ k. Shape (shape_error k)) _ c.concatenate.ensures.errors
     (λ none.
     if_ok-both c.concatenate.result _ (λ r. (length r.lengths ≡ 1) × IsGrid r) _
     (λ r cells known.

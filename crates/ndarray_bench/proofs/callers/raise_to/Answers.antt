@@ -1,7 +1,7 @@
 use Rattle.std.proofs.Common.{rules, ◌≡◌, ◌∙◌, Some, ap, max, refl}
 use Rattle.ndarray.specs.Grid.{array_by, cell}
 use Rattle.ndarray.specs.Views.{broadcast_to}
-use Rattle.ndarray.proofs.callers.Collecting.{collected, if_ok-both}
+use Rattle.ndarray.proofs.callers.Collecting.{collect-follows, if_ok-both}
 use Rattle.ndarray_bench.specs.Callers.{greater_at}
 use Rattle.ndarray_bench.proofs.callers.raise_to.Goals as goal
 
@@ -13,7 +13,7 @@ returns g c =
     let second : c.and_broadcast.result.nested.second ≡ broadcast_to limits a.lengths = c.and_broadcast.ensures.last ∙ ap (λ v. broadcast_to limits v.lengths) c.from.ensures in
     if_ok-both c.map_collect.result _ _ (λ b. b ≡ array_by a.lengths (greater_at a limits))
     (λ b ran whole.
-    collected _ _ _ (greater_at a limits) _
+    collect-follows _ _ _ (greater_at a limits) _
     (λ i x r k inside shown call.
     let own : cell a i ≡ Some x.0.now = rw first at shown.0 in
     let other : cell (broadcast_to limits a.lengths) i ≡ Some x.1.now = rw second at shown.1 in

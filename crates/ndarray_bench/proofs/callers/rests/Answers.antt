@@ -1,6 +1,6 @@
 use Rattle.std.proofs.Common.{rules, ◌≡◌, ◌∙◌, ◌-◌, Some, refl}
 use Rattle.ndarray.specs.Grid.{array_by, cell}
-use Rattle.ndarray.proofs.callers.Collecting.{collected, if_ok-both}
+use Rattle.ndarray.proofs.callers.Collecting.{collect-follows, if_ok-both}
 use Rattle.ndarray_bench.specs.Callers.{rest_at}
 use Rattle.ndarray_bench.proofs.callers.rests.Goals as goal
 
@@ -10,7 +10,7 @@ returns g c =
     let whole = c.args.whole in
     if_ok-both c.scalar_left.result _ _ (λ b. b ≡ array_by parts.lengths (rest_at whole parts))
     (λ b ran grid.
-    collected _ _ _ (rest_at whole parts) _
+    collect-follows _ _ _ (rest_at whole parts) _
     (λ i x r k inside shown call.
     let there : cell parts i ≡ Some x = shown in
     let answer : r ≡ whole - x = search (rules, call) in

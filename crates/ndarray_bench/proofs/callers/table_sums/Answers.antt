@@ -1,6 +1,6 @@
 use Rattle.std.proofs.Common.{◌∙◌, refl}
 use Rattle.ndarray.proofs.callers.Collecting.{if_ok-both}
-use Rattle.ndarray.proofs.callers.Elementwise.{can-combine, combined}
+use Rattle.ndarray.proofs.callers.Elementwise.{can-combine, combine-follows}
 use Rattle.ndarray_bench.specs.Callers.{sum_at}
 use Rattle.ndarray_bench.proofs.callers.table_sums.Goals as goal
 
@@ -11,6 +11,6 @@ pub returns : goal.returns
 returns c =
     if_ok-both c.add.result _ _ _
     (λ r made same.
-    combined _ _ c.raw_dim.ensures.whole c.raw_dim-2.ensures.whole c.requires.same _ r (sum_at c.args.a.now c.args.b.now)
+    combine-follows _ _ c.raw_dim.ensures.whole c.raw_dim-2.ensures.whole c.requires.same _ r (sum_at c.args.a.now c.args.b.now)
     (λ is x y z left right given. given ∙ rw (left, right) refl) made)
     c.add.ensures.made c.add.ensures.made

@@ -4,7 +4,7 @@ use denote.Text.{Utf8}
 use denote.Shadow.{shadow}
 use Rattle.std.specs.List.{join_by}
 use Rattle.ndarray.specs.Index.{size}
-use Rattle.ndtables.specs.Printing.{pieces, printed_cells, separator_text}
+use Rattle.ndtables.specs.Printing.{pieces, cells_text, separator_text}
 use Rattle.ndtables.proofs.PrintedCells.{joined_after}
 use Rattle.ndtables.proofs.printing.+push_cells.Given as goal
 
@@ -15,7 +15,7 @@ decreases-push_cells g l = length l.lengths.now
 abbrev pub invariant-loop : goal.invariant-loop
 invariant-loop g l = record {
   utf8 : shadow (Utf8 l.between);
-  text : string_bytes l.text ++ joined_after (printed_cells l.rest) (separator_text l.rest) l.between (pieces (l.end - l.counter) (size l.rest) l.cells)
-      ≡ string_bytes l.initial.text ++ join_by (printed_cells l.rest) (separator_text l.rest) (pieces l.end (size l.rest) l.initial.cells);
+  text : string_bytes l.text ++ joined_after (cells_text l.rest) (separator_text l.rest) l.between (pieces (l.end - l.counter) (size l.rest) l.cells)
+      ≡ string_bytes l.initial.text ++ join_by (cells_text l.rest) (separator_text l.rest) (pieces l.end (size l.rest) l.initial.cells);
   rest : drop ((l.end - l.counter) * size l.rest) l.cells ≡ drop (l.end * size l.rest) l.initial.cells;
 }

@@ -1,8 +1,8 @@
 use Rattle.std.proofs.Common.{◌≡◌, ◌++◌, ◌∷◌, [], take, length, sym, ap, ◌∙◌, arith}
 use Rattle.std.specs.Prelude.{string_bytes}
 use Rattle.ndarray.specs.Index.{size}
-use Rattle.ndtables.specs.Printing.{printed, printed_cells}
-use Rattle.ndtables.proofs.PrintedCells.{printed-line, printed-lines}
+use Rattle.ndtables.specs.Printing.{array_text, cells_text}
+use Rattle.ndtables.proofs.PrintedCells.{array_text-line, array_text-lines}
 use Rattle.ndtables.proofs.printing.text_of.Goals.{else-len-eq0-via-then-len-eq0+else-ndim-gt1, else-len-eq0-via-else-len-eq0}
 use Rattle.ndtables.proofs.printing.text_of.Goals as goal
 
@@ -10,15 +10,15 @@ pub returns : goal.returns
 returns g c =
     let a = c.args.array.now in
     let whole : length a.cells ≡ size a.lengths = sym c.len.ensures.cells ∙ c.len.ensures.size in
-    let lines : printed_cells a.lengths (take (size a.lengths) a.cells) ++ 10 ∷ [] ≡ printed a = elim c.else-len-eq0.branch [
-      | else-len-eq0-via-then-len-eq0+else-ndim-gt1 w ↦ printed-line a whole (let e = w.ndim.ensures.value in let h = w.if-ndim-gt1.false in omega arith)
-      | else-len-eq0-via-else-len-eq0 w ↦ printed-lines a whole (let e = c.len.ensures.cells in let h = w.if-len-eq0.false in omega arith)
+    let lines : cells_text a.lengths (take (size a.lengths) a.cells) ++ 10 ∷ [] ≡ array_text a = elim c.else-len-eq0.branch [
+      | else-len-eq0-via-then-len-eq0+else-ndim-gt1 w ↦ array_text-line a whole (let e = w.ndim.ensures.value in let h = w.if-ndim-gt1.false in omega arith)
+      | else-len-eq0-via-else-len-eq0 w ↦ array_text-lines a whole (let e = c.len.ensures.cells in let h = w.if-len-eq0.false in omega arith)
     ] in
-    let cells : string_bytes c.push_cells.new.text ≡ printed_cells a.lengths (take (size a.lengths) a.cells) =
+    let cells : string_bytes c.push_cells.new.text ≡ cells_text a.lengths (take (size a.lengths) a.cells) =
     c.in_ok-push_cells.ensures.text
-    ∙ (ap (λ z. z ++ printed_cells c.shape.result.now (take (size c.shape.result.now) c.iter.result)) c.new-text.ensures.bytes
-    ∙ (ap (λ xs. printed_cells c.shape.result.now (take (size c.shape.result.now) xs)) c.iter.ensures.cells
-    ∙ ap (λ ns. printed_cells ns (take (size ns) a.cells)) c.shape.ensures.value)) in
+    ∙ (ap (λ z. z ++ cells_text c.shape.result.now (take (size c.shape.result.now) c.iter.result)) c.new-text.ensures.bytes
+    ∙ (ap (λ xs. cells_text c.shape.result.now (take (size c.shape.result.now) xs)) c.iter.ensures.cells
+    ∙ ap (λ ns. cells_text ns (take (size ns) a.cells)) c.shape.ensures.value)) in
     c.in_ok-push.ensures.bytes
     ∙ (ap (λ z. string_bytes c.push_cells.new.text ++ z) (c.in_ok-push.ensures.ascii (omega arith))
     ∙ (ap (λ z. z ++ 10 ∷ []) cells ∙ lines))

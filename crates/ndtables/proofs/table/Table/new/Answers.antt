@@ -5,8 +5,8 @@ use Rattle.ndarray.specs.Index.{size, row_order}
 use Rattle.ndarray.specs.Orders.{cells_in, HasInOrder}
 use Rattle.ndarray.specs.declared.base.shape.Order.TheVariants.{RowMajor, ColumnMajor}
 use Rattle.ndarray.proofs.callers.IndexLists.{box_in-is}
-use Rattle.ndtables.specs.Stored.{stored}
-use Rattle.ndtables.proofs.StoredCells.{stored-is, stored-rows, grid-is, cells_in-list, length-cells_in}
+use Rattle.ndtables.specs.Stored.{stored_array}
+use Rattle.ndtables.proofs.StoredCells.{stored_array-is, stored_array-rows, grid-is, cells_in-list, length-cells_in}
 use Rattle.ndtables.proofs.table.Table.new.Goals as goal
 
 pub invariant_of-result-in-ColumnMajor : goal.invariant_of-result-in-ColumnMajor
@@ -22,7 +22,7 @@ invariant_of-result-in-ColumnMajor g c =
 pub returns-in-RowMajor : goal.returns-in-RowMajor
 returns-in-RowMajor g c =
     let ns = g.D.Lengths.numbers c.args.dim in
-    ap (λ o. stored o ns c.args.cells.items) c.in-RowMajor.is ∙ stored-rows ns c.args.cells.items c.requires.as_many
+    ap (λ o. stored_array o ns c.args.cells.items) c.in-RowMajor.is ∙ stored_array-rows ns c.args.cells.items c.requires.as_many
 
 pub returns-in_ok-cells-in-ColumnMajor : goal.returns-in_ok-cells-in-ColumnMajor
 returns-in_ok-cells-in-ColumnMajor g c =
@@ -36,7 +36,7 @@ returns-in_ok-cells-in-ColumnMajor g c =
     ap (take (size rows.lengths)) c.as_slice.ensures.value ∙ take_all (size rows.lengths) xs (let e = ap size lengths in let f = c.requires.as_many in omega arith) in
     let listed : map (cell rows) (row_order rows.lengths) ≡ map Some xs =
     told (row_order rows.lengths) (box_in-is RowMajor rows.lengths) ∙ ap (map Some) all in
-    ap (λ o. stored o ns c.in_ok-cells-in-ColumnMajor.cells.items) c.in-ColumnMajor.is
-    ∙ (ap (stored ColumnMajor ns) c.in_ok-cells-in-ColumnMajor.ensures
-    ∙ (sym (stored-is ColumnMajor rows ns (cells_in ColumnMajor rows) whole lengths (cells_in-list ColumnMajor rows whole))
+    ap (λ o. stored_array o ns c.in_ok-cells-in-ColumnMajor.cells.items) c.in-ColumnMajor.is
+    ∙ (ap (stored_array ColumnMajor ns) c.in_ok-cells-in-ColumnMajor.ensures
+    ∙ (sym (stored_array-is ColumnMajor rows ns (cells_in ColumnMajor rows) whole lengths (cells_in-list ColumnMajor rows whole))
     ∙ grid-is rows ns xs whole lengths c.requires.as_many listed))

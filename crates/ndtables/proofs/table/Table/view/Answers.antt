@@ -4,8 +4,8 @@ use Rattle.ndarray.specs.Grid.{IsGrid, cell}
 use Rattle.ndarray.specs.Index.{size}
 use Rattle.ndarray.specs.Orders.{box_in, HasInOrder}
 use Rattle.ndarray.proofs.callers.IndexLists.{box_in-is}
-use Rattle.ndtables.specs.Stored.{stored}
-use Rattle.ndtables.proofs.StoredCells.{stored-is}
+use Rattle.ndtables.specs.Stored.{stored_array}
+use Rattle.ndtables.proofs.StoredCells.{stored_array-is}
 use Rattle.ndtables.proofs.table.Table.view.Goals.{in-RowMajor, in-ColumnMajor}
 use Rattle.ndtables.proofs.table.Table.view.Goals as goal
 
@@ -27,5 +27,5 @@ returns-clause-same g c =
     ∙ take_all (size v.lengths) t.cells.items (let e = ap size (lengths ∙ shaped.0) in let f = c.self.invariant.as_many in omega arith) in
     let listed : map (cell v) (box_in s.order v.lengths) ≡ map Some t.cells.items =
     told (box_in s.order v.lengths) (box_in-is s.order v.lengths) ∙ ap (map Some) all in
-    stored-is s.order v (numbers t.dim) t.cells.items whole (lengths ∙ shaped.0) listed
-    ∙ (ap (λ o. stored o (numbers t.dim) t.cells.items) shaped.1 ∙ c.self.view_is)
+    stored_array-is s.order v (numbers t.dim) t.cells.items whole (lengths ∙ shaped.0) listed
+    ∙ (ap (λ o. stored_array o (numbers t.dim) t.cells.items) shaped.1 ∙ c.self.view_is)

@@ -1,6 +1,6 @@
 use Rattle.std.proofs.Common.{◌≡◌, ◌+◌, ◌≤◌, vec_len}
 use Rattle.std.specs.Vec.{vec_capacity}
-use Rattle.ndarray.proofs.iter.collected.to_vec.Given as goal
+use Rattle.ndarray.proofs.iter.vectors.to_vec.Given as goal
 
 -- the items so far, and room for as many as may still come
 abbrev pub invariant-loop-item : goal.invariant-loop-item

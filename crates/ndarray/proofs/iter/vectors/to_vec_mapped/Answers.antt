@@ -5,8 +5,8 @@ use Rattle.std.specs.Iterator.Runs.{WholeRun}
 use Rattle.std.proofs.lemmas.Result.{IfOk-weaker}
 use Rattle.ndarray.specs.Collected.{GivesEach}
 use Rattle.ndarray.proofs.lists.Collections.{mapped-drains, mapped-runs}
-use Rattle.ndarray.proofs.iter.collected.to_vec_mapped.Goals as goal
-use Rattle.ndarray.proofs.iter.collected.to_vec_mapped.Goals.{After-to_vec}
+use Rattle.ndarray.proofs.iter.vectors.to_vec_mapped.Goals as goal
+use Rattle.ndarray.proofs.iter.vectors.to_vec_mapped.Goals.{After-to_vec}
 
 -- what the vector's elements were made of
 made : (g : _) (c : After-to_vec g) (ys : List g.row.B.Denot) → Drains (map_steps g.I.Iterator.next_gives g.F.FnMut) c.map.result ys → (xs : List g.row.I-Item.Denot) × (last : g.row.F.Denot) × Drains g.I.Iterator.next_gives c.args.iter xs × GivesEach g.F.FnMut c.args.f xs ys last

@@ -1,6 +1,6 @@
 use Rattle.std.proofs.Common.{◌∙◌, arith}
 use Rattle.ndarray_bench.proofs.PairedProducts.{products-88}
-use Rattle.ndarray_bench.proofs.walked.products_of_two_layouts.Goals as goal
+use Rattle.ndarray_bench.proofs.walks.products_of_two_layouts.Goals as goal
 
 pub sum_of_products-requires-clause-fits : goal.sum_of_products-requires-clause-fits
 sum_of_products-requires-clause-fits c =

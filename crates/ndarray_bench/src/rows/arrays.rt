@@ -2,9 +2,9 @@
 
 use crate::rows::calls::{ViewCall, WriteCall};
 use crate::rows::layouts::{Layout, Table, cut};
-use crate::rows::shown::as_text;
 use crate::rows::stepping::step_forward;
 use crate::rows::steps::Step;
+use crate::rows::text::as_text;
 use crate::rows::{reading, spelling, writing};
 use ndarray::iter::IntoIter;
 use ndarray::{Array, CowArray, IxDyn, Lengths, ShapeBuilder};

@@ -4,7 +4,7 @@ use Rattle.ndarray.specs.Orders.{box_in}
 use Rattle.ndarray.proofs.callers.Folding.{fold-follows, may-follow}
 use Rattle.ndarray_bench.specs.PairedProducts.{product_at}
 use Rattle.ndarray_bench.proofs.PairedProducts.{product-of_cells, sum-part, sum-in_either_order}
-use Rattle.ndarray_bench.proofs.walked.sum_of_products.Goals as goal
+use Rattle.ndarray_bench.proofs.walks.sum_of_products.Goals as goal
 
 pub fold-requires : goal.fold-requires
 fold-requires g c =

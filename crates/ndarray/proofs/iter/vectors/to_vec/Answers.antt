@@ -1,7 +1,7 @@
 use Rattle.std.proofs.Common.{rules, refl, true}
 use Rattle.std.specs.Iterator.{Drains}
 use Rattle.core.proofs.iter.runs.Made.{run, to_end}
-use Rattle.ndarray.proofs.iter.collected.to_vec.Goals as goal
+use Rattle.ndarray.proofs.iter.vectors.to_vec.Goals as goal
 
 pub returns-clause-ran : goal.returns-clause-ran
 returns-clause-ran g c = search rules
