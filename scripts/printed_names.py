@@ -16,9 +16,10 @@ def module_of(path):
     return re.sub(r"^(?:lib|main)$", "", path[len("src/") : -len(".rt")]).replace("/", "::")
 
 
-def is_function(text):
-    """Whether a piece is a function's."""
-    return bool(FUNCTION.match(text))
+def function_in(text):
+    """The name of the function with which a text begins, or nothing."""
+    found = FUNCTION.match(text)
+    return found[2] if found else ""
 
 
 def is_of_trait(parts, at):
