@@ -1,6 +1,8 @@
+pub mod algebra
 pub mod boxes
 pub mod callers
 pub mod cells
+pub mod convolution
 pub mod joining
 pub mod lists
 pub mod moving

@@ -1,14 +1,24 @@
 -- Lemmas for those who prove functions over this library: docs/CALLING.md says which is for which goal.
 pub mod Cells
 pub mod Collecting
+pub mod ColumnOrder
+pub mod Convolving
 pub mod Differences
 pub mod Elementwise
 pub mod Folding
 pub mod IndexLists
 pub mod Joining
 pub mod Lanes
+pub mod Mapping
+pub mod ProductChains
 pub mod Products
 pub mod RowOrder
+pub mod SameMatrices
+pub mod Scanning
+pub mod Stacking
 pub mod Testing
+pub mod Totals
+pub mod TriangleParts
 pub mod Triangles
+pub mod Updating
 pub mod Writing

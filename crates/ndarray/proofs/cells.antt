@@ -7,12 +7,17 @@ pub mod CollectedCells
 pub mod Diagonals
 pub mod Differences
 pub mod Elementwise
+pub mod EntryTests
 pub mod IndexedCells
 pub mod LaneCells
+pub mod LaneSums
 pub mod Matrices
 pub mod Overwriting
 pub mod Products
 pub mod RunningProducts
+pub mod Scans
+pub mod TestedCells
 pub mod UpdatedCells
 pub mod Updates
+pub mod WholeProducts
 pub mod Writes

@@ -1,11 +1,12 @@
--- Products of arrays of one and two axes, in the values of their cells.
-use Rattle.std.specs.Prelude.{◌≡◌, ◌≢◌, ◌⊎◌, ℕ, ℤ, ◌+◌, ◌-◌, ◌*◌, ◌<◌, ◌==◌, if◌then◌else◌, List, [], ◌∷◌, ◌++◌, drop, length, slice_index, take, Option, Some, None, Result, IfOk, IsOk, unsigned_abs}
+-- Products of arrays, in the values of their cells.
+use Rattle.std.specs.Prelude.{◌≡◌, ◌≢◌, ℕ, ℤ, ◌+◌, ◌-◌, ◌*◌, ◌<◌, ◌≤◌, List, [], ◌∷◌, ◌++◌, drop, length, remove, slice_index, take, Option, Some, None, Result, IfOk, IsOk, unsigned_abs}
 use Rattle.ndarray.specs.Algebra.{CommutativeMonoid}
 use Rattle.ndarray.specs.Grid.{Grid, IsGrid, cell}
-use Rattle.ndarray.specs.Index.{size}
+use Rattle.ndarray.specs.Index.{InBox, size}
 use Rattle.ndarray.specs.Limits.{IsWithinLimit}
 use Rattle.ndarray.specs.Matrices.{Matrix, inner_products, matrix_product}
-use Rattle.ndarray.specs.Sums.{IsSummable}
+use Rattle.ndarray.specs.Subviews.{lane}
+use Rattle.ndarray.specs.Sums.{IsSummable, total}
 use Rattle.ndarray.specs.declared.elements.Valued.{Ghosts as ValuedGhosts}
 
 -- the products of the values of two lists, place by place
@@ -21,19 +22,16 @@ magnitude_sum (z ∷ zs) = unsigned_abs z + magnitude_sum zs
 
 -- ---- shapes
 
--- the lengths of a product: those of the left but its last, and those of the right but its first
+-- the lengths of a product: those of the left but its last, then those of the right but its last but one, or its only one
 abbrev pub product_lengths : List ℕ → List ℕ → List ℕ
-product_lengths ns ms = take (length ns - 1) ns ++ drop 1 ms
+product_lengths ns ms = remove ns (length ns - 1) ++ remove ms (length ms - 2)
 
--- a vector or a matrix
-abbrev pub HasOneOrTwoAxes : List ℕ → Type 0
-HasOneOrTwoAxes ns = (length ns ≡ 1) ⊎ (length ns ≡ 2)
-
--- vectors or matrices whose inner lengths are equal, with a product within the limit
+-- an axis on each side, equal lengths of the left's last and the right's last but one, or its only one, and a product of at most 32 axes within the limit
 pub record ShapesMultiply (ns ms : List ℕ) : Type 0 where
-  pub left : HasOneOrTwoAxes ns
-  pub right : HasOneOrTwoAxes ms
-  pub inner : slice_index ns (length ns - 1) ≡ slice_index ms 0
+  pub left : 1 ≤ length ns
+  pub right : 1 ≤ length ms
+  pub inner : slice_index ns (length ns - 1) ≡ slice_index ms (length ms - 2)
+  pub axes : length (product_lengths ns ms) ≤ 32
   pub limit : IsWithinLimit (product_lengths ns ms)
 
 -- the inner lengths are equal, and these are the lengths of the product
@@ -173,15 +171,16 @@ module _ {A : Type 0} (e : ValuedGhosts A) where
 
   -- ---- any number of axes
 
-  -- a vector or matrix on the left, and on the right
-  abbrev pub left_matrix : Grid A → Matrix e.Carrier
-  left_matrix g = if length g.lengths == 1 then row_of g else matrix_of g
+  -- the products along the common axis: of the lane of the left along its last axis and that of the right along its last but one, at the two parts of an index list of the product
+  abbrev pub lane_products : Grid A → Grid A → List ℕ → List e.Carrier
+  lane_products a b is = products_of e.multiplication e.meaning
+      (lane a (length a.lengths - 1) (take (length a.lengths - 1) is)).cells
+      (lane b (length b.lengths - 2) (drop (length a.lengths - 1) is)).cells
 
-  abbrev pub right_matrix : Grid A → Matrix e.Carrier
-  right_matrix g = if length g.lengths == 1 then column_of g else matrix_of g
+  -- the product by index lists: the sum of these
+  abbrev pub dot_entries : Grid A → Grid A → List ℕ → e.Carrier
+  dot_entries a b is = total e.addition (lane_products a b is)
 
-  -- the product by the index lists of what is left of its axes: that of a left vector's row is taken out, and that of a right vector's column
-  abbrev pub product_entries : Grid A → Grid A → List ℕ → e.Carrier
-  product_entries a b is = (product_of (left_matrix a) (right_matrix b)).cell
-      (if length a.lengths == 1 then 0 else slice_index is 0)
-      (if length b.lengths == 1 then 0 else slice_index is (length a.lengths - 1))
+  -- of the products at each index list, every selection has its sum in range
+  abbrev pub HasLaneSumsInRange : Grid A → Grid A → Type 0
+  HasLaneSumsInRange a b = (is : List ℕ) → InBox (product_lengths a.lengths b.lengths) is → IsSummable e.addition e.InRange (lane_products a b is)

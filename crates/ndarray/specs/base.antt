@@ -20,3 +20,4 @@ pub mod Storage
 pub mod Scattered
 pub mod Strides
 pub mod Pieces
+pub mod WholeValues

@@ -5,8 +5,10 @@ ghost use Rattle.ndarray.specs.Algebra.{CommutativeMonoid};
 
 mod integers;
 mod ranges;
+mod whole_values;
 
 pub use crate::elements::ranges::IntegerElem;
+pub use crate::elements::whole_values::IntegerScalar;
 use num_traits::{One, Zero};
 use std::ops::{Add, Div, Mul, Sub};
 

@@ -9,6 +9,7 @@ pub mod elements_mut;
 pub mod indexed;
 pub mod indexed_mut;
 pub mod into_iter;
+mod updates;
 pub mod vectors;
 
 use crate::base::array::{ArrayBase, ArrayView};

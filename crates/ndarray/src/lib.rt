@@ -29,9 +29,11 @@
 #![tactic(auto)]
 
 pub mod base;
+pub mod conv;
 pub mod elements;
 pub mod into_owned;
 pub mod iter;
+pub mod laws;
 pub mod linalg;
 mod ops;
 pub mod order;
@@ -56,7 +58,9 @@ pub use crate::base::into_dimension::IntoDimension;
 pub use crate::base::shape::{Shape, ShapeBuilder};
 pub use crate::base::slice::Slice;
 pub use crate::base::storage::{CowRepr, Data, DataMut, DataOwned, OwnedRepr, ViewRepr};
-pub use crate::elements::{IntegerElem, LinalgScalar, ProductElem, ScalarOperand, SumElem, Valued};
+pub use crate::elements::{
+    IntegerElem, IntegerScalar, LinalgScalar, ProductElem, ScalarOperand, SumElem, Valued,
+};
 pub use crate::ops::scalar_left;
 pub use crate::stacking::{StackError, concatenate, stack};
 pub use crate::zip::{FoldWhile, IntoBroadcast, IntoNdProducer, NdProducer, Shaped, Zip};

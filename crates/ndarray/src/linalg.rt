@@ -4,14 +4,18 @@
 //! of row i of the left matrix with column j of the right one. Each call requires that every selection of the products of an
 //! inner sum has its sum in range, so that no order of adding leaves the range.
 
+mod chains;
 mod dynamic;
 mod entries;
 mod general;
 mod inner;
 mod kronecker;
 mod products;
+mod range_tests;
 mod scaled_addition;
 
+pub use crate::linalg::chains::{chain_ok, kron_dot, kron_dot_ok, mat_vec_chain};
 pub use crate::linalg::general::{general_mat_mul, general_mat_vec_mul, mat_mul_ok, mat_vec_ok};
 pub use crate::linalg::kronecker::{kron, kron_ok};
 pub use crate::linalg::products::{Dot, dot_ok};
+pub use crate::linalg::range_tests::{IntegerDot, entries_fit};

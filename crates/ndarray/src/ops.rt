@@ -19,6 +19,7 @@ mod div;
 mod left_scalars;
 mod mul;
 mod operations;
+mod range_tests;
 mod rem;
 mod shl;
 mod shr;

@@ -9,7 +9,7 @@ ghost use Rattle.ndarray.specs.Sums.{IsSummableBy, total_by};
 
 mod cumprod;
 mod diff;
-mod range_tests;
+pub(crate) mod range_tests;
 pub(crate) mod totals;
 
 use crate::base::array::{Array, ArrayBase};

@@ -13,4 +13,5 @@ pub(crate) mod piece_layouts;
 pub(crate) mod pieces;
 pub(crate) mod pieces_mut;
 pub(crate) mod positions;
+mod scans;
 pub mod windows;

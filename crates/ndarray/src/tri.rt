@@ -30,6 +30,7 @@ impl<A: Clone + Zero, S: Data<Elem = A>, D: Lengths> ArrayBase<S, D> {
     pub fn triu(&self, alloc: Global, k: isize) -> Result<Array<A, D>, AllocError>
         requires clones { ClonesAreEqual A.is_clone }
         ensures cells { IfOk result (λ r. r ≡ upper_triangle k A.zero self.now) }
+        ensures lengths { IfOk result (λ r. r.lengths ≡ self.now.lengths) }
         ensures whole { IfOk result IsGrid }
         ensures axes { IfOk result (λ r. D.has_axes (length r.lengths)) }
         ensures empty { size self.now.lengths ≡ 0 → IsOk result }
@@ -51,6 +52,7 @@ impl<A: Clone + Zero, S: Data<Elem = A>, D: Lengths> ArrayBase<S, D> {
     pub fn tril(&self, alloc: Global, k: isize) -> Result<Array<A, D>, AllocError>
         requires clones { ClonesAreEqual A.is_clone }
         ensures cells { IfOk result (λ r. r ≡ lower_triangle k A.zero self.now) }
+        ensures lengths { IfOk result (λ r. r.lengths ≡ self.now.lengths) }
         ensures whole { IfOk result IsGrid }
         ensures axes { IfOk result (λ r. D.has_axes (length r.lengths)) }
         ensures empty { size self.now.lengths ≡ 0 → IsOk result }

@@ -1,3 +1,5 @@
 mod Grants
 pub mod FibonacciPowers
 pub mod PairedProducts
+pub mod RowsBelow
+pub mod Uses

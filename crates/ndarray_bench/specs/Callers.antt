@@ -2,7 +2,11 @@
 use Rattle.std.specs.Prelude.{ℕ, ℤ, pos, ◌-◌, ◌+ℤ◌, ◌/◌, ◌==◌, if◌then◌else◌, Bool, false, List, [], ◌∷◌, Option, Some, None, drop, max, slice_index}
 use Rattle.std.specs.List.{fold}
 use Rattle.ndarray.specs.Grid.{Grid, cell}
-use Rattle.ndarray.specs.Subviews.{window}
+use Rattle.ndarray.specs.Integers.{int_sums}
+use Rattle.ndarray.specs.Matrices.{Matrix}
+use Rattle.ndarray.specs.Products.{matrix_entries}
+use Rattle.ndarray.specs.Subviews.{lane, window}
+use Rattle.ndarray.specs.Sums.{total}
 use Rattle.ndarray.specs.Views.{broadcast_to}
 use Rattle.ndarray_bench.specs.PairedProducts.{number}
 use Rattle.ndarray_bench.specs.Residue.{Below, modulus_pos, residue_products, residue_sums}
@@ -45,6 +49,10 @@ sum_at g h is = whole_number (cell g is) +ℤ whole_number (cell h is)
 abbrev pub sum_below : Grid ℤ → Grid ℤ → List ℕ → ℤ
 sum_below table row is = whole_number (cell table is) +ℤ whole_number (cell row (drop 1 is))
 
+-- the sum of the row of a table at an index list of one number
+abbrev pub row_total : Grid ℤ → List ℕ → ℤ
+row_total table is = total int_sums (lane table 1 is).cells
+
 -- the residue at an index list, and 0 outside the box
 abbrev pub residue : Option (Below 5) → Below 5
 residue None = (residue_sums 5 (modulus_pos 5)).unit
@@ -53,3 +61,7 @@ residue (Some x) = x
 -- the cell of a table of residues modulo 5 at an index list, plus a multiple of the cell of a row at the list's other indices
 abbrev pub multiple_added : Below 5 → Grid (Below 5) → Grid (Below 5) → List ℕ → Below 5
 multiple_added factor table row is = (residue_sums 5 (modulus_pos 5)).op (residue (cell table is)) ((residue_products 5 (modulus_pos 5)).op factor (residue (cell row (drop 1 is))))
+
+-- the cell of a table of residues modulo 5 at an index list, and the value of a matrix there, added
+abbrev pub product_added : Matrix (Below 5) → Grid (Below 5) → List ℕ → Below 5
+product_added product table is = (residue_sums 5 (modulus_pos 5)).op (residue (cell table is)) (matrix_entries product is)

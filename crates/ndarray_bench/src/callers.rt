@@ -1,29 +1,38 @@
 //! Functions that a user would write over the library, each with what it computes as its contract; those of `reading` and
 //! `writing` are proved safe. docs/CALLING.md goes through them.
 
+pub mod dots;
+pub mod filters;
+pub mod laws;
+pub mod range_tests;
 pub mod reading;
+pub mod updating;
+pub mod uses;
 pub mod writing;
 
-ghost use Rattle.std.specs.Prelude.{◌≡◌, ◌↔◌, ◌<◌, ◌≤◌, ◌^◌, ◌∷◌, [], ◌++◌, ◌+ℤ◌, ◌-ℤ◌, ◌/◌, ℕ, ℤ, List, Some, length, map, max, nat_lt, pos, replicate, slice_index, false, IfOk, IfSome, IsTrue, FitsSigned};
+ghost use Rattle.std.specs.Prelude.{◌≡◌, ◌↔◌, ◌<◌, ◌≤◌, ◌^◌, ◌∷◌, [], ◌++◌, ◌+ℤ◌, ◌-ℤ◌, ◌/◌, ℕ, ℤ, List, Some, length, map, max, nat_lt, pos, replicate, slice_index, false, IfOk, IfSome, IsSome, IsTrue, FitsSigned};
 ghost use Rattle.std.specs.Int.{w64};
 ghost use Rattle.std.specs.List.{fold, list_all, list_any};
 ghost use Rattle.ndarray.specs.AlongAxis.{Cumulates, IsDifference, one_further};
 ghost use Rattle.ndarray.specs.Broadcast.{BroadcastsTo};
+ghost use Rattle.ndarray.specs.Chains.{HasColumn, HasMatrix};
 ghost use Rattle.ndarray.specs.Elementwise.{CanCombine, Combines};
 ghost use Rattle.ndarray.specs.Grid.{Grid, IsGrid, array_by, cell, one_axis};
 ghost use Rattle.ndarray.specs.Index.{InBox};
-ghost use Rattle.ndarray.specs.Integers.{int_products, int_sums};
+ghost use Rattle.ndarray.specs.Integers.{int_products, int_sums, magnitude_product};
 ghost use Rattle.ndarray.specs.Joining.{stack_of};
-ghost use Rattle.ndarray.specs.Products.{column_of, matrix_of, product_of, products_of, ShapesMultiplyInto};
-ghost use Rattle.ndarray.specs.Subviews.{lane, window_counts};
+ghost use Rattle.ndarray.specs.Products.{column_entries, column_of, magnitude_sum, matrix_of, product_of, products_of, ShapesMultiply, ShapesMultiplyInto};
+ghost use Rattle.ndarray.specs.Subviews.{window_counts};
 ghost use Rattle.ndarray.specs.Sums.{IsSummable, total, total_by};
-ghost use Rattle.ndarray.specs.Views.{axis_item};
-ghost use Rattle.ndarray_bench.specs.Callers.{greater_at, greatest_in_square, half_at, multiple_added, off_diagonal, rest_at, sum_at, sum_below};
+ghost use Rattle.ndarray.specs.WholeValues.{HasMagnitudesInRange};
+ghost use Rattle.ndarray_bench.specs.Callers.{greater_at, greatest_in_square, half_at, multiple_added, off_diagonal, product_added, rest_at, row_total, sum_at, sum_below};
 ghost use Rattle.ndarray_bench.specs.Residue.{Below, modulus, modulus_pos, residue_products, residue_sums};
 
 use crate::residue::Residue;
 use ndarray::iter::{to_vec, to_vec_mapped};
-use ndarray::linalg::{dot_ok, general_mat_mul, general_mat_vec_mul, mat_mul_ok, mat_vec_ok};
+use ndarray::linalg::{
+    dot_ok, entries_fit, general_mat_mul, general_mat_vec_mul, mat_mul_ok, mat_vec_ok,
+};
 use ndarray::reduce::dot_fits;
 use ndarray::{
     Array, ArrayBase, ArrayView, Axis, Data, DataMut, DimMax, Ix1, Ix2, Lengths, NdProducer,
@@ -201,7 +210,8 @@ pub fn add_row(table: &mut Array<i64, Ix2>, row: &Array<i64, Ix1>)
 /// The product of all cells, or `None` where the absolute values of those that are not zero multiply to more than the
 /// greatest `i64`.
 pub fn product_in_range<S: Data<Elem = i64>, D: Lengths>(a: &ArrayBase<S, D>) -> Option<i64>
-    ensures { IfSome result (λ p. p ≡ total int_products a.now.cells) }
+    ensures fits { IsSome result ↔ FitsSigned w64 (pos (magnitude_product a.now.cells)) }
+    ensures product { IfSome result (λ p. p ≡ total int_products a.now.cells) }
 {
     if a.products_fit() {
         Some(a.product())
@@ -210,12 +220,13 @@ pub fn product_in_range<S: Data<Elem = i64>, D: Lengths>(a: &ArrayBase<S, D>) ->
     }
 }
 
-/// The sum of each row of a table, or `None` where some of its numbers may add up to more than an `i64`.
+/// The sum of each row of a table, or `None` where some of its numbers add up to no `i64`.
 pub fn row_sums<S: Data<Elem = i64>>(
     alloc: Global,
     a: &ArrayBase<S, Ix2>,
 ) -> Result<Option<Array<i64, Ix1>>, AllocError>
-    ensures { IfOk result (λ made. IfSome made (λ r. (i : ℕ) (s : ℤ) → cell r (i ∷ []) ≡ Some s → s ≡ total int_sums (lane a.now 1 (i ∷ [])).cells)) }
+    ensures fits { IfOk result (λ made. IsSome made ↔ IsSummable int_sums (FitsSigned w64) a.now.cells) }
+    ensures sums { IfOk result (λ made. IfSome made (λ r. r ≡ array_by (slice_index a.now.lengths 0 ∷ []) (row_total a.now))) }
 {
     let table = a.view();
     if !table.sums_fit() {
@@ -292,6 +303,8 @@ pub fn lower_part<S: Data<Elem = i64>>(
     alloc: Global,
     a: &ArrayBase<S, Ix2>,
 ) -> Result<Array<i64, Ix2>, AllocError>
+    ensures lengths { IfOk result (λ l. l.lengths ≡ a.now.lengths) }
+    ensures whole { IfOk result IsGrid }
     ensures kept { IfOk result (λ l. (i j : ℕ) → InBox a.now.lengths (i ∷ j ∷ []) → j ≤ i → cell l (i ∷ j ∷ []) ≡ cell a.now (i ∷ j ∷ [])) }
     ensures zero { IfOk result (λ l. (i j : ℕ) → InBox a.now.lengths (i ∷ j ∷ []) → i < j → cell l (i ∷ j ∷ []) ≡ Some (pos 0)) }
 {
@@ -305,7 +318,8 @@ pub fn inner_sum<S: Data<Elem = i64>, T: Data<Elem = i64>>(
     x: &ArrayBase<S, Ix1>,
     y: &ArrayBase<T, Ix1>,
 ) -> Option<i64>
-    ensures { IfSome result (λ s. s ≡ total int_sums (products_of int_products (λ z. z) x.now.cells y.now.cells)) }
+    ensures fits { IsSome result ↔ ((x.now.lengths ≡ y.now.lengths) × FitsSigned w64 (pos (magnitude_sum (products_of int_products (λ z. z) x.now.cells y.now.cells)))) }
+    ensures sum { IfSome result (λ s. s ≡ total int_sums (products_of int_products (λ z. z) x.now.cells y.now.cells)) }
 {
     if dot_fits(x, y) {
         Some(x.dot(alloc, y))
@@ -320,7 +334,8 @@ pub fn residue_product<const M: u32, S: Data<Elem = Residue<M>>, T: Data<Elem = 
     a: &ArrayBase<S, Ix2>,
     b: &ArrayBase<T, Ix2>,
 ) -> Result<Option<Array<Residue<M>, Ix2>>, AllocError>
-    ensures { IfOk result (λ made. IfSome made (λ r. (i j : ℕ) (z : Below (modulus M)) → cell r (i ∷ j ∷ []) ≡ Some z → z ≡ (product_of ⟦<Residue<M> as Valued>⟧ (matrix_of ⟦<Residue<M> as Valued>⟧ a.now) (matrix_of ⟦<Residue<M> as Valued>⟧ b.now)).cell i j)) }
+    ensures shapes { IfOk result (λ made. IsSome made ↔ ShapesMultiply a.now.lengths b.now.lengths) }
+    ensures product { let values = ⟦<Residue<M> as Valued>⟧ in IfOk result (λ made. IfSome made (HasMatrix values (product_of values (matrix_of values a.now) (matrix_of values b.now)))) }
 {
     if !dot_ok(a, b) {
         return Ok(None);
@@ -336,10 +351,11 @@ pub fn matrix_times_vector<S: Data<Elem = i64>, T: Data<Elem = i64>>(
     a: &ArrayBase<S, Ix2>,
     x: &ArrayBase<T, Ix1>,
 ) -> Result<Option<Array<i64, Ix1>>, AllocError>
-    ensures { IfOk result (λ made. IfSome made (λ r. (i : ℕ) (z : ℤ) → cell r (i ∷ []) ≡ Some z → z ≡ total int_sums (products_of int_products (λ y. y) (axis_item a.now 0 i).cells x.now.cells))) }
+    ensures fits { let values = ⟦<i64 as Valued>⟧ in IfOk result (λ made. IsSome made ↔ (ShapesMultiply a.now.lengths x.now.lengths × HasMagnitudesInRange (FitsSigned w64) (matrix_of values a.now) (column_of values x.now))) }
+    ensures product { let values = ⟦<i64 as Valued>⟧ in IfOk result (λ made. IfSome made (HasColumn values (product_of values (matrix_of values a.now) (column_of values x.now)))) }
 {
     let (a, x) = (a.view(), x.view());
-    if !dot_ok(&a, &x) || !rows_fit(&a, &x) {
+    if !entries_fit(&a, &x) {
         return Ok(None);
     }
     let product = a.dot(alloc, &x)?;
@@ -355,8 +371,7 @@ pub fn multiply_into(
 ) -> bool
     ensures shapes { IsTrue result ↔ ShapesMultiplyInto a.now.lengths x.now.lengths y.old.lengths }
     ensures unchanged { result ≡ false → y.new ≡ y.old }
-    ensures lengths { y.new.lengths ≡ y.old.lengths }
-    ensures product { IsTrue result → (i : ℕ) (z : Below 5) → cell y.new (i ∷ []) ≡ Some z → z ≡ (product_of ⟦<Residue<5> as Valued>⟧ (matrix_of ⟦<Residue<5> as Valued>⟧ a.now) (column_of ⟦<Residue<5> as Valued>⟧ x.now)).cell i 0 }
+    ensures product { IsTrue result → y.new ≡ array_by y.old.lengths (column_entries (product_of ⟦<Residue<5> as Valued>⟧ (matrix_of ⟦<Residue<5> as Valued>⟧ a.now) (column_of ⟦<Residue<5> as Valued>⟧ x.now))) }
 {
     if !mat_vec_ok(a, x, y) {
         return false;
@@ -374,8 +389,7 @@ pub fn add_product(
 ) -> bool
     ensures shapes { IsTrue result ↔ ShapesMultiplyInto a.now.lengths b.now.lengths c.old.lengths }
     ensures unchanged { result ≡ false → c.new ≡ c.old }
-    ensures lengths { c.new.lengths ≡ c.old.lengths }
-    ensures sum { IsTrue result → (i j : ℕ) (z : Below 5) → cell c.new (i ∷ j ∷ []) ≡ Some z → (x : Below 5) × (cell c.old (i ∷ j ∷ []) ≡ Some x) × (z ≡ (residue_sums 5 (modulus_pos 5)).op x ((product_of ⟦<Residue<5> as Valued>⟧ (matrix_of ⟦<Residue<5> as Valued>⟧ a.now) (matrix_of ⟦<Residue<5> as Valued>⟧ b.now)).cell i j)) }
+    ensures sum { IsTrue result → c.new ≡ array_by c.old.lengths (product_added (product_of ⟦<Residue<5> as Valued>⟧ (matrix_of ⟦<Residue<5> as Valued>⟧ a.now) (matrix_of ⟦<Residue<5> as Valued>⟧ b.now)) c.old) }
 {
     if !mat_mul_ok(a, b, c) {
         return false;
@@ -395,17 +409,4 @@ pub fn add_multiple_of_row(
 {
     let _length = row.raw_dim();
     table.scaled_add(factor, row);
-}
-
-/// Whether each row of a matrix and a vector pass `dot_fits`.
-fn rows_fit(a: &ArrayView<'_, i64, Ix2>, x: &ArrayView<'_, i64, Ix1>) -> bool
-    requires { length a.now.lengths ≡ 2 }
-    ensures { IsTrue result → (i : ℕ) → i < slice_index a.now.lengths 0 → IsGrid (axis_item a.now 0 i) × IsSummable int_sums (FitsSigned w64) (products_of int_products (λ y. y) (axis_item a.now 0 i).cells x.now.cells) }
-{
-    for i in 0..a.len_of(Axis(0)) {
-        if !dot_fits(&a.index_axis(Axis(0), i), x) {
-            return false;
-        }
-    }
-    true
 }

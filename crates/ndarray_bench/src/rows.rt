@@ -15,6 +15,7 @@ mod spelling;
 mod stepping;
 mod steps;
 mod text;
+mod updating;
 mod values;
 mod wrapping;
 mod writing;

@@ -1,8 +1,9 @@
 pub mod EmptyLanes
+pub mod FirstFaults
 pub mod Neighbours
 pub mod Pieces
 pub mod PrintedCells
 pub mod RunningProducts
+pub mod ShapeWords
 pub mod StoredCells
-pub mod TestedCells
 pub mod WordsRead

@@ -1,12 +1,13 @@
 -- Cells of a table that stand one after the other along an axis.
 use Rattle.std.proofs.Common.{inl, inr, ◌≡◌, ℕ, zero, suc, ◌+◌, ◌-◌, ◌<◌, List, Some, length, get_or, set, ap, sym, ◌∙◌, subst, arith, refl, ℤ}
 use Rattle.std.specs.Prelude.{◌↔◌}
+use Rattle.std.proofs.lemmas.Bool.{cases_eq}
 use Rattle.std.proofs.lemmas.List.{set-get_or, get_or-set_same}
 use Rattle.ndarray.specs.AlongAxis.{IsDifference, IsDifferenceOf, one_further}
 use Rattle.ndarray.specs.Grid.{Grid, IsGrid, cell}
 use Rattle.ndarray.specs.Index.{InBox}
 use Rattle.ndarray.specs.Views.{axis_part}
-use Rattle.ndarray.proofs.callers.Cells.{cell-inside, tabulate-cell}
+use Rattle.ndarray.proofs.callers.Cells.{cell-Some, cell-inside, same_grid, tabulate-cell}
 use Rattle.ndarray.proofs.callers.Differences.{difference-length, neighbours-at, next-difference}
 use Rattle.ndarray.proofs.callers.IndexLists.{InBox-get, InBox-length, InBox-set_both}
 use Rattle.ndtables.specs.Reducing.{CanDifferAlong, CanSubtractAlong, HasOrder, subtraction_gives}
@@ -79,3 +80,35 @@ pub one-more : (g h r : Grid ℤ) (axis n : ℕ) → IsDifferenceOf subtraction_
 one-more g h r axis n d e =
     let (v, same, last) = e in
     next-difference subtraction_gives axis g n h r d (subst (λ w. IsDifference subtraction_gives axis w r) same last)
+
+-- an array has one difference
+one-difference : (h r s : Grid ℤ) (axis : ℕ) → IsDifference subtraction_gives axis h r → IsDifference subtraction_gives axis h s → r ≡ s
+one-difference h r s axis d e =
+    let same : r.lengths ≡ s.lengths = d.lengths ∙ sym e.lengths in
+    same_grid r s d.whole e.whole same (λ is b.
+    let (z, at) = cell-Some r d.whole is b in
+    let (w, there) = cell-Some s e.whole is (subst (λ ns. InBox ns is) same b) in
+    let (y, x, next, here, gives) = d.cells is z at in
+    let (v, u, next', here', gives') = e.cells is w there in
+    let same_y : y ≡ v = cc in
+    let same_x : x ≡ u = cc in
+    cc)
+
+-- and one of each order
+one-difference_of : (n axis : ℕ) (g h r : Grid ℤ) → IsDifferenceOf subtraction_gives axis n g h → IsDifferenceOf subtraction_gives axis n g r → h ≡ r
+one-difference_of zero axis g h r d e = d ∙ sym e
+one-difference_of (suc n) axis g h r d e =
+    let (v, before, last) = d in
+    let (w, before', last') = e in
+    let same : v ≡ w = one-difference_of n axis g v w before before' in
+    one-difference w h r axis (subst (λ z. IsDifference subtraction_gives axis z h) same last) last'
+
+-- where the differences up to an order may be taken, and neighbours subtracted in the one of that order, so may those up to the next
+pub differ-more : (g h : Grid ℤ) (axis n : ℕ) → CanDifferAlong g n axis → IsDifferenceOf subtraction_gives axis n g h → CanSubtractAlong h axis → CanDifferAlong g (n + 1) axis
+differ-more g h axis n before d can = λ k r is y x lt e p q.
+    elim (cases_eq k n) [
+      | inl last ↦
+          (let same : r ≡ h = one-difference_of n axis g r h (subst (λ m. IsDifferenceOf subtraction_gives axis m g r) last e) d in
+          can is y x (subst (λ v. cell v (one_further axis is) ≡ Some y) same p) (subst (λ v. cell v is ≡ Some x) same q))
+      | inr ne ↦ before k r is y x (omega arith) e p q
+    ]

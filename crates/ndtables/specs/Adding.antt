@@ -11,9 +11,9 @@ use Rattle.ndtables.specs.declared.fault.Fault.TheVariants.{Usage, Shape, Number
 abbrev pub CanAdd : Grid ℤ → Grid ℤ → Type 0
 CanAdd g h = CanCombine g h (λ x y. FitsSigned w64 (x +ℤ y))
 
--- the shapes of two arrays broadcast together, and the cell of the third at each index list is the sum of the two cells there
+-- two arrays may be added, and the cell of the third at each index list is the sum of the two cells there
 pub record AreSums (g h sums : Grid ℤ) : Type 0 where
-  pub shapes : BroadcastTogether g.lengths h.lengths
+  pub fits : CanAdd g h
   pub cells : Combines g h (λ x y z. z ≡ x +ℤ y) sums
 
 -- the fault is why two arrays were not added: their shapes, else a sum that is no `i64`, else allocation failure

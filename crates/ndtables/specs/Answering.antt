@@ -1,9 +1,13 @@
--- What the program answers to its words.
-use Rattle.std.specs.Prelude.{◌≡◌, ℕ, List, ◌∷◌, codes}
+-- What the program answers to its words, and why it does not.
+use Rattle.std.specs.Prelude.{◌≡◌, ◌⊎◌, ℕ, List, [], ◌∷◌, codes}
 use Rattle.ndarray.specs.Integers.{int_products, int_sums}
+use Rattle.ndtables.specs.Faults.{ForbidsAdd, ForbidsCumprod, ForbidsDiff, ForbidsTotal, ForbidsTotals}
 use Rattle.ndtables.specs.Reading.{PrintsAdd, PrintsCumprod, PrintsDiff, PrintsTotal, PrintsTotals}
+use Rattle.ndtables.specs.Reducing.{ProductsFit, SumsFit}
 use Rattle.ndtables.specs.declared.command.Command.{Command}
 use Rattle.ndtables.specs.declared.command.Command.TheVariants.{Add, Cumprod, Diff, Product, ProductAxis, Sum, SumAxis}
+use Rattle.ndtables.specs.declared.fault.Fault.{Fault}
+use Rattle.ndtables.specs.declared.fault.Fault.TheVariants.{Usage}
 
 -- the name of a command
 abbrev pub name_of : Command → List ℕ
@@ -20,10 +24,10 @@ abbrev pub Prints : Command → List (List ℕ) → List ℕ → Type 0
 Prints Add = PrintsAdd
 Prints Cumprod = PrintsCumprod
 Prints Diff = PrintsDiff
-Prints Product = PrintsTotal int_products
-Prints ProductAxis = PrintsTotals int_products
-Prints Sum = PrintsTotal int_sums
-Prints SumAxis = PrintsTotals int_sums
+Prints Product = PrintsTotal int_products ProductsFit
+Prints ProductAxis = PrintsTotals int_products ProductsFit
+Prints Sum = PrintsTotal int_sums SumsFit
+Prints SumAxis = PrintsTotals int_sums SumsFit
 
 -- the words are a command and its arguments, and the text is what it prints
 pub record Answers (words : List (List ℕ)) (text : List ℕ) : Type 0 where
@@ -31,3 +35,30 @@ pub record Answers (words : List (List ℕ)) (text : List ℕ) : Type 0 where
   pub arguments : List (List ℕ)
   pub named : words ≡ name_of command ∷ arguments
   pub prints : Prints command arguments text
+
+-- the fault is why the command prints nothing for its arguments
+abbrev pub Forbids : Command → List (List ℕ) → Fault → Type 0
+Forbids Add = ForbidsAdd
+Forbids Cumprod = ForbidsCumprod
+Forbids Diff = ForbidsDiff
+Forbids Product = ForbidsTotal ProductsFit
+Forbids ProductAxis = ForbidsTotals ProductsFit
+Forbids Sum = ForbidsTotal SumsFit
+Forbids SumAxis = ForbidsTotals SumsFit
+
+-- the word is no command's name
+abbrev pub NamesNoCommand : List ℕ → Type 0
+NamesNoCommand word = (command : Command) → word ≡ name_of command → ⊥
+
+-- the fault is why words have no answer: there is no word, or the first is no command's name, or the fault is that of the command
+abbrev pub ForbidsAnswer : List (List ℕ) → Fault → Type 0
+ForbidsAnswer [] fault = fault ≡ Usage
+ForbidsAnswer (word ∷ arguments) fault = (NamesNoCommand word × (fault ≡ Usage)) ⊎ ((command : Command) × (word ≡ name_of command) × Forbids command arguments fault)
+
+-- some fault is why the words have no answer
+abbrev pub HasFault : List (List ℕ) → Type 0
+HasFault words = (fault : Fault) × ForbidsAnswer words fault
+
+-- the words have an answer
+abbrev pub HasAnswer : List (List ℕ) → Type 0
+HasAnswer words = (text : List ℕ) × Answers words text

@@ -3,29 +3,29 @@ use Rattle.std.specs.Prelude.{◌≡◌, ℕ, ℤ, List, [], ◌∷◌, ◌++◌
 use Rattle.std.specs.Fmt.{signed_decimal}
 use Rattle.std.specs.Str.Parse.{digits_value, signed_digits_value}
 use Rattle.ndarray.specs.Algebra.{CommutativeMonoid}
-use Rattle.ndarray.specs.Grid.{Grid}
+use Rattle.ndarray.specs.Grid.{Grid, IsGrid}
 use Rattle.ndarray.specs.Sums.{total}
 use Rattle.ndarray.specs.declared.base.shape.Order.{Order}
 use Rattle.ndtables.specs.Adding.{AreSums}
 use Rattle.ndtables.specs.Printing.{array_text}
 use Rattle.ndtables.specs.Reducing.{AreDifferences, AreRunningProducts, AreTotalsAlong}
-use Rattle.ndtables.specs.Spelling.{IsDigits, IsSignedDigits, SpellsShape}
+use Rattle.ndtables.specs.Spelling.{IsCellWord, IsCountWord, SpellsShape}
 
--- of the words `old` the first were read as these numbers, a word each, and `new` are left
+-- of the words `old` the first were read as these cells, a word each, and `new` are left
 pub record ReadsNumbers (old new : List (List ℕ)) (numbers : List ℤ) : Type 0 where
   pub read : List (List ℕ)
   pub words : old ≡ read ++ new
-  pub spelled : All IsSignedDigits read
+  pub spelled : All IsCellWord read
   pub values : numbers ≡ map (signed_digits_value 10) read
 
 -- of the words `old` the first was read as this number, by its digits, and `new` are left
 pub record ReadsCount (old new : List (List ℕ)) (count : ℕ) : Type 0 where
   pub word : List ℕ
   pub words : old ≡ word ∷ new
-  pub spelled : IsDigits word
+  pub spelled : IsCountWord word
   pub value : count ≡ digits_value 10 word
 
--- of the words `old` a shape word and then its cells in row order were read, and `new` are left
+-- of the words `old` a shape word and then its cells in row order were read, as many as the shape has, and `new` are left
 pub record ReadsTable (old new : List (List ℕ)) (table : Grid ℤ) : Type 0 where
   pub word : List ℕ
   pub order : Order
@@ -33,11 +33,13 @@ pub record ReadsTable (old new : List (List ℕ)) (table : Grid ℤ) : Type 0 wh
   pub words : old ≡ word ∷ rest
   pub shape : SpellsShape word table.lengths order
   pub cells : ReadsNumbers rest new table.cells
+  pub whole : IsGrid table
 
--- all of the words were read as a table, and the text is the total of its cells, as a line
-pub record PrintsTotal (M : CommutativeMonoid ℤ) (words : List (List ℕ)) (text : List ℕ) : Type 0 where
+-- all of the words were read as a table, its cells are in range, and the text is their total, as a line
+pub record PrintsTotal (M : CommutativeMonoid ℤ) (in_range : List ℤ → Type 0) (words : List (List ℕ)) (text : List ℕ) : Type 0 where
   pub table : Grid ℤ
   pub read : ReadsTable words [] table
+  pub fits : in_range table.cells
   pub line : text ≡ signed_decimal (total M table.cells) ++ 10 ∷ []
 
 -- all of the words were read as two tables, one after the other, and the text is the array of their sums
@@ -52,14 +54,14 @@ pub record PrintsAdd (words : List (List ℕ)) (text : List ℕ) : Type 0 where
   pub lines : text ≡ array_text sums
 
 -- all of the words were read as an axis and a table, and the text is the array of the totals of the table's lanes along the axis
-pub record PrintsTotals (M : CommutativeMonoid ℤ) (words : List (List ℕ)) (text : List ℕ) : Type 0 where
+pub record PrintsTotals (M : CommutativeMonoid ℤ) (in_range : List ℤ → Type 0) (words : List (List ℕ)) (text : List ℕ) : Type 0 where
   pub axis : ℕ
   pub table : Grid ℤ
   pub totals : Grid ℤ
   pub rest : List (List ℕ)
   pub read_axis : ReadsCount words rest axis
   pub read_table : ReadsTable rest [] table
-  pub added : AreTotalsAlong M table axis totals
+  pub added : AreTotalsAlong M in_range table axis totals
   pub lines : text ≡ array_text totals
 
 -- all of the words were read as an order, an axis and a table, and the text is the table's difference of that order along the axis

@@ -15,17 +15,30 @@ use Rattle.ndtables.specs.declared.fault.Fault.TheVariants.{Usage, Shape, Number
 abbrev pub HasAxis : Grid ℤ → ℕ → Type 0
 HasAxis g axis = axis < length g.lengths
 
+-- every selection of the numbers has a sum that is an `i64`
+abbrev pub SumsFit : List ℤ → Type 0
+SumsFit zs = IsSummable int_sums (FitsSigned w64) zs
+
+-- the absolute values of the numbers that are not zero multiply to an `i64`
+abbrev pub ProductsFit : List ℤ → Type 0
+ProductsFit zs = FitsSigned w64 (pos (magnitude_product zs))
+
+-- the cells of each lane along the axis are in range
+abbrev pub AreInRangeAlong : (List ℤ → Type 0) → Grid ℤ → ℕ → Type 0
+AreInRangeAlong in_range g axis = CanMap (λ lane. in_range lane.cells) (lanes_of g axis)
+
 -- on each lane along the axis every selection of the cells has a sum that is an `i64`
 abbrev pub CanSumAlong : Grid ℤ → ℕ → Type 0
-CanSumAlong g axis = CanMap (λ lane. IsSummable int_sums (FitsSigned w64) lane.cells) (lanes_of g axis)
+CanSumAlong g axis = AreInRangeAlong SumsFit g axis
 
 -- on each lane along the axis the absolute values of the cells that are not zero multiply to an `i64`
 abbrev pub CanMultiplyAlong : Grid ℤ → ℕ → Type 0
-CanMultiplyAlong g axis = CanMap (λ lane. FitsSigned w64 (pos (magnitude_product lane.cells))) (lanes_of g axis)
+CanMultiplyAlong g axis = AreInRangeAlong ProductsFit g axis
 
--- the array has the axis, and the other one has for each lane along it the total of its cells
-pub record AreTotalsAlong (M : CommutativeMonoid ℤ) (g : Grid ℤ) (axis : ℕ) (totals : Grid ℤ) : Type 0 where
+-- the array has the axis, the cells of each lane along it are in range, and the other array has for each lane the total of its cells
+pub record AreTotalsAlong (M : CommutativeMonoid ℤ) (in_range : List ℤ → Type 0) (g : Grid ℤ) (axis : ℕ) (totals : Grid ℤ) : Type 0 where
   pub shape : HasAxis g axis
+  pub fits : AreInRangeAlong in_range g axis
   pub cells : Maps (λ lane z. z ≡ total M lane.cells) (lanes_of g axis) totals
 
 -- the fault is why an array was not made: its shape does not allow it, else a number is not in range, else allocation failure
@@ -52,9 +65,10 @@ CanSubtractAlong g axis = (is : List ℕ) (y x : ℤ) → cell g (one_further ax
 abbrev pub CanDifferAlong : Grid ℤ → ℕ → ℕ → Type 0
 CanDifferAlong g n axis = CanDiffer subtraction_gives axis (λ y x. FitsSigned w64 (y -ℤ x)) n g
 
--- the array has the axis, long enough for the order, and the other one is its difference of that order
+-- the array has the axis, long enough for the order, each difference on the way is an `i64`, and the other array is the difference of that order
 pub record AreDifferences (g : Grid ℤ) (n axis : ℕ) (differences : Grid ℤ) : Type 0 where
   pub shape : HasOrder g n axis
+  pub fits : CanDifferAlong g n axis
   pub cells : IsDifferenceOf subtraction_gives axis n g differences
 
 -- the fault is why differences were not made: the shape does not allow them, or one on the way is no `i64`, or allocation failure on the way
@@ -77,7 +91,8 @@ CanCumulateList = CanCumulate (λ x p. FitsSigned w64 (x *ℤ p)) multiplication
 abbrev pub CanCumulateAlong : Grid ℤ → ℕ → Type 0
 CanCumulateAlong g axis = CanMap (λ lane. CanCumulateList lane.cells) (lanes_of g axis)
 
--- the array has the axis, and the other one has its running products along it
+-- the array has the axis, the running products along it are `i64`s, and the other array has them
 pub record AreRunningProducts (g : Grid ℤ) (axis : ℕ) (products : Grid ℤ) : Type 0 where
   pub shape : HasAxis g axis
+  pub fits : CanCumulateAlong g axis
   pub cells : Cumulates multiplication_gives axis g products

@@ -1,8 +1,10 @@
 //! The commands: each reads its arguments and answers the text that it prints.
 
-ghost use Rattle.std.specs.Prelude.{◌≡◌, IfSome, IfOk, string_bytes};
+ghost use Rattle.std.specs.Prelude.{◌≡◌, MatchOption, IfOk, IfErr, string_bytes};
 ghost use Rattle.ndarray.specs.Integers.{int_products, int_sums};
+ghost use Rattle.ndtables.specs.Faults.{ForbidsAdd, ForbidsCumprod, ForbidsDiff, ForbidsTotal, ForbidsTotals};
 ghost use Rattle.ndtables.specs.Reading.{PrintsAdd, PrintsCumprod, PrintsDiff, PrintsTotal, PrintsTotals};
+ghost use Rattle.ndtables.specs.Reducing.{ProductsFit, SumsFit};
 
 use crate::adding::sums_in_range;
 use crate::fault::Fault;
@@ -35,11 +37,11 @@ pub enum Command {
 }
 
 impl Command {
-    ghost use Rattle.ndtables.specs.Answering.{name_of, Prints};
+    ghost use Rattle.ndtables.specs.Answering.{name_of, Forbids, NamesNoCommand, Prints};
 
     /// The command of a name.
     pub fn named(name: &str) -> Option<Command>
-        ensures { IfSome result (λ command. name.now ≡ name_of command) }
+        ensures { MatchOption result (NamesNoCommand name.now) (λ command. name.now ≡ name_of command) }
     {
         match name {
             "add" => Some(Command::Add),
@@ -53,9 +55,13 @@ impl Command {
         }
     }
 
-    /// Reads the command's arguments, which are all of the words, and answers what it prints.
+    /// Reads the command's arguments, which are all of the words, and returns what it prints.
+    ///
+    /// The fault is the first one that holds as the words are read from left to right, then of what is
+    /// computed, or `memory`.
     pub fn answer(self, alloc: Global, words: Words<'_>) -> Result<String, Fault>
-        ensures { IfOk result (λ text. Prints self words.entry (string_bytes text)) }
+        ensures text { IfOk result (λ text. Prints self words.entry (string_bytes text)) }
+        ensures err { IfErr result (Forbids self words.entry) }
     {
         match self {
             Command::Add => add(alloc, words),
@@ -71,7 +77,8 @@ impl Command {
 
 /// `add TABLE TABLE`.
 fn add(alloc: Global, mut words: Words<'_>) -> Result<String, Fault>
-    ensures { IfOk result (λ text. PrintsAdd words.entry (string_bytes text)) }
+    ensures text { IfOk result (λ text. PrintsAdd words.entry (string_bytes text)) }
+    ensures err { IfErr result (ForbidsAdd words.entry) }
 {
     let left = words.table(alloc)?;
     let right = words.table(alloc)?;
@@ -82,7 +89,8 @@ fn add(alloc: Global, mut words: Words<'_>) -> Result<String, Fault>
 
 /// `cumprod K TABLE`.
 fn cumprod(alloc: Global, mut words: Words<'_>) -> Result<String, Fault>
-    ensures { IfOk result (λ text. PrintsCumprod words.entry (string_bytes text)) }
+    ensures text { IfOk result (λ text. PrintsCumprod words.entry (string_bytes text)) }
+    ensures err { IfErr result (ForbidsCumprod words.entry) }
 {
     let axis = words.count()?;
     let table = words.table(alloc)?;
@@ -93,7 +101,8 @@ fn cumprod(alloc: Global, mut words: Words<'_>) -> Result<String, Fault>
 
 /// `diff N K TABLE`.
 fn diff(alloc: Global, mut words: Words<'_>) -> Result<String, Fault>
-    ensures { IfOk result (λ text. PrintsDiff words.entry (string_bytes text)) }
+    ensures text { IfOk result (λ text. PrintsDiff words.entry (string_bytes text)) }
+    ensures err { IfErr result (ForbidsDiff words.entry) }
 {
     let order = words.count()?;
     let axis = words.count()?;
@@ -105,7 +114,8 @@ fn diff(alloc: Global, mut words: Words<'_>) -> Result<String, Fault>
 
 /// `product TABLE`.
 fn product(alloc: Global, mut words: Words<'_>) -> Result<String, Fault>
-    ensures { IfOk result (λ text. PrintsTotal int_products words.entry (string_bytes text)) }
+    ensures text { IfOk result (λ text. PrintsTotal int_products ProductsFit words.entry (string_bytes text)) }
+    ensures err { IfErr result (ForbidsTotal ProductsFit words.entry) }
 {
     let table = words.table(alloc)?;
     words.end()?;
@@ -115,7 +125,8 @@ fn product(alloc: Global, mut words: Words<'_>) -> Result<String, Fault>
 
 /// `product-axis K TABLE`.
 fn product_axis(alloc: Global, mut words: Words<'_>) -> Result<String, Fault>
-    ensures { IfOk result (λ text. PrintsTotals int_products words.entry (string_bytes text)) }
+    ensures text { IfOk result (λ text. PrintsTotals int_products ProductsFit words.entry (string_bytes text)) }
+    ensures err { IfErr result (ForbidsTotals ProductsFit words.entry) }
 {
     let axis = words.count()?;
     let table = words.table(alloc)?;
@@ -126,7 +137,8 @@ fn product_axis(alloc: Global, mut words: Words<'_>) -> Result<String, Fault>
 
 /// `sum TABLE`.
 fn sum(alloc: Global, mut words: Words<'_>) -> Result<String, Fault>
-    ensures { IfOk result (λ text. PrintsTotal int_sums words.entry (string_bytes text)) }
+    ensures text { IfOk result (λ text. PrintsTotal int_sums SumsFit words.entry (string_bytes text)) }
+    ensures err { IfErr result (ForbidsTotal SumsFit words.entry) }
 {
     let table = words.table(alloc)?;
     words.end()?;
@@ -136,7 +148,8 @@ fn sum(alloc: Global, mut words: Words<'_>) -> Result<String, Fault>
 
 /// `sum-axis K TABLE`.
 fn sum_axis(alloc: Global, mut words: Words<'_>) -> Result<String, Fault>
-    ensures { IfOk result (λ text. PrintsTotals int_sums words.entry (string_bytes text)) }
+    ensures text { IfOk result (λ text. PrintsTotals int_sums SumsFit words.entry (string_bytes text)) }
+    ensures err { IfErr result (ForbidsTotals SumsFit words.entry) }
 {
     let axis = words.count()?;
     let table = words.table(alloc)?;

@@ -1,8 +1,8 @@
 //! The program over any words and any two streams.
 
-ghost use Rattle.std.specs.Prelude.{◌≡◌, ◌⊎◌, ℕ, List, map, IfOk, OnOk, string_bytes};
+ghost use Rattle.std.specs.Prelude.{◌≡◌, ◌⊎◌, ℕ, List, map, IfOk, IfErr, OnOk, string_bytes};
 ghost use Rattle.std.specs.Io.KnownBytes.{Appends};
-ghost use Rattle.ndtables.specs.Answering.{Answers};
+ghost use Rattle.ndtables.specs.Answering.{Answers, ForbidsAnswer, HasAnswer, HasFault};
 
 use crate::command::Command;
 use crate::fault::Fault;
@@ -19,6 +19,7 @@ use std::io::Write;
 pub fn run<W: Write, E: Write>(alloc: Global, words: &[String], out: &mut W, err: &mut E) -> u8
     ensures status { (result ≡ 0) ⊎ (result ≡ 2) }
     ensures answered { result ≡ 0 → (text : List ℕ) × Answers (map string_bytes words.now) text × Appends (W.contents out.old) (W.contents out.new) text }
+    ensures unanswered { result ≡ 2 → (HasFault (map string_bytes words.now) × (out.new ≡ out.old)) ⊎ HasAnswer (map string_bytes words.now) }
 {
     match answer(alloc, words) {
         Ok(text) => match print(text.as_str(), out) {
@@ -29,9 +30,10 @@ pub fn run<W: Write, E: Write>(alloc: Global, words: &[String], out: &mut W, err
     }
 }
 
-/// What the words ask to be printed, whole.
+/// What the words ask to be printed, whole; or the first fault, where they have no answer.
 fn answer(alloc: Global, words: &[String]) -> Result<String, Fault>
-    ensures { IfOk result (λ text. Answers (map string_bytes words.now) (string_bytes text)) }
+    ensures text { IfOk result (λ text. Answers (map string_bytes words.now) (string_bytes text)) }
+    ensures err { IfErr result (ForbidsAnswer (map string_bytes words.now)) }
 {
     let mut words = Words::new(words);
     let command = Command::named(words.word()?).ok_or(Fault::Usage)?;

@@ -1,14 +1,14 @@
 //! Sums and products of all cells and of the lanes along an axis, and differences and
 //! running products along an axis, where they are in range.
 
-ghost use Rattle.std.specs.Prelude.{◌≡◌, ◌↔◌, ◌<◌, ◌-ℤ◌, ℕ, ℤ, List, Some, pos, slice_index, IsTrue, IsSome, IfSome, IfOk, IfErr, FitsSigned};
+ghost use Rattle.std.specs.Prelude.{◌≡◌, ◌↔◌, ◌<◌, ◌-ℤ◌, ℕ, ℤ, List, Some, slice_index, IsTrue, IsSome, IfSome, IfOk, IfErr, FitsSigned};
 ghost use Rattle.std.specs.Int.{w64};
 ghost use Rattle.ndarray.specs.Elementwise.{CanMap};
 ghost use Rattle.ndarray.specs.Grid.{cell};
 ghost use Rattle.ndarray.specs.Subviews.{lanes_of};
 ghost use Rattle.ndarray.specs.Sums.{IsSummable, total};
-ghost use Rattle.ndarray.specs.Integers.{int_products, int_sums, magnitude_product};
-ghost use Rattle.ndtables.specs.Reducing.{AreDifferences, AreRunningProducts, AreTotalsAlong, CanCumulateAlong, CanCumulateList, CanMultiplyAlong, CanSubtractAlong, CanSumAlong, ForbidsDifferences, ForbidsMaking, HasAxis};
+ghost use Rattle.ndarray.specs.Integers.{int_products, int_sums};
+ghost use Rattle.ndtables.specs.Reducing.{AreDifferences, AreRunningProducts, AreTotalsAlong, CanCumulateAlong, CanCumulateList, CanMultiplyAlong, CanSubtractAlong, CanSumAlong, ForbidsDifferences, ForbidsMaking, HasAxis, ProductsFit, SumsFit};
 
 use crate::fault::Fault;
 use ndarray::{Array, ArrayView, Axis, Ix1, IxDyn, Lengths, Zip};
@@ -16,7 +16,7 @@ use std::alloc::Global;
 
 /// The sum of all cells, or `None` where some selection of them has a sum that does not fit `i64`.
 pub fn sum_in_range<D: Lengths>(table: &ArrayView<'_, i64, D>) -> Option<i64>
-    ensures fits { IsSome result ↔ IsSummable int_sums (FitsSigned w64) table.now.cells }
+    ensures fits { IsSome result ↔ SumsFit table.now.cells }
     ensures value { IfSome result (λ sum. sum ≡ total int_sums table.now.cells) }
 {
     if table.sums_fit() {
@@ -29,7 +29,7 @@ pub fn sum_in_range<D: Lengths>(table: &ArrayView<'_, i64, D>) -> Option<i64>
 /// The product of all cells, or `None` where the absolute values of those that are not zero multiply
 /// to more than the greatest `i64`.
 pub fn product_in_range<D: Lengths>(table: &ArrayView<'_, i64, D>) -> Option<i64>
-    ensures fits { IsSome result ↔ FitsSigned w64 (pos (magnitude_product table.now.cells)) }
+    ensures fits { IsSome result ↔ ProductsFit table.now.cells }
     ensures value { IfSome result (λ product. product ≡ total int_products table.now.cells) }
 {
     if table.products_fit() {
@@ -48,7 +48,7 @@ pub fn sums_along(
     table: &ArrayView<'_, i64, IxDyn>,
     axis: Axis,
 ) -> Result<Array<i64, IxDyn>, Fault>
-    ensures sums { IfOk result (AreTotalsAlong int_sums table.now axis.0) }
+    ensures sums { IfOk result (AreTotalsAlong int_sums SumsFit table.now axis.0) }
     ensures err { IfErr result (ForbidsMaking (HasAxis table.now axis.0) (CanSumAlong table.now axis.0)) }
 {
     if !table.axis_ok(axis) {
@@ -81,7 +81,7 @@ pub fn products_along(
     table: &ArrayView<'_, i64, IxDyn>,
     axis: Axis,
 ) -> Result<Array<i64, IxDyn>, Fault>
-    ensures products { IfOk result (AreTotalsAlong int_products table.now axis.0) }
+    ensures products { IfOk result (AreTotalsAlong int_products ProductsFit table.now axis.0) }
     ensures err { IfErr result (ForbidsMaking (HasAxis table.now axis.0) (CanMultiplyAlong table.now axis.0)) }
 {
     if !table.axis_ok(axis) {
@@ -154,9 +154,8 @@ fn differences_fit(left: &ArrayView<'_, i64, IxDyn>, right: &ArrayView<'_, i64, 
     requires same { left.now.lengths ≡ right.now.lengths }
     ensures { IsTrue result ↔ ((is : List ℕ) (x y : ℤ) → cell left.now is ≡ Some x → cell right.now is ≡ Some y → FitsSigned w64 (x -ℤ y)) }
 {
-    Zip::from(left)
-        .and(right)
-        .all(|x, y| x.checked_sub(*y).is_some())
+    let _whole = (left.raw_dim(), right.raw_dim());
+    left.sub_fits(right)
 }
 
 /// The running products along an axis.

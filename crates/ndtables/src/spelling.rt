@@ -1,10 +1,9 @@
 //! How lengths, cells and shapes are spelled.
 
-ghost use Rattle.std.specs.Prelude.{◌≡◌, ◌<◌, ◌^◌, SomeIff, IfOk, IfErr};
+ghost use Rattle.std.specs.Prelude.{◌≡◌, ◌≤◌, length, SomeIff, IfOk, IfErr};
 ghost use Rattle.std.specs.Int.{w64};
 ghost use Rattle.std.specs.Str.Parse.{digits_value, ParsesSigned};
-ghost use Rattle.ndarray.specs.Limits.{IsWithinLimit};
-ghost use Rattle.ndtables.specs.Spelling.{IsDigits, SpellsLengths, SpellsShape};
+ghost use Rattle.ndtables.specs.Spelling.{IsCountWord, SpellsLengths, SpellsNoLengths, SpellsNoShape, SpellsShape};
 
 use crate::fault::Fault;
 use arrayvec::ArrayVec;
@@ -13,7 +12,7 @@ use ndarray::{IxDyn, Lengths};
 
 /// A length: one or more ASCII digits that fit `usize`.
 pub fn length(word: &str) -> Option<usize>
-    ensures { SomeIff result (IsDigits word.now × (digits_value 10 word.now < 2 ^ 64)) (digits_value 10 word.now) }
+    ensures { SomeIff result (IsCountWord word.now) (digits_value 10 word.now) }
 {
     // Before a number `parse` takes a sign too.
     if let [b'+', ..] = word.as_bytes() {
@@ -34,8 +33,7 @@ pub fn cell(word: &str) -> Result<i64, Fault>
 /// is stored column-major.
 pub fn shape(word: &str) -> Result<(IxDyn, Order), Fault>
     ensures spelled { IfOk result (λ shape. SpellsShape word.now (⟦<IxDyn as Lengths>⟧.numbers shape.0) shape.1) }
-    ensures limit { IfOk result (λ shape. IsWithinLimit (⟦<IxDyn as Lengths>⟧.numbers shape.0)) }
-    ensures err { IfErr result (λ fault. fault ≡ Fault.Shape) }
+    ensures err { IfErr result (λ fault. SpellsNoShape word.now × (fault ≡ Fault.Shape)) }
 {
     let (spelled, order) = match word.strip_suffix('f') {
         Some(spelled) => (spelled, Order::ColumnMajor),
@@ -51,7 +49,8 @@ pub fn shape(word: &str) -> Result<(IxDyn, Order), Fault>
 /// `.` for no lengths, or lengths joined by `x`, of which there are at most 32.
 fn lengths(word: &str) -> Result<IxDyn, Fault>
     ensures spelled { IfOk result (λ dim. SpellsLengths word.now (⟦<IxDyn as Lengths>⟧.numbers dim)) }
-    ensures err { IfErr result (λ fault. fault ≡ Fault.Shape) }
+    ensures axes { IfOk result (λ dim. length (⟦<IxDyn as Lengths>⟧.numbers dim) ≤ 32) }
+    ensures err { IfErr result (λ fault. SpellsNoLengths word.now × (fault ≡ Fault.Shape)) }
 {
     if word == "." {
         return Ok(IxDyn(&[]));

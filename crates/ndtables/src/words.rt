@@ -1,6 +1,7 @@
 //! The words of a command line, read from left to right.
 
-ghost use Rattle.std.specs.Prelude.{◌≡◌, ◌↔◌, ◌∷◌, [], map, length, IfOk, IfErr, OnErr, MatchResult, IsOk, string_bytes};
+ghost use Rattle.std.specs.Prelude.{◌≡◌, ◌≤◌, ◌↔◌, ◌∷◌, [], map, length, IfOk, IfErr, OnErr, MatchResult, IsOk, string_bytes};
+ghost use Rattle.ndtables.specs.Faults.{ForbidsCells, ForbidsCount, ForbidsTable};
 ghost use Rattle.ndtables.specs.Reading.{ReadsCount, ReadsNumbers, ReadsTable};
 
 use crate::fault::Fault;
@@ -50,9 +51,10 @@ impl<'a> Words<'a> {
     }
 
     /// Reads the next word as a number: one or more ASCII digits that fit `usize`. Else the fault is
-    /// `number`.
+    /// `number`, or `usage` where there is no word.
     pub fn count(&mut self) -> Result<usize, Fault>
-        ensures { IfOk result (ReadsCount self.old self.new) }
+        ensures read { IfOk result (ReadsCount self.old self.new) }
+        ensures err { IfErr result (ForbidsCount self.old) }
     {
         let word = self.word()?;
         let count = spelling::length(word).ok_or(Fault::Number)?;
@@ -61,8 +63,12 @@ impl<'a> Words<'a> {
 
     /// Reads the next words as a table: a shape word, and then as many cells as the shape has, in
     /// row order. That there are so many words is tested before any cell is read.
+    ///
+    /// The fault is `usage` where there is no word, `shape` where it spells no shape, `usage` where fewer
+    /// words are left than the shape has cells, `number` where one of them spells no cell, and `memory`.
     pub fn table(&mut self, alloc: Global) -> Result<Table<IxDyn>, Fault>
-        ensures { IfOk result (ReadsTable self.old self.new) }
+        ensures read { IfOk result (ReadsTable self.old self.new) }
+        ensures err { IfErr result (ForbidsTable self.old) }
     {
         let (dim, order) = spelling::shape(self.word()?)?;
         let size = dim.size();
@@ -73,10 +79,12 @@ impl<'a> Words<'a> {
         Ok(Table::new(alloc, dim, order, cells)?)
     }
 
-    /// Reads the next words as cells.
+    /// Reads the next words as cells. Requires that there are so many words.
     fn cells(&mut self, alloc: Global, count: usize) -> Result<Vec<i64>, Fault>
+        requires { count ≤ length self.old }
         ensures as_many { IfOk result (λ cells. length cells.items ≡ count) }
         ensures read { IfOk result (λ cells. ReadsNumbers self.old self.new cells.items) }
+        ensures err { IfErr result (ForbidsCells count self.old) }
     {
         let mut cells = Vec::with_capacity(alloc, count)?;
         for _ in 0..count {

@@ -1,9 +1,12 @@
 -- The lengths of products of vectors and matrices.
-use Rattle.std.proofs.Common.{◌≡◌, ℕ, zero, suc, ◌*◌, ◌/◌, ◌%◌, ◌-◌, ◌<◌, ◌≤◌, ◌^◌, List, [], ◌∷◌, length, get_or, inl, inr, refl, sym, ap, ◌∙◌, subst, arith, ◌⊎◌}
+use Rattle.std.proofs.Common.{◌≡◌, ℕ, zero, suc, ◌*◌, ◌/◌, ◌%◌, ◌-◌, ◌<◌, ◌≤◌, ◌^◌, List, [], ◌∷◌, length, get_or, remove, inl, inr, refl, sym, ap, ◌∙◌, subst, arith, ◌⊎◌}
 use Rattle.std.proofs.Math.Nat.{div-lt_iff_lt-mul, mod-lt}
+use Rattle.std.proofs.lemmas.List.{length-append}
+use Rattle.std.proofs.lemmas.List.Edits.{length-remove}
+use Rattle.ndarray.specs.DotLaws.{HasOneOrTwoAxes}
 use Rattle.ndarray.specs.Index.{InBox}
 use Rattle.ndarray.specs.Limits.{IsWithinLimit}
-use Rattle.ndarray.specs.Products.{HasOneOrTwoAxes, ShapesMultiply, kronecker_lengths, product_lengths}
+use Rattle.ndarray.specs.Products.{ShapesMultiply, kronecker_lengths, product_lengths}
 use Rattle.ndarray.proofs.boxes.Sizes.{length-fits, nonzero-one_of}
 use Rattle.ndarray.proofs.cells.Matrices.{one-length, two-lengths}
 
@@ -24,32 +27,47 @@ module _ (ns ms : List ℕ) where
   pub inner-two : length ns ≡ 2 → get_or ns (length ns - 1) 0 ≡ get_or ms 0 0 → get_or ns 1 0 ≡ get_or ms 0 0
   inner-two p e = sym (ap (λ n. get_or ns (n - 1) 0) p) ∙ e
 
+  pub inner-matrices : length ns ≡ 2 → length ms ≡ 2 → get_or ns (length ns - 1) 0 ≡ get_or ms (length ms - 2) 0 → get_or ns 1 0 ≡ get_or ms 0 0
+  inner-matrices p q e = inner-two p (e ∙ ap (λ m. get_or ms (m - 2) 0) q)
+
   pub limit-two_two : length ns ≡ 2 → length ms ≡ 2 → ShapesMultiply ns ms → IsWithinLimit (get_or ns 0 0 ∷ get_or ms 1 0 ∷ [])
   limit-two_two p q s = subst IsWithinLimit (lengths-two_two p q) s.limit
 
-  one-or-two : (ks : List ℕ) → 1 ≤ length ks → length ks ≤ 2 → HasOneOrTwoAxes ks
+  pub one-or-two : (ks : List ℕ) → 1 ≤ length ks → length ks ≤ 2 → HasOneOrTwoAxes ks
   one-or-two [] a b = absurd (omega arith)
   one-or-two (k ∷ []) a b = inl refl
   one-or-two (k ∷ l ∷ []) a b = inr refl
   one-or-two (k ∷ l ∷ m ∷ ks) a b = absurd (omega arith)
 
-  -- where one side is a vector, the lengths of the product are within the limit
-  module _ (nl : 1 ≤ length ns) (nh : length ns ≤ 2) (ml : 1 ≤ length ms) (mh : length ms ≤ 2) (inner : get_or ns (length ns - 1) 0 ≡ get_or ms 0 0) (left : IsWithinLimit ns) (right : IsWithinLimit ms) where
-    vector-limit : (length ns ≡ 1) ⊎ (length ms ≡ 1) → IsWithinLimit (product_lengths ns ms)
-    vector-limit (inl p) = elim (one-or-two ms ml mh) [
-      | inl q ↦ subst IsWithinLimit (sym (lengths-one_one p q)) (omega arith)
-      | inr q ↦ subst IsWithinLimit (sym (lengths-one_two p q)) (let k = nonzero-one_of ms 1 (omega (arith, q)) in omega (arith, k, right))
-    ]
-    vector-limit (inr q) = elim (one-or-two ns nl nh) [
-      | inl p ↦ subst IsWithinLimit (sym (lengths-one_one p q)) (omega arith)
-      | inr p ↦ subst IsWithinLimit (sym (lengths-two_one p q)) (let k = nonzero-one_of ns 0 (omega (arith, p)) in omega (arith, k, left))
-    ]
+  -- vectors and matrices whose inner lengths are equal
+  module _ (nl : 1 ≤ length ns) (nh : length ns ≤ 2) (ml : 1 ≤ length ms) (mh : length ms ≤ 2) (inner : get_or ns (length ns - 1) 0 ≡ get_or ms 0 0) where
+    meet : get_or ns (length ns - 1) 0 ≡ get_or ms (length ms - 2) 0
+    meet = inner ∙ (let e : 0 ≡ length ms - 2 = omega (arith, mh) in ap (λ k. get_or ms k 0) e)
 
-    pub vector-shapes : (length ns ≡ 1) ⊎ (length ms ≡ 1) → ShapesMultiply ns ms
-    vector-shapes one = record { left = one-or-two ns nl nh; right = one-or-two ms ml mh; inner = inner; limit = vector-limit one }
+    few-axes : length (product_lengths ns ms) ≤ 32
+    few-axes =
+        let a = length-append (remove ns (length ns - 1)) (remove ms (length ms - 2)) in
+        let b = length-remove ns (length ns - 1) (omega (arith, nl)) in
+        let c = length-remove ms (length ms - 2) (omega (arith, ml)) in
+        omega (arith, a, b, c, nh, mh)
 
-    pub matrix-shapes : length ns ≡ 2 → length ms ≡ 2 → IsWithinLimit (get_or ns 0 0 ∷ get_or ms 1 0 ∷ []) → ShapesMultiply ns ms
-    matrix-shapes p q limit = record { left = inr p; right = inr q; inner = inner; limit = subst IsWithinLimit (sym (lengths-two_two p q)) limit }
+    pub matrix-shapes : IsWithinLimit (product_lengths ns ms) → ShapesMultiply ns ms
+    matrix-shapes limit = record { left = nl; right = ml; inner = meet; axes = few-axes; limit = limit }
+
+    -- where one side is a vector, the lengths of the product are within the limit
+    module _ (left : IsWithinLimit ns) (right : IsWithinLimit ms) where
+      vector-limit : (length ns ≡ 1) ⊎ (length ms ≡ 1) → IsWithinLimit (product_lengths ns ms)
+      vector-limit (inl p) = elim (one-or-two ms ml mh) [
+        | inl q ↦ subst IsWithinLimit (sym (lengths-one_one p q)) (omega arith)
+        | inr q ↦ subst IsWithinLimit (sym (lengths-one_two p q)) (let k = nonzero-one_of ms 1 (omega (arith, q)) in omega (arith, k, right))
+      ]
+      vector-limit (inr q) = elim (one-or-two ns nl nh) [
+        | inl p ↦ subst IsWithinLimit (sym (lengths-one_one p q)) (omega arith)
+        | inr p ↦ subst IsWithinLimit (sym (lengths-two_one p q)) (let k = nonzero-one_of ns 0 (omega (arith, p)) in omega (arith, k, left))
+      ]
+
+      pub vector-shapes : (length ns ≡ 1) ⊎ (length ms ≡ 1) → ShapesMultiply ns ms
+      vector-shapes one = matrix-shapes (vector-limit one)
 
 -- lengths within the limit fit a word, each alone
 pub kronecker-rows_fit : (ns ms : List ℕ) → IsWithinLimit (kronecker_lengths ns ms) → get_or ns 0 0 * get_or ms 0 0 < 2 ^ 63
@@ -75,7 +93,3 @@ block-in_second ns ms p q m r is two row column em er e =
     let a = quotient-below p (get_or ns 0 0) m (subst (λ k. p < get_or ns 0 0 * k) (sym em) row) in
     let b = quotient-below q (get_or ns 1 0) r (subst (λ k. q < get_or ns 1 0 * k) (sym er) column) in
     subst (InBox ms) (sym e) (in-two ms (p % m) (q % r) two (subst (λ k. p % m < k) em a.2) (subst (λ k. q % r < k) er b.2))
-
-pub two-of : (ns : List ℕ) → HasOneOrTwoAxes ns → (length ns ≡ 1 → ⊥) → length ns ≡ 2
-two-of ns (inl one) not_one = absurd (not_one one)
-two-of ns (inr two) not_one = two

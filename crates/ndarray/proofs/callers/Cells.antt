@@ -7,3 +7,14 @@ pub use Rattle.ndarray.proofs.cells.Cells.{cell-Some, cell-inside, same_grid, ta
 pub use Rattle.ndarray.proofs.cells.Cells.{HasCells-first, along-first, cells_in-HasInOrder}
 -- the element beside the k-th of index lists that increase is the k-th
 pub use Rattle.ndarray.proofs.lists.CellLookup.{beside-at}
+use Rattle.std.proofs.Common.{◌≡◌, ◌∙◌, ℕ, List, ap, reverse}
+use Rattle.std.proofs.lemmas.List.{reverse-reverse}
+use Rattle.ndarray.specs.Grid.{Grid, IsGrid, cell}
+use Rattle.ndarray.specs.Index.{InBox}
+use Rattle.ndarray.specs.Views.{transpose_of}
+use Rattle.ndarray.proofs.boxes.Boxes.{InBox-reverse}
+
+-- the cell of a transposed array at a reversed index list is the array's at the index list
+pub transpose-cell : {A : Type 0} (g : Grid A) (is : List ℕ) → IsGrid (transpose_of g) → InBox g.lengths is → cell (transpose_of g) (reverse is) ≡ cell g is
+transpose-cell g is whole inside =
+    tabulate-cell (reverse g.lengths) (λ js. cell g (reverse js)) (reverse is) whole (InBox-reverse g.lengths is inside) ∙ ap (cell g) (reverse-reverse is)

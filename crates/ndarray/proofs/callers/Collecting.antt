@@ -1,6 +1,6 @@
 -- `map_collect` with a closure that computes a function of the index list, and arrays made in that way.
-use Rattle.std.proofs.Common.{◌≡◌, ℕ, List, [], ◌∷◌, ◌++◌, Some, Ok, Err, map, length, remove, arith, ◌<◌, refl, subst, sym, ap, ◌∙◌, All, append-nil, append_assoc}
-use Rattle.std.specs.Prelude.{Result, IfOk}
+use Rattle.std.proofs.Common.{◌≡◌, ℕ, List, [], ◌∷◌, ◌++◌, Option, Some, None, Ok, Err, map, length, remove, arith, ◌<◌, refl, subst, sym, ap, ◌∙◌, All, append-nil, append_assoc}
+use Rattle.std.specs.Prelude.{Result, IfOk, IfSome}
 use Rattle.std.specs.List.{AllByRecursion, Contains, FoldsTo}
 use Rattle.std.proofs.lemmas.List.Elements.{All-contains}
 use Rattle.ndarray.specs.Index.{InBox}
@@ -76,6 +76,10 @@ module _ {F A R : Type 0} (yields_at : List ℕ → A → Type 0) (call_gives : 
 pub if_ok-both : {X E : Type 0} (r : Result X E) (P Q W : X → Type 0) → ((x : X) → P x → Q x → W x) → IfOk r P → IfOk r Q → IfOk r W
 if_ok-both (Ok x) P Q W to p q = to x p q
 if_ok-both (Err e) P Q W to p q = p
+
+pub if_some-both : {X : Type 0} (o : Option X) (P Q W : X → Type 0) → ((x : X) → P x → Q x → W x) → IfSome o P → IfSome o Q → IfSome o W
+if_some-both (Some x) P Q W to p q = to x p q
+if_some-both None P Q W to p q = p
 
 -- the lanes of an array with axes
 pub lanes_of-some : {A : Type 0} (ns : List ℕ) (g : Grid A) (k : ℕ) → 0 < length ns → lanes_along ns g k ≡ array_by (remove ns k) (lane g k)

@@ -12,8 +12,8 @@ use Rattle.ndarray.proofs.views.BroadcastLengths.{broadcasts-itself, lengths-str
 use Rattle.ndarray.proofs.views.OwnLengths.{broadcast_to-own, broadcast_to-row, broadcasts-row}
 
 -- an array that has at each index list what a function answers there
-pub array_by-by : {C : Type 0} (r : Grid C) (ns : List ℕ) (f : List ℕ → C) → IsGrid r → r.lengths ≡ ns → ((is : List ℕ) (z : C) → cell r is ≡ Some z → z ≡ f is) → r ≡ array_by ns f
-array_by-by r ns f whole e at =
+pub array_by-follows : {C : Type 0} (r : Grid C) (ns : List ℕ) (f : List ℕ → C) → IsGrid r → r.lengths ≡ ns → ((is : List ℕ) (z : C) → cell r is ≡ Some z → z ≡ f is) → r ≡ array_by ns f
+array_by-follows r ns f whole e at =
     same_grid r (array_by ns f) whole (array_by-whole ns f) e
     (λ is b.
     let (z, there) = cell-Some r whole is b in
@@ -37,11 +37,15 @@ module _ {A B : Type 0} (g : Grid A) (h : Grid B) (left_whole : IsGrid g) (right
     defined = λ is x y there. each is x y (sym (left-own is) ∙ there.left) (sym (right-own is) ∙ there.right);
   }
 
+  -- and the operation is defined on the two cells at each index list, where that is known
+  pub combined-cells : (can : A → B → Type 0) → CanCombine g h can → (is : List ℕ) (x : A) (y : B) → cell g is ≡ Some x → cell h is ≡ Some y → can x y
+  combined-cells can each is x y l m = each.defined is x y (record { left = left-own is ∙ l; right = right-own is ∙ m })
+
   -- the array that an operator returns has these lengths, and at each index list what a function answers that the operation computes
   pub combine-follows : {C : Type 0} (gives : A → B → C → Type 0) (r : Grid C) (f : List ℕ → C) → ((is : List ℕ) (x : A) (y : B) (z : C) → cell g is ≡ Some x → cell h is ≡ Some y → gives x y z → z ≡ f is)
       → Combines g h gives r → r ≡ array_by g.lengths f
   combine-follows gives r f each c =
-      array_by-by r g.lengths f c.whole (c.lengths ∙ lengths-same)
+      array_by-follows r g.lengths f c.whole (c.lengths ∙ lengths-same)
       (λ is z there.
       let (x, y, at, given) = c.cells is z there in
       each is x y z (sym (left-own is) ∙ at.left) (sym (right-own is) ∙ at.right) given)
@@ -73,7 +77,7 @@ module _ {A B : Type 0} (g : Grid A) (h : Grid B) (whole : IsGrid h) (n : ℕ) (
       → ((i : ℕ) (js : List ℕ) (x : A) (y : B) (z : A) → cell g (i ∷ js) ≡ Some x → cell h js ≡ Some y → gives x y z → z ≡ f (i ∷ js))
       → Assigns gives g h new → new ≡ array_by g.lengths f
   assign_row-follows gives new f each c =
-      array_by-by new g.lengths f c.whole c.lengths
+      array_by-follows new g.lengths f c.whole c.lengths
       (λ is z there.
       let (x, y, at, given) = c.cells is z there in
       given-below gives f each is x y z at given)

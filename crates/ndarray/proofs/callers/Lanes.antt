@@ -15,6 +15,7 @@ use Rattle.ndarray.specs.base.Ranks.{block_in, rank}
 use Rattle.ndarray.specs.declared.base.shape.Order.TheVariants.{RowMajor}
 use Rattle.ndarray.proofs.boxes.Boxes.{InBox-length, InBox-set}
 use Rattle.ndarray.proofs.callers.Collecting.{array_by-at, lanes_of-some}
+use Rattle.ndarray.proofs.callers.Elementwise.{array_by-follows}
 use Rattle.ndarray.proofs.cells.Cells.{cell-inside, cell-within}
 use Rattle.ndarray.proofs.cells.LaneCells.{lane-cell, lane-length, no-lane}
 use Rattle.ndarray.proofs.cells.RunningProducts.{block-pos, own-blocks, rank-at}
@@ -97,6 +98,13 @@ lane-maps g k some gives r m js z e =
     let (l, at, given) = m.cells js z e in
     let among = lanes_of-some g.lengths g k some in
     subst (λ x. gives x z) (array_by-at (remove g.lengths k) (lane g k) (lanes_of g k) js l among (cell-inside (lanes_of g k) js l at) at) given
+
+-- where that is a function of the lane, it is the array of the function at the lanes
+pub lanes-follow : {A B : Type 0} (g : Grid A) (k : ℕ) → 0 < length g.lengths → (gives : Grid A → B → Type 0) (h : Grid A → B) → ((l : Grid A) (z : B) → gives l z → z ≡ h l)
+    → (r : Grid B) → Maps gives (lanes_of g k) r → r ≡ array_by (remove g.lengths k) (λ js. h (lane g k js))
+lanes-follow g k some gives h each r m =
+    array_by-follows r (remove g.lengths k) (λ js. h (lane g k js)) m.whole (m.lengths ∙ ap (λ w. w.lengths) (lanes_of-some g.lengths g k some))
+    (λ js z e. each (lane g k js) z (lane-maps g k some gives r m js z e))
 
 -- where multiplication is defined on any two elements, running products may be formed of any list
 multiply-always : {A : Type 0} (can : A → A → Type 0) (gives : A → A → A → Type 0) → ((x p : A) → can x p) → (p : A) (xs : List A) → CanMultiplyOn can gives p xs

@@ -8,6 +8,8 @@ use Rattle.ndarray.specs.Views.{axis_item}
 use Rattle.ndarray.specs.declared.elements.Valued.{Ghosts as ValuedGhosts}
 use Rattle.ndarray.proofs.cells.Matrices.{column-values, row-values, vector-values}
 use Rattle.ndarray.proofs.sums.InnerSums.{lists-meet}
+-- A list of one length and a list of two are their elements; two functions that agree below n have the same values below n.
+pub use Rattle.ndarray.proofs.cells.Matrices.{below-same, one-length, two-lengths}
 
 -- A matrix and a vector, whose inner lengths are equal.
 module _ {A : Type 0} (e : ValuedGhosts A) (g h : Grid A) (two : length g.lengths ≡ 2) (one : length h.lengths ≡ 1) (whole : IsGrid h) (inner : get_or g.lengths 1 0 ≡ get_or h.lengths 0 0) where
@@ -38,3 +40,12 @@ module _ {A : Type 0} (e : ValuedGhosts A) (g h : Grid A) (two : length g.length
       (row-values e.meaning e.addition.unit g (axis_item g 0 i) two row_whole i refl)
       (column-values e.meaning e.addition.unit h (axis_item h 1 j) both column_whole j refl) inner in
       subst (IsSummable e.addition e.InRange) meet.0 sums
+
+  -- the entry there is the inner sum of the two
+  pub entry-product : (i j : ℕ) → IsGrid (axis_item g 0 i) → IsGrid (axis_item h 1 j)
+      → (product_of e (matrix_of e g) (matrix_of e h)).cell i j ≡ total e.addition (products_of e.multiplication e.meaning (axis_item g 0 i).cells (axis_item h 1 j).cells)
+  entry-product i j row_whole column_whole =
+      let meet = lists-meet e.multiplication e.meaning (axis_item g 0 i).cells (axis_item h 1 j).cells _ _ _ _
+      (row-values e.meaning e.addition.unit g (axis_item g 0 i) two row_whole i refl)
+      (column-values e.meaning e.addition.unit h (axis_item h 1 j) both column_whole j refl) inner in
+      sym (ap (total e.addition) meet.0)

@@ -1,8 +1,19 @@
--- `all` and `any` with a closure that computes a test of the index list.
-use Rattle.std.proofs.Common.{◌≡◌, ℕ, List, [], ◌∷◌, ◌++◌, Bool, true, false, refl, sym, subst, ap, ◌∙◌, inl, inr, append-nil}
+-- What `all` and `any` answer: of a closure that computes a test of the index list, and of any.
+use Rattle.std.proofs.Common.{◌≡◌, ℕ, List, [], ◌∷◌, ◌++◌, Bool, true, false, refl, sym, subst, ap, ◌∙◌, inl, inr, append-nil, Some}
 use Rattle.std.proofs.Math.Bool.{not}
-use Rattle.std.specs.List.{FoldsTo, list_all, list_any}
+use Rattle.std.specs.Prelude.{All, IsTrue, ◌↔◌}
+use Rattle.std.specs.List.{AllByRecursion, FoldsTo, list_all, list_any}
+use Rattle.std.proofs.lemmas.List.Elements.{All-contains}
+use Rattle.ndarray.specs.Elementwise.{CanMap}
+use Rattle.ndarray.specs.Grid.{Grid, cell}
+use Rattle.ndarray.specs.Index.{InBox}
+use Rattle.ndarray.specs.Orders.{box_in}
 use Rattle.ndarray.specs.Runs.{RunsUntil}
+use Rattle.ndarray.specs.declared.base.shape.Order.{Order}
+use Rattle.ndarray.proofs.boxes.Orders.{box_in-within}
+use Rattle.ndarray.proofs.callers.Collecting.{All-middle, box-contains}
+use Rattle.ndarray.proofs.cells.Cells.{cell-inside}
+use Rattle.ndarray.proofs.lists.Elements.{All-from_recursion}
 
 -- for true whether all elements pass the test, and for false whether any does
 abbrev pub all_or_any : {X : Type 0} → Bool → (X → Bool) → List X → Bool
@@ -46,3 +57,114 @@ module _ {F : Type 0} (goes : F → List ℕ → F → Type 0) (stops : F → Li
             let u = stop i (subst (λ g. stops g i) p.1 at) in
             u.0 ∙ sym (p.0 ∙ all_or_any-here t i rest on u.1) ∙ ap (all_or_any on t) parts
       ]
+
+-- What a yes of `all` and a no of `any` mean at each index list of the box, whatever the closure tests.
+module _ {F : Type 0} (goes : F → List ℕ → F → Type 0) (stops : F → List ℕ → Type 0) (ended : F → Type 0) (f : F) (o : Order) (ns : List ℕ) where
+  -- turns that go on, each of which leaves the closure as it was and tells that Q holds there
+  went : (Q : List ℕ → Type 0) → ((i : List ℕ) (k : F) → goes f i k → (k ≡ f) × Q i) → (is : List (List ℕ)) (p q : F) → p ≡ f → FoldsTo goes p is q → AllByRecursion Q is × (q ≡ f)
+  went Q stays [] p q e c = (tt, sym c ∙ e)
+  went Q stays (i ∷ is) p q e c =
+      let (m, turn, rest) = c in
+      let u = stays i m (subst (λ g. goes g i m) e turn) in
+      let r = went Q stays is m q u.0 rest in
+      ((u.1, r.0), r.1)
+
+  -- what holds along the box holds at each index list in it
+  everywhere : (Q : List ℕ → Type 0) (done : List (List ℕ)) → done ≡ box_in o ns → AllByRecursion Q done → (i : List ℕ) → InBox ns i → Q i
+  everywhere Q done e each i inside = All-contains Q (box_in o ns) i (subst (All Q) e (All-from_recursion Q done each)) (box-contains o ns i inside)
+
+  -- `all` says whether P holds at each index list of the box: each turn that goes on tells that it does, and one that stops that it does not
+  pub all-decides : (P : List ℕ → Type 0) → ((i : List ℕ) (k : F) → goes f i k → (k ≡ f) × P i) → (r : Bool) → ((i : List ℕ) → stops f i → (r ≡ false) × (P i → ⊥)) → (ended f → r ≡ true)
+      → RunsUntil goes stops ended f (box_in o ns) → IsTrue r ↔ ((i : List ℕ) → InBox ns i → P i)
+  all-decides P stays r stop end ran =
+      let (done, q, turns, last) = ran in
+      let w = went P stays done f q refl turns in
+      elim last as (λ _. IsTrue r ↔ ((i : List ℕ) → InBox ns i → P i)) [
+        | inl h ↦ (λ _. everywhere P done h.0 w.0, λ _. end (subst ended w.1 h.1))
+        | inr h ↦ let (i, rest, parts, at) = h in
+            let u = stop i (subst (λ g. stops g i) w.1 at) in
+            (λ on. absurd (cc), λ each. absurd (u.1 (each i (All-middle (InBox ns) done i rest (box_in o ns) (box_in-within o ns) parts))))
+      ]
+
+  -- `any` says whether P holds at some: each turn that goes on tells that it does not, and one that stops that it does
+  pub any-decides : (P : List ℕ → Type 0) → ((i : List ℕ) (k : F) → goes f i k → (k ≡ f) × (P i → ⊥)) → (r : Bool) → ((i : List ℕ) → stops f i → (r ≡ true) × P i) → (ended f → r ≡ false)
+      → RunsUntil goes stops ended f (box_in o ns) → IsTrue r ↔ ((i : List ℕ) × InBox ns i × P i)
+  any-decides P stays r stop end ran =
+      let (done, q, turns, last) = ran in
+      let w = went (λ i. P i → ⊥) stays done f q refl turns in
+      elim last as (λ _. IsTrue r ↔ ((i : List ℕ) × InBox ns i × P i)) [
+        | inl h ↦ (let off : r ≡ false = end (subst ended w.1 h.1) in
+            (λ on. absurd (cc), λ some. absurd (everywhere (λ i. P i → ⊥) done h.0 w.0 some.0 some.1 some.2)))
+        | inr h ↦ let (i, rest, parts, at) = h in
+            let u = stop i (subst (λ g. stops g i) w.1 at) in
+            (λ _. (i, All-middle (InBox ns) done i rest (box_in o ns) (box_in-within o ns) parts, u.1), λ _. u.0)
+      ]
+
+  -- where the turns that stop say no of `all`, and not that P does not hold, P holds at each index list if it says yes
+  pub all-holds : (P : List ℕ → Type 0) → ((i : List ℕ) (k : F) → goes f i k → (k ≡ f) × P i) → (r : Bool) → ((q : F) (i : List ℕ) → stops q i → r ≡ false)
+      → RunsUntil goes stops ended f (box_in o ns) → IsTrue r → (i : List ℕ) → InBox ns i → P i
+  all-holds P stays r stop ran on =
+      let (done, q, turns, last) = ran in
+      let w = went P stays done f q refl turns in
+      elim last as (λ _. (i : List ℕ) → InBox ns i → P i) [
+        | inl h ↦ everywhere P done h.0 w.0
+        | inr h ↦ let off : r ≡ false = stop _ _ h.3 in absurd (cc)
+      ]
+
+-- P holds of the cell at an index list; of the cells of two arrays there
+abbrev pub HoldsAt : {A : Type 0} → (A → Type 0) → Grid A → List ℕ → Type 0
+HoldsAt {A} P g is = (x : A) → cell g is ≡ Some x → P x
+
+abbrev pub HoldsOf : {A B : Type 0} → (A → B → Type 0) → Grid A → Grid B → List ℕ → Type 0
+HoldsOf {A} {B} P g h is = (x : A) (y : B) → cell g is ≡ Some x → cell h is ≡ Some y → P x y
+
+-- Turns at the cells of an array g, seen as w, each of which tells of its cell whether P holds of it.
+module _ {F A : Type 0} (goes : F → List ℕ → F → Type 0) (stops : F → List ℕ → Type 0) (ended : F → Type 0) (f : F) (P : A → Type 0) (g w : Grid A) (same : w ≡ g) (o : Order) (r : Bool)
+    (ran : RunsUntil goes stops ended f (box_in o w.lengths))
+    (stays : (is : List ℕ) (k : F) → goes f is k → (k ≡ f) × ((x : A) × (cell w is ≡ Some x) × P x)) where
+  holds-at : (is : List ℕ) (k : F) → goes f is k → (k ≡ f) × HoldsAt P w is
+  holds-at is k turn =
+      let (kept, found) = stays is k turn in
+      let (x, here, holds) = found in
+      (kept, λ y there. let e : x ≡ y = cc in subst P e holds)
+
+  -- `all` says whether P holds of all cells
+  pub tested-cells : ((is : List ℕ) → stops f is → (r ≡ false) × ((x : A) × (cell w is ≡ Some x) × (P x → ⊥))) → (ended f → r ≡ true) → IsTrue r ↔ CanMap P g
+  tested-cells stop end =
+      let decides = all-decides goes stops ended f o w.lengths (HoldsAt P w) holds-at r
+      (λ is at.
+      let (off, found) = stop is at in
+      let (x, here, not) = found in
+      (off, λ all. not (all x here)))
+      end ran in
+      subst (λ v. IsTrue r ↔ CanMap P v) same (λ on is x here. decides.0 on is (cell-inside w is x here) x here, λ each. decides.1 (λ is _. each is))
+
+  -- a yes of `all` says that P holds of all cells, whatever a no says
+  pub tested-holds : ((q : F) (is : List ℕ) → stops q is → r ≡ false) → IsTrue r → CanMap P g
+  tested-holds stop on =
+      let each = all-holds goes stops ended f o w.lengths (HoldsAt P w) holds-at r stop ran on in
+      subst (CanMap P) same (λ is x here. each is (cell-inside w is x here) x here)
+
+-- The same of the cells of two arrays g and h, seen as w and z.
+module _ {F A B : Type 0} (goes : F → List ℕ → F → Type 0) (stops : F → List ℕ → Type 0) (ended : F → Type 0) (f : F) (P : A → B → Type 0) (g w : Grid A) (h z : Grid B) (first : w ≡ g) (second : z ≡ h) (o : Order) (r : Bool)
+    (ran : RunsUntil goes stops ended f (box_in o w.lengths))
+    (stays : (is : List ℕ) (k : F) → goes f is k → (k ≡ f) × ((x : A) × (y : B) × (cell w is ≡ Some x) × (cell z is ≡ Some y) × P x y)) where
+  pair-holds : (is : List ℕ) (k : F) → goes f is k → (k ≡ f) × HoldsOf P w z is
+  pair-holds is k turn =
+      let (kept, found) = stays is k turn in
+      let (x, y, left, right, holds) = found in
+      (kept, λ u v l m. let e : x ≡ u = cc in let e2 : y ≡ v = cc in subst (P u) e2 (subst (λ t. P t y) e holds))
+
+  -- `all` says whether P holds at each index list
+  pub tested-pairs : ((is : List ℕ) → stops f is → (r ≡ false) × ((x : A) × (y : B) × (cell w is ≡ Some x) × (cell z is ≡ Some y) × (P x y → ⊥))) → (ended f → r ≡ true)
+      → IsTrue r ↔ ((is : List ℕ) → HoldsOf P g h is)
+  tested-pairs stop end =
+      let decides = all-decides goes stops ended f o w.lengths (HoldsOf P w z) pair-holds r
+      (λ is at.
+      let (off, found) = stop is at in
+      let (x, y, left, right, not) = found in
+      (off, λ all. not (all x y left right)))
+      end ran in
+      subst (λ v. IsTrue r ↔ ((is : List ℕ) → HoldsOf P g v is)) second
+      (subst (λ v. IsTrue r ↔ ((is : List ℕ) → HoldsOf P v z is)) first
+      (λ on is x y l m. decides.0 on is (cell-inside w is x l) x y l m, λ each. decides.1 (λ is _. each is)))

@@ -1,6 +1,6 @@
 -- Diagonals of the last two axes that are kept.
 use Rattle.std.proofs.Common.{◌≡◌, ◌-◌, ◌<◌, ◌≤◌, ◌^◌, inl, inr, ℕ, List, ◌∷◌, Option, Some, Bool, true, false, length, get_or, refl, sym, ◌∙◌, ap, arith}
-use Rattle.std.specs.Prelude.{ℤ, pos, negsuc, ◌≤ℤ◌, int_le, T, ◌&&◌, All, filter_map, if◌then◌else◌}
+use Rattle.std.specs.Prelude.{ℤ, pos, negsuc, ◌≤ℤ◌, int_le, nat_lt, T, ◌&&◌, All, filter_map, if◌then◌else◌}
 use Rattle.std.proofs.Math.Bool.{and-true}
 use Rattle.std.proofs.lemmas.Bool.{cases_lt, false_from_ne_true, le-ltb, lt-ltb}
 use Rattle.std.proofs.lemmas.Float.{T_from_true}
@@ -46,6 +46,14 @@ module _ {A : Type 0} (keeps : ℤ → Bool) (zero_cell : A) (g : Grid A) where
         ap (λ ns. grid ns r.cells) lengths
         ∙ (ap (grid g.lengths) cells
         ∙ sym (ap (λ t. if t then g else grid g.lengths (filter_map kept_at (row_order g.lengths))) (le-ltb (length g.lengths) 2 axes)))
+
+-- an array of which some diagonals are kept has the array's lengths
+pub lengths-kept : {A : Type 0} (keeps : ℤ → Bool) (zero_cell : A) (g : Grid A) → (diagonals_kept keeps zero_cell g).lengths ≡ g.lengths
+lengths-kept {A} keeps zero_cell g = either (nat_lt (length g.lengths) 2)
+  where
+    either : (t : Bool) → (if t then g else tabulate g.lengths (kept_at keeps zero_cell g)).lengths ≡ g.lengths
+    either true = refl
+    either false = refl
 
 -- indices of a shape within the limit fit a signed word
 pub indices-fit : (ns is : List ℕ) → nonzero_size ns < 2 ^ 63 → InBox ns is → All (λ i. i < 2 ^ 63) is

@@ -1,11 +1,11 @@
 -- Arrays that have the values of products.
-use Rattle.std.proofs.Common.{◌≡◌, ◌∙◌, ℕ, ◌<◌, ◌-◌, ◌/◌, ◌%◌, get_or, length, List, [], ◌∷◌, Some, ap, subst, sym}
-use Rattle.std.specs.Prelude.{Result, IfOk, IsOk, ◌==◌, if◌then◌else◌}
+use Rattle.std.proofs.Common.{◌≡◌, ◌∙◌, ℕ, ◌<◌, ◌/◌, ◌%◌, get_or, List, [], ◌∷◌, Some, ap, subst, sym}
+use Rattle.std.specs.Prelude.{Result, IfOk, IsOk}
 use Rattle.ndarray.specs.Entries.{HasEntries}
 use Rattle.ndarray.specs.Grid.{Grid, cell}
 use Rattle.ndarray.specs.Index.{size}
 use Rattle.ndarray.specs.Matrices.{Matrix, kronecker_product}
-use Rattle.ndarray.specs.Products.{Accumulates, AccumulatesEntries, AddsScaled, CanSumInner, HasSumsInRange, MakesValues, ShapesMultiply, column_of, left_matrix, matrix_of, product_entries, product_lengths, product_of, right_matrix, row_of, value_at, value_or}
+use Rattle.ndarray.specs.Products.{Accumulates, AccumulatesEntries, AddsScaled, CanSumInner, HasSumsInRange, MakesValues, matrix_of, product_of, value_at, value_or}
 use Rattle.ndarray.specs.declared.elements.Valued.{Ghosts as ValuedGhosts}
 use Rattle.ndarray.proofs.callers.Collecting.{if_ok-both}
 
@@ -53,36 +53,3 @@ module _ {A : Type 0} (e : ValuedGhosts A) where
       let s : second ≡ p % get_or b.lengths 0 0 ∷ q % get_or b.lengths 1 0 ∷ [] = es ∙ (ap (λ k. p % k ∷ q % r ∷ []) em ∙ ap (λ k. p % get_or b.lengths 0 0 ∷ q % k ∷ []) er) in
       ap (λ o. e.multiplication.op (value_or e.meaning e.addition.unit o) (value_at e b (p % get_or b.lengths 0 0 ∷ q % get_or b.lengths 1 0 ∷ []))) (ap (cell a) (sym f) ∙ ax)
       ∙ ap (λ o. e.multiplication.op (e.meaning x) (value_or e.meaning e.addition.unit o)) (ap (cell b) (sym s) ∙ ay)
-
-  -- ---- any number of axes
-
-  -- the same array, of the same values
-  values-same : {E : Type 0} (ns ms : List ℕ) (f h : List ℕ → e.Carrier) (r : Result (Grid A) E) → ns ≡ ms → ((is : List ℕ) → f is ≡ h is) → MakesValues e ns f r → MakesValues e ms h r
-  values-same ns ms f h r lengths each m = record {
-    made = if_ok-both r _ _ _ (λ w k l. record { lengths = k.lengths ∙ lengths; whole = k.whole; cells = λ is z at. k.cells is z at ∙ each is }) m.made m.made;
-    empty = λ none. m.empty (ap size lengths ∙ none);
-  }
-
-  abbrev pub left-by : ℕ → Grid A → Matrix e.Carrier
-  left-by n a = if n == 1 then row_of e a else matrix_of e a
-
-  abbrev pub right-by : ℕ → Grid A → Matrix e.Carrier
-  right-by m b = if m == 1 then column_of e b else matrix_of e b
-
-  -- the entries of a product by the numbers of axes
-  abbrev entries-by : Grid A → Grid A → List ℕ → ℕ → ℕ → e.Carrier
-  entries-by a b is n m = (product_of e (left-by n a) (right-by m b)).cell (if n == 1 then 0 else get_or is 0 0) (if m == 1 then 0 else get_or is (n - 1) 0)
-
-  -- of arrays a and b, seen as w and z
-  module _ (a b w z : Grid A) (p : w ≡ a) (q : z ≡ b) (n m : ℕ) (left : length a.lengths ≡ n) (right : length b.lengths ≡ m) where
-    pub dynamic-can : ShapesMultiply a.lengths b.lengths → HasSumsInRange e (left_matrix e a) (right_matrix e b) → ShapesMultiply w.lengths z.lengths × HasSumsInRange e (left-by n w) (right-by m z)
-    dynamic-can shapes sums =
-        let own : HasSumsInRange e (left-by n a) (right-by m b) = subst (λ k. HasSumsInRange e (left-by n a) (right-by k b)) right (subst (λ k. HasSumsInRange e (left-by k a) (right_matrix e b)) left sums) in
-        subst (λ u. ShapesMultiply u.lengths z.lengths × HasSumsInRange e (left-by n u) (right-by m z)) (sym p)
-        (subst (λ u. ShapesMultiply a.lengths u.lengths × HasSumsInRange e (left-by n a) (right-by m u)) (sym q) (shapes, own))
-
-    pub dynamic-gives : {E : Type 0} (ns : List ℕ) (f : List ℕ → e.Carrier) (r : Result (Grid A) E) → ns ≡ product_lengths a.lengths b.lengths → ((is : List ℕ) → f is ≡ entries-by w z is n m) → MakesValues e ns f r → MakesValues e (product_lengths a.lengths b.lengths) (product_entries e a b) r
-    dynamic-gives ns f r lengths each k =
-        values-same ns (product_lengths a.lengths b.lengths) f (product_entries e a b) r lengths
-        (λ is. each is ∙ (ap (λ u. entries-by u z is n m) p ∙ (ap (λ u. entries-by a u is n m) q ∙ (ap (λ t. entries-by a b is t m) (sym left) ∙ ap (entries-by a b is (length a.lengths)) (sym right)))))
-        k

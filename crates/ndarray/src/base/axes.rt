@@ -37,8 +37,15 @@ impl<S: Data, D: Lengths> ArrayBase<S, D> {
 
     /// Whether `slice_axis` may be asked for this: the axis is below the number of axes, the slice
     /// is within its length, and its step is not 0.
-    pub fn slice_ok(&self, axis: Axis, slice: &Slice) -> bool
-        ensures { IsTrue result ↔ ((axis.0 < length self.now.lengths) × IsSliceOf (slice_index self.now.lengths axis.0) slice.now) }
+    ///
+    /// ```
+    /// let second = Slice::new(0, None, 2);
+    /// if a.slice_ok(Axis(1), second) {
+    ///     let columns = a.slice_axis(Axis(1), second);
+    /// }
+    /// ```
+    pub fn slice_ok(&self, axis: Axis, slice: Slice) -> bool
+        ensures { IsTrue result ↔ ((axis.0 < length self.now.lengths) × IsSliceOf (slice_index self.now.lengths axis.0) slice) }
     {
         self.axis_ok(axis) && slice.is_within(self.layout.dim.axis(axis.0))
     }

@@ -1,25 +1,28 @@
 //! Products of arrays whose number of axes is told as the program runs.
 
-ghost use Rattle.std.specs.Prelude.{◌≡◌, ◌≤◌, IfOk, length};
-ghost use Rattle.ndarray.specs.Grid.{IsGrid};
-ghost use Rattle.ndarray.specs.Products.{CanSumInner, HasSumsInRange, MakesValues, ShapesMultiply, column_of, left_matrix, product_entries, product_lengths, product_of, right_matrix, row_of};
+ghost use Rattle.std.specs.Prelude.{◌≡◌};
+ghost use Rattle.ndarray.specs.Dimensions.{held_numbers};
+ghost use Rattle.ndarray.specs.LaneSums.{CanSumLanes, SumsLanes};
+ghost use Rattle.ndarray.specs.Products.{HasLaneSumsInRange, MakesValues, ShapesMultiply, dot_entries, product_lengths};
 
 use crate::base::array::{Array, ArrayBase, ArrayView};
-use crate::base::dimension::{Dimension, Ix1, Ix2, IxDyn, Lengths};
+use crate::base::axis::Axis;
+use crate::base::dimension::{IxDyn, Lengths};
 use crate::base::storage::Data;
 use crate::elements::LinalgScalar;
 use crate::linalg::entries::{Entries, array_of};
 use crate::linalg::inner::inner;
-use crate::linalg::products::Dot;
+use crate::linalg::products::{Dot, product_dim};
+use crate::subviews::lanes::Lanes;
 use std::alloc::{AllocError, Global};
 
 impl<A: LinalgScalar, S: Data<Elem = A>, S2: Data<Elem = A>> Dot<ArrayBase<S2, IxDyn>>
     for ArrayBase<S, IxDyn> {
     type Output = Result<Array<A, IxDyn>, AllocError>;
 
-    ghost can_dot = { λ a b. ShapesMultiply a.lengths b.lengths × HasSumsInRange A.Valued (left_matrix A.Valued a) (right_matrix A.Valued b) };
+    ghost can_dot = { λ a b. ShapesMultiply a.lengths b.lengths × HasLaneSumsInRange A.Valued a b };
 
-    ghost dot_gives = { λ a b r. MakesValues A.Valued (product_lengths a.lengths b.lengths) (product_entries A.Valued a b) r };
+    ghost dot_gives = { λ a b r. MakesValues A.Valued (product_lengths a.lengths b.lengths) (dot_entries A.Valued a b) r };
 
     fn dot(
         &self,
@@ -30,90 +33,43 @@ impl<A: LinalgScalar, S: Data<Elem = A>, S2: Data<Elem = A>> Dot<ArrayBase<S2, I
     }
 }
 
-/// The product of two views of one or two axes each.
+/// The product of two views: the sum of the products of each row of the left and each column of the right.
 fn product<A: LinalgScalar>(
     alloc: Global,
     x: &ArrayView<'_, A, IxDyn>,
     y: &ArrayView<'_, A, IxDyn>,
 ) -> Result<Array<A, IxDyn>, AllocError>
-    requires { ShapesMultiply x.now.lengths y.now.lengths × HasSumsInRange A.Valued (left_matrix A.Valued x.now) (right_matrix A.Valued y.now) }
-    ensures { MakesValues A.Valued (product_lengths x.now.lengths y.now.lengths) (product_entries A.Valued x.now y.now) result }
+    requires shapes { ShapesMultiply x.now.lengths y.now.lengths }
+    requires sums { HasLaneSumsInRange A.Valued x.now y.now }
+    ensures { MakesValues A.Valued (product_lengths x.now.lengths y.now.lengths) (dot_entries A.Valued x.now y.now) result }
 {
-    if x.ndim() == 1 {
-        let left = as_vector(x);
-        if y.ndim() == 1 {
-            let sums = VectorByVector {
-                left,
-                right: as_vector(y),
-            };
-            return array_of(alloc, IxDyn(&[]), sums);
-        }
-        return into_dynamic(Dot::dot(&left, alloc, &as_matrix(y)));
-    }
-    let left = as_matrix(x);
-    if y.ndim() == 1 {
-        return into_dynamic(Dot::dot(&left, alloc, &as_vector(y)));
-    }
-    into_dynamic(Dot::dot(&left, alloc, &as_matrix(y)))
-}
-
-/// An array of one axis as a vector.
-fn as_vector<'a, A>(array: &'a ArrayView<'_, A, IxDyn>) -> ArrayView<'a, A, Ix1>
-    requires { length array.now.lengths ≡ 1 }
-    ensures same { result ≡ array.now }
-    ensures whole { IsGrid result }
-{
-    let Ok(view) = array.view().into_dimensionality() else {
-        unreachable!()
+    let (left, right) = (x.raw_dim(), y.raw_dim());
+    let sums = LaneSums {
+        rows: x.lanes(Axis(left.ndim() - 1)),
+        columns: y.lanes(Axis(right.ndim().saturating_sub(2))),
     };
-    view
+    array_of(alloc, product_dim(left.slice(), right.slice()), sums)
 }
 
-/// An array of two axes as a matrix.
-fn as_matrix<'a, A>(array: &'a ArrayView<'_, A, IxDyn>) -> ArrayView<'a, A, Ix2>
-    requires { length array.now.lengths ≡ 2 }
-    ensures same { result ≡ array.now }
-    ensures whole { IsGrid result }
-{
-    let Ok(view) = array.view().into_dimensionality() else {
-        unreachable!()
-    };
-    view
-}
-
-/// A product whose number of axes is no longer a matter of its type.
-fn into_dynamic<A: Drop, D: Dimension>(
-    made: Result<Array<A, D>, AllocError>,
-) -> Result<Array<A, IxDyn>, AllocError>
-    requires { IfOk made (λ a. length a.lengths ≤ 32) }
-    ensures { result ≡ made }
-{
-    match made {
-        Ok(array) => {
-            let Ok(array) = array.into_dimensionality() else {
-                unreachable!()
-            };
-            Ok(array)
-        }
-        Err(refused) => Err(refused),
-    }
-}
-
-/// The inner sum of two vectors, at the one index list of no axes.
+/// The inner sums of rows and columns, each at the index list of the row and then that of the column.
 #[derive(Drop)]
-struct VectorByVector<'a, 'b, A> {
-    left: ArrayView<'a, A, Ix1>,
-    right: ArrayView<'b, A, Ix1>,
+struct LaneSums<'a, 'b, A> {
+    rows: Lanes<'a, A, IxDyn>,
+    columns: Lanes<'b, A, IxDyn>,
 }
 
-impl<'a, 'b, A: LinalgScalar> Entries<IxDyn> for VectorByVector<'a, 'b, A> {
+impl<'a, 'b, A: LinalgScalar> Entries<IxDyn> for LaneSums<'a, 'b, A> {
     type Elem = A;
 
-    ghost can_compute = { λ s _. CanSumInner A.Valued (row_of A.Valued s.left) (column_of A.Valued s.right) 0 0 × (length s.left.lengths ≡ 1) × (length s.right.lengths ≡ 1) × IsGrid s.left × IsGrid s.right };
+    ghost can_compute = { λ s t. CanSumLanes A.Valued s.rows s.columns (held_numbers t.0) };
 
-    ghost computes = { λ s _ r. A.meaning r ≡ (product_of A.Valued (row_of A.Valued s.left) (column_of A.Valued s.right)).cell 0 0 };
+    ghost computes = { λ s t r. SumsLanes A.Valued s.rows s.columns (held_numbers t.0) r };
 
-    fn entry(&self, _at: IxDyn) -> A {
-        inner(&self.left, &self.right)
+    fn entry(&self, at: IxDyn) -> A {
+        let (row, column) = at.slice().split_at(self.rows.raw_dim().ndim());
+        inner(
+            &self.rows.item(&IxDyn(row)),
+            &self.columns.item(&IxDyn(column)),
+        )
     }
 }

@@ -1,6 +1,6 @@
 //! Kronecker products.
 
-ghost use Rattle.std.specs.Prelude.{◌≡◌, ◌↔◌, IsTrue};
+ghost use Rattle.std.specs.Prelude.{◌≡◌, ◌↔◌, ◌*◌, ◌∷◌, [], IsTrue};
 ghost use Rattle.ndarray.specs.Limits.{IsWithinLimit};
 ghost use Rattle.ndarray.specs.Matrices.{kronecker_product};
 ghost use Rattle.ndarray.specs.Products.{CanMultiplyBlocks, HasProductsInRange, MakesMatrix, kronecker_lengths, matrix_of};
@@ -18,8 +18,15 @@ use std::alloc::{AllocError, Global};
 pub fn kron_ok<S: Data, S2: Data>(a: &ArrayBase<S, Ix2>, b: &ArrayBase<S2, Ix2>) -> bool
     ensures { IsTrue result ↔ IsWithinLimit (kronecker_lengths a.now.lengths b.now.lengths) }
 {
-    let (l, n) = a.raw_dim().into_pattern();
-    let (m, r) = b.raw_dim().into_pattern();
+    lengths_multiply(a.raw_dim().into_pattern(), b.raw_dim().into_pattern())
+}
+
+/// Whether the lengths of two matrices, multiplied, are within the limit: those that are not 0 multiply to at most `isize::MAX`.
+pub(crate) fn lengths_multiply(left: (usize, usize), right: (usize, usize)) -> bool
+    ensures { IsTrue result ↔ IsWithinLimit (left.0 * right.0 ∷ left.1 * right.1 ∷ []) }
+{
+    let (l, n) = left;
+    let (m, r) = right;
     let Some(rows) = l.checked_mul(m) else {
         return false;
     };

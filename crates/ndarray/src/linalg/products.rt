@@ -1,19 +1,20 @@
 //! Products of vectors and matrices by `dot`.
 
-ghost use Rattle.std.specs.Prelude.{◌≡◌, ◌↔◌, IsTrue};
-ghost use Rattle.ndarray.specs.Limits.{IsWithinLimit};
-ghost use Rattle.ndarray.specs.Products.{HasSumsInRange, MakesColumn, MakesMatrix, MakesRow, ShapesMultiply, column_of, matrix_of, product_of, products_of, row_of};
+ghost use Rattle.std.specs.Prelude.{◌≡◌, ◌↔◌, ◌+◌, ◌++◌, ◌≤◌, IsTrue, length};
+ghost use Rattle.ndarray.specs.Dimensions.{held_numbers};
+ghost use Rattle.ndarray.specs.Products.{HasSumsInRange, MakesColumn, MakesMatrix, MakesRow, ShapesMultiply, column_of, matrix_of, product_lengths, product_of, products_of, row_of};
 ghost use Rattle.ndarray.specs.Sums.{IsSummable, total};
 
 use crate::base::array::{Array, ArrayBase};
-use crate::base::dimension::{Dimension, Ix1, Ix2, Lengths};
+use crate::base::dimension::{Dimension, Ix1, Ix2, IxDyn, Lengths};
 use crate::base::storage::Data;
 use crate::elements::LinalgScalar;
 use crate::linalg::entries::array_of;
 use crate::linalg::inner::{RowsByColumns, RowsByVector, VectorByColumns, inner};
+use arrayvec::ArrayVec;
 use std::alloc::{AllocError, Global};
 
-/// What has a product with `Rhs`: vectors and matrices, with vectors and matrices.
+/// What has a product with `Rhs`: vectors and matrices, with vectors and matrices, and arrays of `IxDyn` with an axis or more.
 pub trait Dot<Rhs> {
     /// The product: an element for two vectors, else an array or allocation failure.
     type Output;
@@ -30,15 +31,20 @@ pub trait Dot<Rhs> {
     /// vector (m), of a vector and a matrix (n), and of two vectors it is a number (an array of no axes where the vectors are
     /// `IxDyn`).
     ///
+    /// Of `IxDyn` each side may have any number of axes but none. The left's last axis meets the right's last but one, or its
+    /// only one; the product has the left's other axes, then the right's other axes. Each cell is the sum of the products of the
+    /// two lanes that meet there: of a (2, 3, 4) and a (5, 4, 6) array the product has lengths (2, 3, 5, 6).
+    ///
     /// Requires shapes that multiply, which [`dot_ok`] tells, and that of the products of each inner sum every selection
-    /// has its sum in range, for which `dot_fits` of each row and column is enough.
+    /// has its sum in range, for which `dot_fits` of each row and column is enough (of each two lanes that meet, of `IxDyn`).
     fn dot(&self, alloc: Global, rhs: &Rhs) -> Self::Output
         requires { can_dot self.now rhs.now }
         ensures { dot_gives self.now rhs.now result };
 }
 
-/// Whether two arrays have a product: each has one or two axes, the last length of the left is the first length of the right, and
-/// the lengths of the product that are not 0 multiply to at most `isize::MAX`.
+/// Whether two arrays have a product: each has an axis, the last length of the left is the last but one of the right (its only
+/// one where it has one axis), and the product has at most 32 axes, whose lengths that are not 0 multiply to at most
+/// `isize::MAX`.
 pub fn dot_ok<S: Data, S2: Data, D: Lengths, E: Lengths>(
     left: &ArrayBase<S, D>,
     right: &ArrayBase<S2, E>,
@@ -51,18 +57,38 @@ pub fn dot_ok<S: Data, S2: Data, D: Lengths, E: Lengths>(
 
 /// Whether lengths are those of two arrays that have a product.
 fn shapes_multiply(ns: &[usize], ms: &[usize]) -> bool
-    requires left { IsWithinLimit ns.now }
-    requires right { IsWithinLimit ms.now }
     ensures { IsTrue result ↔ ShapesMultiply ns.now ms.now }
 {
     let (n, m) = (ns.len(), ms.len());
-    if n == 0 || n > 2 || m == 0 || m > 2 || ns[n - 1] != ms[0] {
+    if n == 0 || m == 0 || n > 33 || m > 33 || n + m > 34 {
         return false;
     }
-    if n == 1 || m == 1 {
-        return true;
-    }
-    Ix2(ns[0], ms[1]).size_ok()
+    ns[n - 1] == ms[m.saturating_sub(2)] && product_dim(ns, ms).size_ok()
+}
+
+/// The lengths of the product of two arrays.
+pub(crate) fn product_dim(ns: &[usize], ms: &[usize]) -> IxDyn
+    requires left { 1 ≤ length ns.now }
+    requires right { 1 ≤ length ms.now }
+    requires axes { length (product_lengths ns.now ms.now) ≤ 32 }
+    ensures { held_numbers result.0 ≡ product_lengths ns.now ms.now }
+{
+    let inner = ms.len().saturating_sub(2);
+    let mut lengths = ArrayVec::new();
+    append(&mut lengths, &ns[..ns.len() - 1]);
+    append(&mut lengths, &ms[..inner]);
+    append(&mut lengths, &ms[inner + 1..]);
+    IxDyn(lengths.as_slice())
+}
+
+/// Appends lengths. Requires at most 32 in all.
+fn append(lengths: &mut ArrayVec<usize, 32>, more: &[usize])
+    requires { length lengths.old.items + length more.now ≤ 32 }
+    ensures { lengths.new.items ≡ lengths.old.items ++ more.now }
+{
+    let Ok(()) = lengths.try_extend_from_slice(more) else {
+        unreachable!()
+    };
 }
 
 impl<A: LinalgScalar, S: Data<Elem = A>, S2: Data<Elem = A>> Dot<ArrayBase<S2, Ix1>>

@@ -162,6 +162,23 @@ where
     }
 }
 
+impl<'b, A, B, S, D, E> AddAssign<ArrayView<'b, B, E>> for ArrayBase<S, D>
+where
+    A: Copy + AddAssign<B>,
+    B: Copy,
+    S: DataMut<Elem = A>,
+    D: Lengths,
+    E: Lengths,
+{
+    ghost can_add_assign = { λ a b. CanAssign A.can_add_assign a b };
+
+    ghost add_assign_gives = { λ a b r. Assigns A.add_assign_gives a b r };
+
+    fn add_assign(&mut self, rhs: ArrayView<'b, B, E>) {
+        assign::<AdditionAssign, A, B, _, _, D, E>(self, &rhs)
+    }
+}
+
 impl<A, S, D> AddAssign<A> for ArrayBase<S, D>
 where
     A: ScalarOperand + Copy + AddAssign<A>,

@@ -162,6 +162,23 @@ where
     }
 }
 
+impl<'b, A, B, S, D, E> BitAndAssign<ArrayView<'b, B, E>> for ArrayBase<S, D>
+where
+    A: Copy + BitAndAssign<B>,
+    B: Copy,
+    S: DataMut<Elem = A>,
+    D: Lengths,
+    E: Lengths,
+{
+    ghost can_bitand_assign = { λ a b. CanAssign A.can_bitand_assign a b };
+
+    ghost bitand_assign_gives = { λ a b r. Assigns A.bitand_assign_gives a b r };
+
+    fn bitand_assign(&mut self, rhs: ArrayView<'b, B, E>) {
+        assign::<ConjunctionAssign, A, B, _, _, D, E>(self, &rhs)
+    }
+}
+
 impl<A, S, D> BitAndAssign<A> for ArrayBase<S, D>
 where
     A: ScalarOperand + Copy + BitAndAssign<A>,

@@ -162,6 +162,23 @@ where
     }
 }
 
+impl<'b, A, B, S, D, E> BitOrAssign<ArrayView<'b, B, E>> for ArrayBase<S, D>
+where
+    A: Copy + BitOrAssign<B>,
+    B: Copy,
+    S: DataMut<Elem = A>,
+    D: Lengths,
+    E: Lengths,
+{
+    ghost can_bitor_assign = { λ a b. CanAssign A.can_bitor_assign a b };
+
+    ghost bitor_assign_gives = { λ a b r. Assigns A.bitor_assign_gives a b r };
+
+    fn bitor_assign(&mut self, rhs: ArrayView<'b, B, E>) {
+        assign::<DisjunctionAssign, A, B, _, _, D, E>(self, &rhs)
+    }
+}
+
 impl<A, S, D> BitOrAssign<A> for ArrayBase<S, D>
 where
     A: ScalarOperand + Copy + BitOrAssign<A>,

@@ -162,6 +162,23 @@ where
     }
 }
 
+impl<'b, A, B, S, D, E> BitXorAssign<ArrayView<'b, B, E>> for ArrayBase<S, D>
+where
+    A: Copy + BitXorAssign<B>,
+    B: Copy,
+    S: DataMut<Elem = A>,
+    D: Lengths,
+    E: Lengths,
+{
+    ghost can_bitxor_assign = { λ a b. CanAssign A.can_bitxor_assign a b };
+
+    ghost bitxor_assign_gives = { λ a b r. Assigns A.bitxor_assign_gives a b r };
+
+    fn bitxor_assign(&mut self, rhs: ArrayView<'b, B, E>) {
+        assign::<ExclusiveDisjunctionAssign, A, B, _, _, D, E>(self, &rhs)
+    }
+}
+
 impl<A, S, D> BitXorAssign<A> for ArrayBase<S, D>
 where
     A: ScalarOperand + Copy + BitXorAssign<A>,

@@ -162,6 +162,23 @@ where
     }
 }
 
+impl<'b, A, B, S, D, E> DivAssign<ArrayView<'b, B, E>> for ArrayBase<S, D>
+where
+    A: Copy + DivAssign<B>,
+    B: Copy,
+    S: DataMut<Elem = A>,
+    D: Lengths,
+    E: Lengths,
+{
+    ghost can_div_assign = { λ a b. CanAssign A.can_div_assign a b };
+
+    ghost div_assign_gives = { λ a b r. Assigns A.div_assign_gives a b r };
+
+    fn div_assign(&mut self, rhs: ArrayView<'b, B, E>) {
+        assign::<DivisionAssign, A, B, _, _, D, E>(self, &rhs)
+    }
+}
+
 impl<A, S, D> DivAssign<A> for ArrayBase<S, D>
 where
     A: ScalarOperand + Copy + DivAssign<A>,

@@ -162,6 +162,23 @@ where
     }
 }
 
+impl<'b, A, B, S, D, E> MulAssign<ArrayView<'b, B, E>> for ArrayBase<S, D>
+where
+    A: Copy + MulAssign<B>,
+    B: Copy,
+    S: DataMut<Elem = A>,
+    D: Lengths,
+    E: Lengths,
+{
+    ghost can_mul_assign = { λ a b. CanAssign A.can_mul_assign a b };
+
+    ghost mul_assign_gives = { λ a b r. Assigns A.mul_assign_gives a b r };
+
+    fn mul_assign(&mut self, rhs: ArrayView<'b, B, E>) {
+        assign::<MultiplicationAssign, A, B, _, _, D, E>(self, &rhs)
+    }
+}
+
 impl<A, S, D> MulAssign<A> for ArrayBase<S, D>
 where
     A: ScalarOperand + Copy + MulAssign<A>,

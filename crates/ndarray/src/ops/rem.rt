@@ -162,6 +162,23 @@ where
     }
 }
 
+impl<'b, A, B, S, D, E> RemAssign<ArrayView<'b, B, E>> for ArrayBase<S, D>
+where
+    A: Copy + RemAssign<B>,
+    B: Copy,
+    S: DataMut<Elem = A>,
+    D: Lengths,
+    E: Lengths,
+{
+    ghost can_rem_assign = { λ a b. CanAssign A.can_rem_assign a b };
+
+    ghost rem_assign_gives = { λ a b r. Assigns A.rem_assign_gives a b r };
+
+    fn rem_assign(&mut self, rhs: ArrayView<'b, B, E>) {
+        assign::<RemainderAssign, A, B, _, _, D, E>(self, &rhs)
+    }
+}
+
 impl<A, S, D> RemAssign<A> for ArrayBase<S, D>
 where
     A: ScalarOperand + Copy + RemAssign<A>,

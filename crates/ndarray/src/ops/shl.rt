@@ -162,6 +162,23 @@ where
     }
 }
 
+impl<'b, A, B, S, D, E> ShlAssign<ArrayView<'b, B, E>> for ArrayBase<S, D>
+where
+    A: Copy + ShlAssign<B>,
+    B: Copy,
+    S: DataMut<Elem = A>,
+    D: Lengths,
+    E: Lengths,
+{
+    ghost can_shl_assign = { λ a b. CanAssign A.can_shl_assign a b };
+
+    ghost shl_assign_gives = { λ a b r. Assigns A.shl_assign_gives a b r };
+
+    fn shl_assign(&mut self, rhs: ArrayView<'b, B, E>) {
+        assign::<LeftShiftAssign, A, B, _, _, D, E>(self, &rhs)
+    }
+}
+
 impl<A, S, D> ShlAssign<A> for ArrayBase<S, D>
 where
     A: ScalarOperand + Copy + ShlAssign<A>,

@@ -162,6 +162,23 @@ where
     }
 }
 
+impl<'b, A, B, S, D, E> ShrAssign<ArrayView<'b, B, E>> for ArrayBase<S, D>
+where
+    A: Copy + ShrAssign<B>,
+    B: Copy,
+    S: DataMut<Elem = A>,
+    D: Lengths,
+    E: Lengths,
+{
+    ghost can_shr_assign = { λ a b. CanAssign A.can_shr_assign a b };
+
+    ghost shr_assign_gives = { λ a b r. Assigns A.shr_assign_gives a b r };
+
+    fn shr_assign(&mut self, rhs: ArrayView<'b, B, E>) {
+        assign::<RightShiftAssign, A, B, _, _, D, E>(self, &rhs)
+    }
+}
+
 impl<A, S, D> ShrAssign<A> for ArrayBase<S, D>
 where
     A: ScalarOperand + Copy + ShrAssign<A>,

@@ -162,6 +162,23 @@ where
     }
 }
 
+impl<'b, A, B, S, D, E> SubAssign<ArrayView<'b, B, E>> for ArrayBase<S, D>
+where
+    A: Copy + SubAssign<B>,
+    B: Copy,
+    S: DataMut<Elem = A>,
+    D: Lengths,
+    E: Lengths,
+{
+    ghost can_sub_assign = { λ a b. CanAssign A.can_sub_assign a b };
+
+    ghost sub_assign_gives = { λ a b r. Assigns A.sub_assign_gives a b r };
+
+    fn sub_assign(&mut self, rhs: ArrayView<'b, B, E>) {
+        assign::<SubtractionAssign, A, B, _, _, D, E>(self, &rhs)
+    }
+}
+
 impl<A, S, D> SubAssign<A> for ArrayBase<S, D>
 where
     A: ScalarOperand + Copy + SubAssign<A>,

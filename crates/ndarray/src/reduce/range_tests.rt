@@ -157,6 +157,17 @@ fn dot_stays_in_range<A: IntegerElem>(x: &ArrayView<'_, A, Ix1>, y: &ArrayView<'
     if n != m {
         return false;
     }
+    inner_stays_in_range(x, y)
+}
+
+/// Whether the absolute values of the products of two arrays' cells, one after another in row order, add up to at most the type's greatest number.
+pub(crate) fn inner_stays_in_range<A: IntegerElem, D: Lengths>(
+    x: &ArrayView<'_, A, D>,
+    y: &ArrayView<'_, A, D>,
+) -> bool
+    ensures magnitudes { IsTrue result ↔ A.fits (pos (magnitude_sum (products_of int_products A.value x.now.cells y.now.cells))) }
+    ensures selections { IsTrue result → IsSummable int_sums A.fits (products_of int_products A.value x.now.cells y.now.cells) }
+{
     let mut sum = A::zero();
     let mut pairs = PairRun {
         first: x.iter(),

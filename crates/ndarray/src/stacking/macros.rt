@@ -1,7 +1,7 @@
 //! The macros `concatenate!` and `stack!`.
 
-/// Joins arrays or views along an axis: `concatenate![alloc, axis, a, b, ..]` is [`concatenate`](crate::concatenate) of
-/// their views, and has its error.
+/// Joins arrays, views and references to them along an axis: `concatenate![alloc, axis, a, b, ..]` is
+/// [`concatenate`](crate::concatenate) of their views, and has its error.
 ///
 /// A last comma is allowed.
 ///
@@ -11,12 +11,12 @@
 #[macro_export]
 macro_rules! concatenate {
     ($alloc:expr, $axis:expr, $($array:expr),+ $(,)?) => {
-        $crate::concatenate($alloc, $axis, &[$($crate::ArrayView::from(&$array)),+])
+        $crate::concatenate($alloc, $axis, &[$($array.view()),+])
     };
 }
 
-/// Stacks arrays or views along a new axis: `stack![alloc, axis, a, b, ..]` is [`stack`](crate::stack) of their views,
-/// and has its error.
+/// Stacks arrays, views and references to them along a new axis: `stack![alloc, axis, a, b, ..]` is
+/// [`stack`](crate::stack) of their views, and has its error.
 ///
 /// A last comma is allowed.
 ///
@@ -26,6 +26,6 @@ macro_rules! concatenate {
 #[macro_export]
 macro_rules! stack {
     ($alloc:expr, $axis:expr, $($array:expr),+ $(,)?) => {
-        $crate::stack($alloc, $axis, &[$($crate::ArrayView::from(&$array)),+])
+        $crate::stack($alloc, $axis, &[$($array.view()),+])
     };
 }

@@ -1,6 +1,10 @@
 //! Functions that write to the cells of arrays, whatever keeps them. Each loop stands in a function of its own over an
 //! iterator, and what is held to write in one over any iterator, where what keeps the cells is no parameter.
 
+ghost use Rattle.std.specs.Prelude.{◌≡◌, ◌≢◌, ◌↔◌, ◌∷◌, [], ℕ, List, Some, IsTrue};
+ghost use Rattle.ndarray.specs.Grid.{IsGrid, cell};
+ghost use Rattle.ndarray.specs.Index.{InBox};
+
 use ndarray::iter::{AxisChunksIterMut, AxisIterMut, LanesMut};
 use ndarray::zip::{One, Parts};
 use ndarray::{
@@ -9,6 +13,29 @@ use ndarray::{
 };
 use std::alloc::AllocError;
 use std::mem;
+
+/// Writes a value into a cell of a table; or returns `false` where there is no such cell.
+pub fn set_cell<S: DataMut<Elem = i64>>(
+    table: &mut ArrayBase<S, Ix2>,
+    row: usize,
+    column: usize,
+    value: i64,
+) -> bool
+    ensures inside { IsTrue result ↔ InBox table.old.lengths (row ∷ column ∷ []) }
+    ensures lengths { table.new.lengths ≡ table.old.lengths }
+    ensures whole { IsGrid table.new }
+    ensures written { IsTrue result → cell table.new (row ∷ column ∷ []) ≡ Some value }
+    ensures others { (is : List ℕ) → is ≢ (row ∷ column ∷ []) → cell table.new is ≡ cell table.old is }
+{
+    let _whole = table.raw_dim();
+    match table.get_mut((row, column)) {
+        Some(cell) => {
+            *cell = value;
+            true
+        }
+        None => false,
+    }
+}
 
 /// Writes a value into the first cell of a lane.
 fn begin<A: Copy>(lane: &mut ArrayViewMut1<'_, A>, value: A) {

@@ -5,6 +5,7 @@ use crate::rows::layouts::{Layout, Table, cut};
 use crate::rows::stepping::step_forward;
 use crate::rows::steps::Step;
 use crate::rows::text::as_text;
+use crate::rows::updating::update;
 use crate::rows::{reading, spelling, writing};
 use ndarray::iter::IntoIter;
 use ndarray::{Array, CowArray, IxDyn, Lengths, ShapeBuilder};
@@ -157,6 +158,7 @@ fn write(alloc: Global, given: Array<i64, IxDyn>, calls: &[&str]) -> Result<Stri
     let mut array = given;
     let ending = match call {
         WriteCall::GetMut(at, value) => writing::set(alloc, &mut array, at, value)?,
+        WriteCall::Update(call) => update(alloc, &mut array, call),
         call => writing::write_call(alloc, &mut array.view_mut(), call, steps.as_slice())?,
     };
     writing::show_ending(alloc, &array.view(), ending)

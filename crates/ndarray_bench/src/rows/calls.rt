@@ -1,6 +1,7 @@
 //! The calls of a row, as its words spell them.
 
 use crate::rows::spelling::{cell, index, numbers, shape, slice_of_axis, two_shapes};
+use crate::rows::updating::UpdateCall;
 use ndarray::{Axis, IxDyn, Lengths, Slice};
 use std::alloc::{AllocError, Global};
 
@@ -152,9 +153,12 @@ pub enum Cells {
 }
 
 impl Cells {
-    /// The call of this name.
-    pub fn parse(name: &str) -> Option<Cells> {
-        match name {
+    /// The call that these words spell, of which none has arguments.
+    pub fn parse(words: &[&str]) -> Option<Cells> {
+        let [name] = words else {
+            return None;
+        };
+        match *name {
             "iter" => Some(Cells::Iter),
             "indexed_iter" => Some(Cells::IndexedIter),
             "into_iter" => Some(Cells::IntoIter),
@@ -170,6 +174,7 @@ impl Cells {
 pub enum WriteCall {
     GetMut(IxDyn, i64),
     SplitAt(Axis, usize),
+    Update(UpdateCall),
     Cells(CellsMut),
     Pieces(Pieces),
     // These two take the view.
@@ -194,11 +199,12 @@ impl WriteCall {
         match *name {
             "get_mut" => WriteCall::get_mut(alloc, arguments),
             "split_at" => Ok(WriteCall::split_at(arguments)),
-            "mut_into_iter" => Ok(Some(WriteCall::Cells(CellsMut::MutIntoIter))),
-            "into_iter" => Ok(Some(WriteCall::IntoIter)),
-            name => match name.strip_suffix("_mut") {
-                Some(stem) => WriteCall::to_items(alloc, stem, arguments),
-                None => Ok(None),
+            "update" | "scan_lanes" | "shift_lanes" => {
+                Ok(UpdateCall::parse(*name, arguments).map(WriteCall::Update))
+            }
+            name => match WriteCall::to_cells(name) {
+                Some(call) if arguments.is_empty() => Ok(Some(call)),
+                _ => WriteCall::to_pieces(alloc, name, arguments),
             },
         }
     }
@@ -227,17 +233,27 @@ impl WriteCall {
         }
     }
 
-    /// The call whose name is this one with `_mut`.
-    fn to_items(
+    /// The call of this name without arguments, which yields cells.
+    fn to_cells(name: &str) -> Option<WriteCall> {
+        match name {
+            "mut_into_iter" => Some(WriteCall::Cells(CellsMut::MutIntoIter)),
+            "into_iter" => Some(WriteCall::IntoIter),
+            "iter_mut" => Some(WriteCall::Cells(CellsMut::IterMut)),
+            "indexed_iter_mut" => Some(WriteCall::Cells(CellsMut::IndexedIterMut)),
+            "elements_base_mut" => Some(WriteCall::ElementsBaseMut),
+            _ => None,
+        }
+    }
+
+    /// The call of this name, which ends with `_mut` and yields subviews.
+    fn to_pieces(
         alloc: Global,
-        stem: &str,
+        name: &str,
         arguments: &[&str],
     ) -> Result<Option<WriteCall>, AllocError> {
-        match stem {
-            "iter" => Ok(Some(WriteCall::Cells(CellsMut::IterMut))),
-            "indexed_iter" => Ok(Some(WriteCall::Cells(CellsMut::IndexedIterMut))),
-            "elements_base" => Ok(Some(WriteCall::ElementsBaseMut)),
-            stem => Ok(Pieces::parse(alloc, stem, arguments)?.map(WriteCall::Pieces)),
+        match name.strip_suffix("_mut") {
+            Some(stem) => Ok(Pieces::parse(alloc, stem, arguments)?.map(WriteCall::Pieces)),
+            None => Ok(None),
         }
     }
 }

@@ -126,7 +126,7 @@ impl<'a> Item for (IxDyn, &'a mut i64) {
 }
 
 /// The number with these digits.
-fn digits(index: &[usize]) -> i64 {
+pub fn digits(index: &[usize]) -> i64 {
     let mut number = 0i64;
     for digit in index {
         number = number

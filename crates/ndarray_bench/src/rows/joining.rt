@@ -36,7 +36,10 @@ pub fn answer(
     };
     match table.view() {
         Ok(view) => match apply_all(view, views) {
-            Some(view) => in_each_layout(alloc, &view, call, words, others).map(Some),
+            Some(view) if call.takes(words, others) => {
+                in_each_layout(alloc, &view, call, words, others).map(Some)
+            }
+            Some(_) => Ok(None),
             None => "refused".to_string(alloc).map(Some),
         },
         Err(error) => kind(alloc, &error).map(Some),
@@ -61,6 +64,14 @@ impl JoinCall {
             "triu" => Some(JoinCall::Triu(whole_number(argument)?)),
             "tril" => Some(JoinCall::Tril(whole_number(argument)?)),
             _ => None,
+        }
+    }
+
+    /// Whether the call takes further tables: the words of the first, and the others.
+    fn takes(self, first: &[&str], others: &[&str]) -> bool {
+        match self {
+            JoinCall::Concatenate(_) | JoinCall::Stack(_) => !first.is_empty() || others.is_empty(),
+            JoinCall::Triu(_) | JoinCall::Tril(_) => first.is_empty() && others.is_empty(),
         }
     }
 }

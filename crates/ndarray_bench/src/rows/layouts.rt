@@ -140,7 +140,7 @@ fn arrange(
 pub fn cut<S: Data>(array: &mut ArrayBase<S, IxDyn>, layout: Layout) {
     let second = Slice::new(0, None, 2);
     for axis in 0..array.ndim() {
-        if layout == Layout::Stepped && array.slice_ok(Axis(axis), &second) {
+        if layout == Layout::Stepped && array.slice_ok(Axis(axis), second) {
             array.slice_axis_inplace(Axis(axis), second);
         }
         if layout == Layout::Reversed && array.axis_ok(Axis(axis)) {

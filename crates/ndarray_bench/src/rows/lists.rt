@@ -148,6 +148,12 @@ fn nth_window<'b>(view: &'b View<'_>, pieces: &Pieces, number: usize) -> Option<
         Pieces::AxisWindows(axis, window) if view.chunk_ok(*axis, *window) => {
             view.axis_windows(*axis, *window).into_iter().nth(number)
         }
+        Pieces::AxisWindowsWithStride(axis, window, stride)
+            if view.chunk_ok(*axis, *window) && view.chunk_ok(*axis, *stride) => {
+            view.axis_windows_with_stride(*axis, *window, *stride)
+                .into_iter()
+                .nth(number)
+        }
         _ => None,
     }
 }

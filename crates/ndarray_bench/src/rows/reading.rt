@@ -130,7 +130,7 @@ fn part_of<'b>(view: &'b View<'_>, call: PartCall) -> Option<View<'b>> {
     match call {
         PartCall::View => Some(view.view()),
         PartCall::Transposed => Some(view.t()),
-        PartCall::SliceAxis(axis, slice) if view.slice_ok(axis, &slice) => {
+        PartCall::SliceAxis(axis, slice) if view.slice_ok(axis, slice) => {
             Some(view.slice_axis(axis, slice))
         }
         PartCall::IndexAxis(axis, index) if view.axis_ok(axis) && index < view.len_of(axis) => {
@@ -170,7 +170,7 @@ fn step_through(
     ) else {
         return Ok(Ending::Unknown);
     };
-    if let Some(call) = Cells::parse(*name) {
+    if let Some(call) = Cells::parse(words) {
         return lists::cells(alloc, view, call, steps.as_slice());
     }
     match Pieces::parse(alloc, *name, arguments)? {
@@ -220,7 +220,7 @@ fn apply_in_place<S: Data>(
             if view.axis_ok(Axis(first)) && view.axis_ok(Axis(second)) => {
             view.swap_axes(first, second)
         }
-        ViewCall::SliceAxisInplace(axis, slice) if view.slice_ok(axis, &slice) => {
+        ViewCall::SliceAxisInplace(axis, slice) if view.slice_ok(axis, slice) => {
             view.slice_axis_inplace(axis, slice)
         }
         _ => return None,

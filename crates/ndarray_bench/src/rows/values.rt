@@ -106,7 +106,7 @@ fn of_two(
 /// What `slice_ok` answers of a spelled slice.
 fn slice_fits(view: &View<'_>, words: &[&str]) -> Option<bool> {
     let (axis, slice) = slice_of_axis(words)?;
-    Some(view.slice_ok(axis, &slice))
+    Some(view.slice_ok(axis, slice))
 }
 
 /// What `chunks_ok` answers of spelled lengths.

@@ -7,6 +7,7 @@ use crate::rows::reading::{View, apply_all, kind};
 use crate::rows::stepping::{Ending, step_both_ends, step_forward};
 use crate::rows::steps::Step;
 use crate::rows::text::push_view;
+use crate::rows::updating::update;
 use ndarray::iter::ElementsBaseMut;
 use ndarray::{Array, ArrayBase, ArrayViewMut, Axis, DataMut, IxDyn, Lengths, Slice};
 use std::alloc::{AllocError, Global};
@@ -121,15 +122,18 @@ fn write_in(
     calls: Calls,
 ) -> Result<String, AllocError> {
     let mut array = given;
-    let outside = count_hidden(&array);
+    let everywhere = array.len();
     let mut view = array.view_mut();
     cut(&mut view, layout);
+    let inside = view.len();
     let ending = write_part(alloc, view, calls)?;
-    if count_hidden(&array) != outside {
+    let hidden = count_hidden(&array.view());
+    cut(&mut array, layout);
+    let table = array.view();
+    if hidden.wrapping_sub(count_hidden(&table)) != everywhere.wrapping_sub(inside) {
         return "a place outside the table is written".to_string(alloc);
     }
-    cut(&mut array, layout);
-    show_ending(alloc, &array.view(), ending)
+    show_ending(alloc, &table, ending)
 }
 
 /// What a table holds after the calls and the answers of the steps, or why they ended.
@@ -151,10 +155,10 @@ fn show_table(alloc: Global, table: &View<'_>, answers: &str) -> Result<String, 
     Ok(text)
 }
 
-/// How many places hold what lies outside a table.
-fn count_hidden(array: &Array<i64, IxDyn>) -> usize {
+/// How many cells hold what lies outside a table.
+fn count_hidden(array: &View<'_>) -> usize {
     let mut count = 0usize;
-    for cell in array {
+    for cell in array.iter() {
         if *cell == HIDDEN {
             count = count.wrapping_add(1);
         }
@@ -186,7 +190,7 @@ fn part_of<'b>(view: &'b mut ViewMut<'_>, call: PartCall) -> Option<ViewMut<'b>>
 
 /// A slice of an axis of a view; `None` where its test says no.
 fn slice_of<'b>(view: &'b mut ViewMut<'_>, axis: Axis, slice: Slice) -> Option<ViewMut<'b>> {
-    if view.slice_ok(axis, &slice) {
+    if view.slice_ok(axis, slice) {
         Some(view.slice_axis_mut(axis, slice))
     } else {
         None
@@ -237,6 +241,7 @@ pub fn write_call(
     match call {
         WriteCall::GetMut(at, value) => set(alloc, view, at, value),
         WriteCall::SplitAt(axis, index) => Ok(write_both(alloc, view.view_mut(), axis, index)),
+        WriteCall::Update(call) => Ok(update(alloc, view, call)),
         WriteCall::Cells(call) => write_cells(alloc, view, call, steps),
         WriteCall::Pieces(pieces) => write_pieces(alloc, view, pieces, steps),
         WriteCall::IntoIter | WriteCall::ElementsBaseMut => Ok(Ending::Unknown),

@@ -1,4 +1,6 @@
-use Rattle.std.proofs.Common.{◌≡◌, ◌≢◌, ◌∙◌, [], ◌∷◌, ap, sym, arith}
+use Rattle.std.proofs.Common.{◌≡◌, ◌≢◌, ◌∙◌, Option, Some, ap, sym, arith}
+use Rattle.ndarray.proofs.callers.Elementwise.{array_by-follows}
+use Rattle.ndarray_bench.specs.Callers.{residue}
 use Rattle.ndarray_bench.specs.Residue.{Below, modulus_pos, residue_of, residue_products, residue_sums}
 use Rattle.ndarray_bench.proofs.callers.add_product.Goals as goal
 
@@ -18,7 +20,16 @@ added-once one other old s new e k f =
     ∙ ap (λ t. plus.op t (times.op one s)) (ap (times.op old) k ∙ times.commutes old times.unit ∙ times.unit_op old)
     ∙ ap (plus.op old) (ap (λ t. times.op t s) e ∙ times.unit_op s)
 
+-- the same of the value at an index list
+added-there : (o : Option (Below 5)) (one other old s new : Below 5) → o ≡ Some old → one ≡ (residue_products 5 (modulus_pos 5)).unit → other ≡ (residue_products 5 (modulus_pos 5)).unit
+    → new ≡ (residue_sums 5 (modulus_pos 5)).op ((residue_products 5 (modulus_pos 5)).op old other) ((residue_products 5 (modulus_pos 5)).op one s)
+    → new ≡ (residue_sums 5 (modulus_pos 5)).op (residue o) s
+added-there o one other old s new at e k f = added-once one other old s new e k f ∙ ap (λ t. (residue_sums 5 (modulus_pos 5)).op (residue t) s) (sym at)
+
 pub returns-clause-sum : goal.returns-clause-sum
-returns-clause-sum c = λ _ i j z there.
-    let (x, at, added) = c.general_mat_mul.ensures.cells (i ∷ j ∷ []) z there in
-    (x, at, added-once c.one.result c.one-2.result x _ z c.one.ensures c.one-2.ensures (added.some (one-not-zero c.one-2.result c.one-2.ensures)))
+returns-clause-sum c = λ _.
+    let made = c.general_mat_mul.ensures in
+    array_by-follows _ _ _ made.whole made.lengths
+    (λ is z there.
+    let (x, at, added) = made.cells is z there in
+    added-there _ c.one.result c.one-2.result x _ z at c.one.ensures c.one-2.ensures (added.some (one-not-zero c.one-2.result c.one-2.ensures)))

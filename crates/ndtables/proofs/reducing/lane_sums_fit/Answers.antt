@@ -1,21 +1,19 @@
 use Rattle.std.proofs.Common.{rules, ℤ, ◌∙◌, refl, sym, subst, pos}
-use Rattle.std.specs.Prelude.{FitsSigned, IsTrue, ◌↔◌}
+use Rattle.std.specs.Prelude.{FitsSigned}
 use Rattle.std.specs.Int.{w64}
-use Rattle.ndarray.specs.Elementwise.{CanMap}
 use Rattle.ndarray.specs.Grid.{Grid}
 use Rattle.ndarray.specs.Integers.{int_sums}
 use Rattle.ndarray.specs.Sums.{IsSummable}
 use Rattle.ndtables.proofs.EmptyLanes.{empty-lanes}
-use Rattle.ndtables.proofs.TestedCells.{tested-cells}
+use Rattle.ndarray.proofs.callers.Testing.{tested-cells}
 use Rattle.ndtables.proofs.reducing.lane_sums_fit.Goals as goal
 
 pub returns : goal.returns
 returns c =
     let fits = λ (lane : Grid ℤ). IsSummable int_sums (FitsSigned w64) lane.cells in
     let (o, ran) = c.all.ensures.ran in
-    let told = tested-cells _ _ _ _ fits c.from.result.nested o c.all.result ran (λ is k turn. (search rules, (turn.0, turn.1, search (rules, turn.2)))) in
-    subst (λ lanes. IsTrue c.all.result ↔ CanMap fits lanes) (c.from.ensures ∙ c.lanes.ensures)
-    (told (λ is stop. (stop.2.0, (stop.0, stop.1, λ fit. absurd (search (rules, stop.2.1.1, fit))))) (λ end. end))
+    let told = tested-cells _ _ _ _ fits _ c.from.result.nested (c.from.ensures ∙ c.lanes.ensures) o c.all.result ran (λ is k turn. (search rules, (turn.0, turn.1, search (rules, turn.2)))) in
+    told (λ is stop. (stop.2.0, (stop.0, stop.1, λ fit. absurd (search (rules, stop.2.1.1, fit))))) (λ end. end)
 
 pub returns-then-len-eq0 : goal.returns-then-len-eq0
 returns-then-len-eq0 c =

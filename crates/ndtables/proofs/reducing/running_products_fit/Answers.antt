@@ -1,20 +1,17 @@
-use Rattle.std.proofs.Common.{rules, ℤ, ◌∙◌, refl, sym, subst}
-use Rattle.std.specs.Prelude.{IsTrue, ◌↔◌}
-use Rattle.ndarray.specs.Elementwise.{CanMap}
+use Rattle.std.proofs.Common.{rules, ℤ, ◌∙◌, refl, sym}
 use Rattle.ndarray.specs.Grid.{Grid}
 use Rattle.ndtables.specs.Reducing.{CanCumulateList}
 use Rattle.ndtables.proofs.EmptyLanes.{empty-lanes}
 use Rattle.ndtables.proofs.RunningProducts.{come-none}
-use Rattle.ndtables.proofs.TestedCells.{tested-cells}
+use Rattle.ndarray.proofs.callers.Testing.{tested-cells}
 use Rattle.ndtables.proofs.reducing.running_products_fit.Goals as goal
 
 pub returns : goal.returns
 returns c =
     let fits = λ (lane : Grid ℤ). CanCumulateList lane.cells in
     let (o, ran) = c.all.ensures.ran in
-    let told = tested-cells _ _ _ _ fits c.from.result.nested o c.all.result ran (λ is k turn. (search rules, (turn.0, turn.1, search (rules, turn.2)))) in
-    subst (λ lanes. IsTrue c.all.result ↔ CanMap fits lanes) (c.from.ensures ∙ c.lanes.ensures)
-    (told (λ is stop. (stop.2.0, (stop.0, stop.1, λ fit. absurd (search (rules, stop.2.1.1, fit))))) (λ end. end))
+    let told = tested-cells _ _ _ _ fits _ c.from.result.nested (c.from.ensures ∙ c.lanes.ensures) o c.all.result ran (λ is k turn. (search rules, (turn.0, turn.1, search (rules, turn.2)))) in
+    told (λ is stop. (stop.2.0, (stop.0, stop.1, λ fit. absurd (search (rules, stop.2.1.1, fit))))) (λ end. end)
 
 pub returns-then-len-eq0 : goal.returns-then-len-eq0
 returns-then-len-eq0 c =

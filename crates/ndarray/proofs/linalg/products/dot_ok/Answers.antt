@@ -1,13 +1,6 @@
 use Rattle.std.proofs.Common.{◌∙◌, subst, sym}
-use Rattle.ndarray.specs.Limits.{IsWithinLimit}
 use Rattle.ndarray.specs.Products.{ShapesMultiply}
 use Rattle.ndarray.proofs.linalg.products.dot_ok.Goals as goal
-
-pub shapes_multiply-requires-clause-left : goal.shapes_multiply-requires-clause-left
-shapes_multiply-requires-clause-left g c = subst IsWithinLimit (sym (c.slice.ensures.value ∙ c.raw_dim-left.ensures.lengths)) c.raw_dim-left.ensures.limit
-
-pub shapes_multiply-requires-clause-right : goal.shapes_multiply-requires-clause-right
-shapes_multiply-requires-clause-right g c = subst IsWithinLimit (sym (c.slice-2.ensures.value ∙ c.raw_dim-right.ensures.lengths)) c.raw_dim-right.ensures.limit
 
 pub returns : goal.returns
 returns g c =

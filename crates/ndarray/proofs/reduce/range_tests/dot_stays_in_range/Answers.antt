@@ -1,9 +1,5 @@
-use Rattle.std.proofs.Common.{◌∙◌, ◌∷◌, [], ap, arith, get_or, inl, inr, sym}
-use Rattle.ndarray.specs.Integers.{int_products}
-use Rattle.ndarray.specs.Products.{products_of}
-use Rattle.ndarray.proofs.lists.Decisions.{says_no, says_yes}
-use Rattle.ndarray.proofs.sums.InnerSums.{products-ended, products-next}
-use Rattle.ndarray.proofs.sums.MagnitudeSums.{added-end, added-excess, added-next, added-start, magnitudes-summable, negative-of_fits}
+use Rattle.std.proofs.Common.{◌≡◌, ◌∙◌, ◌∷◌, [], ap, arith, get_or, sym}
+use Rattle.ndarray.proofs.lists.Decisions.{says_no}
 use Rattle.ndarray.proofs.reduce.range_tests.dot_stays_in_range.Goals as goal
 
 pub returns-then-n-m-clause-magnitudes : goal.returns-then-n-m-clause-magnitudes
@@ -12,47 +8,12 @@ returns-then-n-m-clause-magnitudes g c =
     let same = c.into_pattern-n.ensures ∙ (c.raw_dim.ensures.lengths ∙ (h.0 ∙ sym (c.into_pattern-m.ensures ∙ c.raw_dim-2.ensures.lengths))) in
     c.if-n-m.true (ap (λ l. get_or l 0 0) same))
 
-pub loop-a-init : goal.loop-a-init
-loop-a-init g c =
-    let v = g.A.Number.value in
-    let exact = g.met.A.Integral.exact_law in
-    added-start g.A.Number.fits _ _ (v c.zero-sum.result)
-    (ap (λ l. products_of int_products v l c.iter-2.result) c.iter.ensures.cells ∙ ap (products_of int_products v c.args.x.now.cells) c.iter-2.ensures.cells)
-    (ap v c.zero-sum.ensures ∙ g.met.A.Zero.zero_law exact) (g.met.A.Zero.zero_fits_law exact)
-
-pub loop-a-preserved : goal.loop-a-preserved
-loop-a-preserved g c =
-    let v = g.A.Number.value in
-    let fits = g.A.Number.fits in
-    let a = c.in-Some.a.now in
-    let b = c.in-Some.b.now in
-    let next = products-next int_products v c.loop-a.pairs.first c.loop-a.pairs.second c.next.new.self.first c.next.new.self.second a b c.in-Some.ensures.steps.0 c.in-Some.ensures.steps.1 in
-    let added = c.in-Some-add_product_magnitude.ensures in
-    added-next fits _ _ _ _ (v c.loop-a.sum) next (negative-of_fits fits (v a) (v b) added.first added.second) c.loop-a.invariant (v c.in-Some-add_product_magnitude.more) added.sum.1 added.sum.0.1
-
-pub returns-in_default-add_product_magnitude-clause-magnitudes : goal.returns-in_default-add_product_magnitude-clause-magnitudes
-returns-in_default-add_product_magnitude-clause-magnitudes g c =
-    let v = g.A.Number.value in
-    let fits = g.A.Number.fits in
-    let exact = g.met.A.Integral.exact_law in
-    let a = c.in-Some.a.now in
-    let b = c.in-Some.b.now in
-    let next = products-next int_products v c.loop-a.pairs.first c.loop-a.pairs.second c.next.new.self.first c.next.new.self.second a b c.in-Some.ensures.steps.0 c.in-Some.ensures.steps.1 in
-    let excess = c.in_default-add_product_magnitude.ensures in
-    says_no _ (λ h. added-excess fits _ _ _ _ (v c.loop-a.sum) next (negative-of_fits fits (v a) (v b) excess.first excess.second) c.loop-a.invariant (λ x y z. g.A.Number.between_law x y z exact) (g.met.A.Zero.zero_fits_law exact) excess.sum h.1)
-
 pub returns-clause-magnitudes : goal.returns-clause-magnitudes
 returns-clause-magnitudes g c =
-    let v = g.A.Number.value in
-    let none = products-ended int_products v c.loop-a.pairs.first c.loop-a.pairs.second (elim c.in_default.ensures.steps [ inl w ↦ inl w.1.0 | inr w ↦ inr w.1.0 ]) in
     let same = sym (c.into_pattern-n.ensures ∙ c.raw_dim.ensures.lengths) ∙ (ap (λ k. k ∷ []) (omega (arith, c.if-n-m.false)) ∙ (c.into_pattern-m.ensures ∙ c.raw_dim-2.ensures.lengths)) in
-    says_yes _ (same, (added-end g.A.Number.fits _ _ (v c.loop-a.sum) none c.loop-a.invariant).0)
+    (λ t. (same, c.inner_stays_in_range.ensures.magnitudes.0 t), λ h. c.inner_stays_in_range.ensures.magnitudes.1 h.1)
 
 pub returns-clause-selections : goal.returns-clause-selections
 returns-clause-selections g c =
-    let v = g.A.Number.value in
-    let exact = g.met.A.Integral.exact_law in
-    let none = products-ended int_products v c.loop-a.pairs.first c.loop-a.pairs.second (elim c.in_default.ensures.steps [ inl w ↦ inl w.1.0 | inr w ↦ inr w.1.0 ]) in
     let same = sym (c.into_pattern-n.ensures ∙ c.raw_dim.ensures.lengths) ∙ (ap (λ k. k ∷ []) (omega (arith, c.if-n-m.false)) ∙ (c.into_pattern-m.ensures ∙ c.raw_dim-2.ensures.lengths)) in
-    let (fit, signs) = added-end g.A.Number.fits _ _ (v c.loop-a.sum) none c.loop-a.invariant in
-    λ t. (same, magnitudes-summable g.A.Number.fits (λ x y z. g.A.Number.between_law x y z exact) g.met.A.IntegerElem.negated_fits (g.met.A.Zero.zero_fits_law exact) _ signs fit)
+    λ t. (same, c.inner_stays_in_range.ensures.selections t)

@@ -1,25 +1,46 @@
 use Rattle.std.proofs.Common.{IfOk, subst, sym}
-use Rattle.std.specs.Prelude.{string_bytes}
-use Rattle.ndtables.specs.Answering.{Prints}
+use Rattle.std.specs.Prelude.{IfErr, string_bytes}
+use Rattle.ndtables.specs.Answering.{Forbids, Prints}
 use Rattle.ndtables.proofs.command.Command.answer.Goals as goal
 
-pub returns-in-Add : goal.returns-in-Add
-returns-in-Add c = subst (λ command. IfOk c.add.result (λ text. Prints command c.args.words (string_bytes text))) (sym c.in-Add.is) c.add.ensures
+pub returns-in-Add-clause-text : goal.returns-in-Add-clause-text
+returns-in-Add-clause-text c = subst (λ command. IfOk c.add.result (λ text. Prints command c.args.words (string_bytes text))) (sym c.in-Add.is) c.add.ensures.text
 
-pub returns-in-Sum : goal.returns-in-Sum
-returns-in-Sum c = subst (λ command. IfOk c.sum.result (λ text. Prints command c.args.words (string_bytes text))) (sym c.in-Sum.is) c.sum.ensures
+pub returns-in-Add-clause-err : goal.returns-in-Add-clause-err
+returns-in-Add-clause-err c = subst (λ command. IfErr c.add.result (Forbids command c.args.words)) (sym c.in-Add.is) c.add.ensures.err
 
-pub returns-in-Product : goal.returns-in-Product
-returns-in-Product c = subst (λ command. IfOk c.product.result (λ text. Prints command c.args.words (string_bytes text))) (sym c.in-Product.is) c.product.ensures
+pub returns-in-Cumprod-clause-text : goal.returns-in-Cumprod-clause-text
+returns-in-Cumprod-clause-text c = subst (λ command. IfOk c.cumprod.result (λ text. Prints command c.args.words (string_bytes text))) (sym c.in-Cumprod.is) c.cumprod.ensures.text
 
-pub returns-in-ProductAxis : goal.returns-in-ProductAxis
-returns-in-ProductAxis c = subst (λ command. IfOk c.product_axis.result (λ text. Prints command c.args.words (string_bytes text))) (sym c.in-ProductAxis.is) c.product_axis.ensures
+pub returns-in-Cumprod-clause-err : goal.returns-in-Cumprod-clause-err
+returns-in-Cumprod-clause-err c = subst (λ command. IfErr c.cumprod.result (Forbids command c.args.words)) (sym c.in-Cumprod.is) c.cumprod.ensures.err
 
-pub returns-in-SumAxis : goal.returns-in-SumAxis
-returns-in-SumAxis c = subst (λ command. IfOk c.sum_axis.result (λ text. Prints command c.args.words (string_bytes text))) (sym c.in-SumAxis.is) c.sum_axis.ensures
+pub returns-in-Diff-clause-text : goal.returns-in-Diff-clause-text
+returns-in-Diff-clause-text c = subst (λ command. IfOk c.diff.result (λ text. Prints command c.args.words (string_bytes text))) (sym c.in-Diff.is) c.diff.ensures.text
 
-pub returns-in-Diff : goal.returns-in-Diff
-returns-in-Diff c = subst (λ command. IfOk c.diff.result (λ text. Prints command c.args.words (string_bytes text))) (sym c.in-Diff.is) c.diff.ensures
+pub returns-in-Diff-clause-err : goal.returns-in-Diff-clause-err
+returns-in-Diff-clause-err c = subst (λ command. IfErr c.diff.result (Forbids command c.args.words)) (sym c.in-Diff.is) c.diff.ensures.err
 
-pub returns-in-Cumprod : goal.returns-in-Cumprod
-returns-in-Cumprod c = subst (λ command. IfOk c.cumprod.result (λ text. Prints command c.args.words (string_bytes text))) (sym c.in-Cumprod.is) c.cumprod.ensures
+pub returns-in-Product-clause-text : goal.returns-in-Product-clause-text
+returns-in-Product-clause-text c = subst (λ command. IfOk c.product.result (λ text. Prints command c.args.words (string_bytes text))) (sym c.in-Product.is) c.product.ensures.text
+
+pub returns-in-Product-clause-err : goal.returns-in-Product-clause-err
+returns-in-Product-clause-err c = subst (λ command. IfErr c.product.result (Forbids command c.args.words)) (sym c.in-Product.is) c.product.ensures.err
+
+pub returns-in-ProductAxis-clause-text : goal.returns-in-ProductAxis-clause-text
+returns-in-ProductAxis-clause-text c = subst (λ command. IfOk c.product_axis.result (λ text. Prints command c.args.words (string_bytes text))) (sym c.in-ProductAxis.is) c.product_axis.ensures.text
+
+pub returns-in-ProductAxis-clause-err : goal.returns-in-ProductAxis-clause-err
+returns-in-ProductAxis-clause-err c = subst (λ command. IfErr c.product_axis.result (Forbids command c.args.words)) (sym c.in-ProductAxis.is) c.product_axis.ensures.err
+
+pub returns-in-Sum-clause-text : goal.returns-in-Sum-clause-text
+returns-in-Sum-clause-text c = subst (λ command. IfOk c.sum.result (λ text. Prints command c.args.words (string_bytes text))) (sym c.in-Sum.is) c.sum.ensures.text
+
+pub returns-in-Sum-clause-err : goal.returns-in-Sum-clause-err
+returns-in-Sum-clause-err c = subst (λ command. IfErr c.sum.result (Forbids command c.args.words)) (sym c.in-Sum.is) c.sum.ensures.err
+
+pub returns-in-SumAxis-clause-text : goal.returns-in-SumAxis-clause-text
+returns-in-SumAxis-clause-text c = subst (λ command. IfOk c.sum_axis.result (λ text. Prints command c.args.words (string_bytes text))) (sym c.in-SumAxis.is) c.sum_axis.ensures.text
+
+pub returns-in-SumAxis-clause-err : goal.returns-in-SumAxis-clause-err
+returns-in-SumAxis-clause-err c = subst (λ command. IfErr c.sum_axis.result (Forbids command c.args.words)) (sym c.in-SumAxis.is) c.sum_axis.ensures.err

@@ -1,0 +1,21 @@
+-- Convolutions: their laws, and how they go over windows.
+pub mod Cauchy
+pub mod Examples
+pub mod Filters
+pub mod Full
+pub mod Magnitudes
+pub mod Mapped
+pub mod MirroredViews
+pub mod Mirrors
+pub mod NeutralValues
+pub mod OneAxis
+pub mod OverWindows
+pub mod Padding
+pub mod Pairs
+pub mod ProductLists
+pub mod Swapped
+pub mod ValueSums
+pub mod WholeWindows
+pub mod WindowSums
+pub mod WindowTests
+pub mod Windows

@@ -1,0 +1,46 @@
+use Rattle.std.proofs.Common.{◌≡◌, ◌∙◌, ◌<◌, ap, arith, get_or, length, lit<, subst}
+use Rattle.ndarray.specs.Products.{matrix_of, row_of}
+use Rattle.ndarray.specs.WholeValues.{whole_numbers}
+use Rattle.ndarray.proofs.cells.EntryTests.{EntryFits, below-next, column-lengths, entries-yes, tested-no, tested-yes, vector-by-column}
+use Rattle.ndarray.proofs.lists.Decisions.{says_no}
+use Rattle.ndarray.proofs.linalg.range_tests.columns_fit.Goals as goal
+
+pub returns-then-not-dot_fits-clause-magnitudes : goal.returns-then-not-dot_fits-clause-magnitudes
+returns-then-not-dot_fits-clause-magnitudes g c =
+    let v = g.A.Number.value in
+    let fits = g.A.Number.fits in
+    let x = c.args.x.now in
+    let b = c.args.b.now in
+    let y = c.index_axis.result in
+    let (x_whole, one) = c.requires.vector in
+    let both : length b.lengths ≡ 2 = c.raw_dim.ensures.axes in
+    let same = column-lengths x b y one both c.requires.inner c.loop-j.j c.index_axis.ensures.value in
+    let products = vector-by-column (whole_numbers v fits) x b y one x_whole both c.requires.inner c.loop-j.j c.index_axis.ensures.value c.index_axis.ensures.whole in
+    let within : c.loop-j.j < get_or b.lengths 1 0 = subst (λ n. c.loop-j.j < n) (ap (λ l. get_or l 1 0) (c.into_pattern-k.ensures ∙ c.raw_dim.ensures.lengths)) c.loop-j-test.true in
+    let off = c.if-not-dot_fits.true in
+    says_no _ (λ all. let on = tested-no fits v x y _ same products c.dot_fits.result c.dot_fits.ensures.magnitudes c.dot_fits.ensures.selections (all 0 c.loop-j.j (lit< tt) within) in absurd (cc))
+
+pub loop-j-preserved : goal.loop-j-preserved
+loop-j-preserved g c =
+    let v = g.A.Number.value in
+    let fits = g.A.Number.fits in
+    let x = c.args.x.now in
+    let b = c.args.b.now in
+    let y = c.index_axis.result in
+    let (x_whole, one) = c.requires.vector in
+    let both : length b.lengths ≡ 2 = c.raw_dim.ensures.axes in
+    let same = column-lengths x b y one both c.requires.inner c.loop-j.j c.index_axis.ensures.value in
+    let products = vector-by-column (whole_numbers v fits) x b y one x_whole both c.requires.inner c.loop-j.j c.index_axis.ensures.value c.index_axis.ensures.whole in
+    let here = tested-yes fits v x y _ same products c.dot_fits.result c.dot_fits.ensures.magnitudes c.dot_fits.ensures.selections c.if-not-dot_fits.false in
+    λ k lt. below-next (EntryFits fits (row_of (whole_numbers v fits) x) (matrix_of (whole_numbers v fits) b) 0) c.loop-j.j c.loop-j.invariant here k (omega (arith, lt))
+
+pub returns-clause-magnitudes : goal.returns-clause-magnitudes
+returns-clause-magnitudes g c =
+    let e = whole_numbers g.A.Number.value g.A.Number.fits in
+    let long = ap (λ l. get_or l 1 0) (c.into_pattern-k.ensures ∙ c.raw_dim.ensures.lengths) in
+    entries-yes g.A.Number.fits (row_of e c.args.x.now) (matrix_of e c.args.b.now) (λ i j row column. c.loop-j.invariant j (omega (arith, column, long, c.loop-j-test.false)))
+
+pub returns-clause-sums : goal.returns-clause-sums
+returns-clause-sums g c =
+    let long = ap (λ l. get_or l 1 0) (c.into_pattern-k.ensures ∙ c.raw_dim.ensures.lengths) in
+    λ on i j row column. (c.loop-j.invariant j (omega (arith, column, long, c.loop-j-test.false))).1

@@ -1,0 +1,257 @@
+//! Convolutions: of an array with a kernel, where the kernel lies within the array, and of two vectors in full.
+//!
+//! A convolution is defined on the values of the cells (`specs/Convolution.antt`), and each call requires that at each place every
+//! selection of the products has its sum in range, so that no order of adding leaves the range.
+
+ghost use Rattle.std.specs.Prelude.{⊤, ℕ, List, ◌≡◌, ◌+◌, ◌*◌, ◌^◌, ◌<◌, ◌++◌, IfOk, IsTrue, ◌↔◌, length, replicate, reverse};
+ghost use Rattle.ndarray.specs.Convolution.{CanPad, HasFullSumsInRange, HasValidMagnitudesInRange, HasValidSumsInRange, HasWindowMagnitudesInRange, MakesFullConvolution, MakesValidConvolution, TestsProducts, padded, valid_counts, window_products};
+ghost use Rattle.ndarray.specs.Grid.{IsGrid, one_axis};
+ghost use Rattle.ndarray.specs.Index.{InBox};
+ghost use Rattle.ndarray.specs.Integers.{int_products, int_sums};
+ghost use Rattle.ndarray.specs.Products.{MakesValues, products_of};
+ghost use Rattle.ndarray.specs.Subviews.{ArePositive};
+ghost use Rattle.ndarray.specs.Sums.{IsSummable, total};
+
+use crate::reduce::range_tests::inner_stays_in_range;
+use crate::zip::calls::ItemCall;
+use crate::zip::collecting::collect_in_either_order;
+use crate::{
+    Array, ArrayBase, ArrayView, Axis, Data, Dimension, IntegerElem, IntegerScalar, Ix1, Lengths,
+    LinalgScalar, Zip,
+};
+use std::alloc::{AllocError, Global};
+
+/// The valid convolution of an array with a kernel of as many axes: at each position at which the kernel lies within the array, the
+/// sum of the products of the cells there with the kernel's cells, which are taken from the other end on each axis. On an axis
+/// of length n and a kernel's length m there are n - m + 1 positions, and none where m is greater than n.
+///
+/// Requires as many axes on both sides and kernel lengths of at least 1; check with [`conv_valid_ok`]. Requires too that at each position
+/// every selection of the products has its sum in range, for which [`valid_fits`] is enough. The error is allocation failure; where
+/// the result has no cells there is none. Nothing but the result is allocated.
+///
+/// ```
+/// // a = [[1, 2, 3], [4, 5, 6], [7, 8, 9]], k = [[1, 0], [0, 2]]
+/// conv_valid(alloc, &a, &k)?; // [[7, 10], [16, 19]]
+/// ```
+pub fn conv_valid<A: LinalgScalar, S: Data<Elem = A>, S2: Data<Elem = A>, D: Dimension>(
+    alloc: Global,
+    a: &ArrayBase<S, D>,
+    k: &ArrayBase<S2, D>,
+) -> Result<Array<A, D>, AllocError>
+    requires shapes { ArePositive a.now.lengths k.now.lengths }
+    requires sums { HasValidSumsInRange A.Valued a.now k.now }
+    ensures { MakesValidConvolution A.Valued a.now k.now result }
+{
+    over_windows(alloc, &a.view(), &mirrored_view(&k.view()))
+}
+
+/// Whether two arrays have a valid convolution: as many axes on both sides, and kernel lengths of at least 1.
+pub fn conv_valid_ok<S: Data, S2: Data, D: Dimension>(
+    a: &ArrayBase<S, D>,
+    k: &ArrayBase<S2, D>,
+) -> bool
+    ensures { IsTrue result ↔ ArePositive a.now.lengths k.now.lengths }
+{
+    let steps = k.raw_dim();
+    a.windows_ok(&k.raw_dim(), &steps)
+}
+
+/// Whether at each position of the valid convolution of two arrays of integers the absolute values of the products add up to at most
+/// the type's greatest number. Then [`conv_valid`] may be asked for.
+///
+/// Requires shapes that have a valid convolution; check with [`conv_valid_ok`]. The test allocates nothing. It may say no where the
+/// convolution could be taken, as where large products of both signs are added.
+///
+/// ```
+/// if conv_valid_ok(&a, &k) && valid_fits(&a, &k) {
+///     let filtered = conv_valid(alloc, &a, &k)?;
+/// }
+/// ```
+pub fn valid_fits<A: IntegerScalar, S: Data<Elem = A>, S2: Data<Elem = A>, D: Dimension>(
+    a: &ArrayBase<S, D>,
+    k: &ArrayBase<S2, D>,
+) -> bool
+    requires { ArePositive a.now.lengths k.now.lengths }
+    ensures magnitudes { IsTrue result ↔ HasValidMagnitudesInRange A.value A.fits a.now k.now }
+    ensures sums { IsTrue result → HasValidSumsInRange A.Valued a.now k.now }
+{
+    windows_fit(&a.view(), &mirrored_view(&k.view()))
+}
+
+/// An array seen from the other end on each axis.
+fn mirrored_view<'a, A, D: Lengths>(array: &'a ArrayView<'_, A, D>) -> ArrayView<'a, A, D>
+    ensures lengths { result.lengths ≡ array.now.lengths }
+    ensures cells { result.cells ≡ reverse array.now.cells }
+    ensures whole { IsGrid result }
+{
+    let mut mirrored = array.view();
+    for axis in 0..array.ndim() {
+        mirrored.invert_axis(Axis(axis));
+    }
+    mirrored
+}
+
+/// At each position of a window of the lengths of an array on another, the sum of the products of the window's cells with that array's.
+fn over_windows<A: LinalgScalar, D: Dimension>(
+    alloc: Global,
+    a: &ArrayView<'_, A, D>,
+    mirrored: &ArrayView<'_, A, D>,
+) -> Result<Array<A, D>, AllocError>
+    requires whole { IsGrid a.now }
+    requires shapes { ArePositive a.now.lengths mirrored.now.lengths }
+    requires sums { (ps : List ℕ) → InBox (valid_counts a.now.lengths mirrored.now.lengths) ps → IsSummable A.addition A.InRange (window_products A.multiplication A.meaning a.now mirrored.now ps) }
+    ensures { MakesValues A.Valued (valid_counts a.now.lengths mirrored.now.lengths) (λ ps. total A.addition (window_products A.multiplication A.meaning a.now mirrored.now ps)) result }
+{
+    let windows = a.windows(mirrored.raw_dim());
+    collect_in_either_order(
+        alloc,
+        windows,
+        WindowSum {
+            kernel: mirrored.view(),
+        },
+    )
+}
+
+/// The sum of the products of a window's cells with those of an array of its lengths, as a call.
+#[derive(Drop)]
+struct WindowSum<'k, A, D: Lengths> {
+    kernel: ArrayView<'k, A, D>,
+}
+
+impl<'a, 'k, A: LinalgScalar, D: Lengths> ItemCall<ArrayView<'a, A, D>> for WindowSum<'k, A, D> {
+    type Out = A;
+
+    ghost can_call = { λ c w. (length w.cells ≡ length c.kernel.cells) × IsSummable A.addition A.InRange (products_of A.multiplication A.meaning w.cells c.kernel.cells) };
+
+    ghost call_gives = { λ c w r d. (A.meaning r ≡ total A.addition (products_of A.multiplication A.meaning w.cells c.kernel.cells)) × (d ≡ c) };
+
+    fn call(&mut self, window: ArrayView<'a, A, D>) -> A {
+        sum_of_products(&window, &self.kernel)
+    }
+}
+
+/// The sum of the products of two arrays' cells, one after another in row order.
+fn sum_of_products<A: LinalgScalar, D: Lengths>(
+    x: &ArrayView<'_, A, D>,
+    y: &ArrayView<'_, A, D>,
+) -> A
+    requires same { length x.now.cells ≡ length y.now.cells }
+    requires sums { IsSummable A.addition A.InRange (products_of A.multiplication A.meaning x.now.cells y.now.cells) }
+    ensures { A.meaning result ≡ total A.addition (products_of A.multiplication A.meaning x.now.cells y.now.cells) }
+{
+    let mut sum = A::zero();
+    let mut left = x.iter();
+    let mut right = y.iter();
+    while let Some(a) = left.next() {
+        let Some(b) = right.next() else {
+            unreachable!()
+        };
+        sum = sum + *a * *b;
+    }
+    sum
+}
+
+/// Whether at each position of a window of the lengths of an array on another, the absolute values of the products of the window's cells
+/// with that array's add up to at most the type's greatest number.
+fn windows_fit<A: IntegerElem, D: Dimension>(
+    a: &ArrayView<'_, A, D>,
+    mirrored: &ArrayView<'_, A, D>,
+) -> bool
+    requires { ArePositive a.now.lengths mirrored.now.lengths }
+    ensures magnitudes { IsTrue result ↔ HasWindowMagnitudesInRange A.value A.fits a.now mirrored.now }
+    ensures selections { IsTrue result → (ps : List ℕ) → InBox (valid_counts a.now.lengths mirrored.now.lengths) ps → IsSummable int_sums A.fits (window_products int_products A.value a.now mirrored.now ps) }
+{
+    let windows = a.windows(mirrored.raw_dim());
+    Zip::from(windows).all_items(WindowTest {
+        kernel: mirrored.view(),
+    })
+}
+
+/// Whether the absolute values of the products of a window's cells with those of an array of its lengths add up to at most the type's greatest
+/// number, as a call.
+#[derive(Drop)]
+struct WindowTest<'k, A, D: Lengths> {
+    kernel: ArrayView<'k, A, D>,
+}
+
+impl<'a, 'k, A: IntegerElem, D: Lengths> ItemCall<ArrayView<'a, A, D>> for WindowTest<'k, A, D> {
+    type Out = bool;
+
+    ghost can_call = { λ _ _. ⊤ };
+
+    ghost call_gives = { λ c w r d. TestsProducts A.value A.fits w.cells c.kernel.cells r × (d ≡ c) };
+
+    fn call(&mut self, window: ArrayView<'a, A, D>) -> bool {
+        inner_stays_in_range(&window, &self.kernel)
+    }
+}
+
+/// The full convolution of two vectors: at s the sum of the products of `x[i]` and `y[j]` over all i and j with i + j = s. Of lengths n
+/// and m it has length n + m - 1, and length 0 where one of them has no cells.
+///
+/// Requires, where both have cells, that n + 2m - 2 is at most `isize::MAX`; check with [`conv_full_ok`]. Requires too that at each s every
+/// selection of the products has its sum in range. The error is allocation failure; where one of
+/// them has no cells there is none. Besides the result, a copy of `x` between m - 1 zeros on each side is allocated.
+///
+/// ```
+/// // x = [1, 2, 3], y = [1, 1]
+/// conv_full(alloc, &x, &y)?; // [1, 3, 5, 3]
+/// ```
+pub fn conv_full<A: LinalgScalar, S: Data<Elem = A>, S2: Data<Elem = A>>(
+    alloc: Global,
+    x: &ArrayBase<S, Ix1>,
+    y: &ArrayBase<S2, Ix1>,
+) -> Result<Array<A, Ix1>, AllocError>
+    requires limit { CanPad (length x.now.cells) (length y.now.cells) }
+    requires sums { HasFullSumsInRange A.Valued x.now.cells y.now.cells }
+    ensures { MakesFullConvolution A.Valued x.now.cells y.now.cells result }
+{
+    let _whole = y.raw_dim();
+    let m = y.len();
+    if x.len() == 0 || m == 0 {
+        return Array::zeros(alloc, 0);
+    }
+    let padded = between_zeros(alloc, &x.view(), m - 1)?;
+    conv_valid(alloc, &padded, y)
+}
+
+/// Whether two vectors have a full convolution: where both have cells, of lengths n and m, n + 2m - 2 is at most `isize::MAX`.
+pub fn conv_full_ok<S: Data, S2: Data>(x: &ArrayBase<S, Ix1>, y: &ArrayBase<S2, Ix1>) -> bool
+    ensures { IsTrue result ↔ CanPad (length x.now.cells) (length y.now.cells) }
+{
+    let _limits = (x.raw_dim(), y.raw_dim());
+    let (n, m) = (x.len(), y.len());
+    n == 0 || m == 0 || 2 * (m - 1) <= isize::MAX as usize - n
+}
+
+/// A vector between as many zeros on each side.
+fn between_zeros<A: LinalgScalar>(
+    alloc: Global,
+    x: &ArrayView<'_, A, Ix1>,
+    count: usize,
+) -> Result<Array<A, Ix1>, AllocError>
+    requires { length x.now.cells + 2 * count < 2 ^ 63 }
+    ensures { IfOk result (λ w. w ≡ one_axis (padded A.zero count x.now.cells)) }
+{
+    let len = x.len() + 2 * count;
+    let mut cells = Vec::with_capacity(alloc, len)?;
+    push_zeros(&mut cells, count)?;
+    for cell in x.iter() {
+        cells.push(*cell)?;
+    }
+    push_zeros(&mut cells, count)?;
+    let Ok(array) = Array::from_shape_vec(len, cells) else {
+        unreachable!()
+    };
+    Ok(array)
+}
+
+/// Pushes zeros.
+fn push_zeros<A: LinalgScalar>(cells: &mut Vec<A>, count: usize) -> Result<(), AllocError>
+    ensures { IfOk result (λ _. cells.new.items ≡ cells.old.items ++ replicate count A.zero) }
+{
+    for _ in 0..count {
+        cells.push(A::zero())?;
+    }
+    Ok(())
+}

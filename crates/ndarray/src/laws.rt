@@ -1,0 +1,102 @@
+//! Laws of the definitions that the contracts of the calls cite: orders of a box, products, transposes and Kronecker products
+//! of matrices, `dot` of any number of axes, sums along an axis, triangles, differences, joined arrays, and convolutions.
+//!
+//! A law is a function without parameters that does nothing: its contract is the law. It holds for all shapes, those with
+//! lengths 0 too, and for any element type with the bounds of the function. To cite one, call it with the element type in a function
+//! that rests on it, as `mat_assoc::<A>();`. The clause is then known in the proof of that function, as `c.mat_assoc.ensures`;
+//! when the program runs, the call does nothing.
+//!
+//! The laws of products are on matrices of values (`specs/MatrixLaws.antt`), those of convolutions on lists of values
+//! (`specs/ConvolutionLaws.antt`), the others on arrays (`specs/Laws.antt`, and of `dot` `specs/DotLaws.antt`).
+//! `proofs/callers/SameMatrices.antt` has the lemmas that lead from an array that `dot` or `kron` made to its matrix and back.
+
+ghost use Rattle.std.specs.Prelude.{◌≡◌};
+ghost use Rattle.ndarray.specs.ConvolutionLaws.{ArrayFiltersCompose, ConvolutionsAssociate, ConvolutionsCommute, FiltersCompose, HaveFullLength, ValidIsPartOfFull};
+ghost use Rattle.ndarray.specs.DotLaws.{DotIsMatrixProduct, LaneSumsAreMatrixSums, ShapesMultiplyAsMatrices};
+ghost use Rattle.ndarray.specs.Laws.{AxisSumArraysAddUp, AxisSumsAddUp, AxisSumsStayInRange, CellsHaveEqualTotals, ColumnOrderRearranges, DifferencesAdd, DifferencesCanBeTaken, OrdersHaveEqualTotals, StackIsConcatenation, TriangleSumsAddUp, TrianglesPart};
+ghost use Rattle.ndarray.specs.MatrixLaws.{KroneckersAssociate, KroneckersMultiply, KroneckersTranspose, ProductsAssociate, ProductsTranspose};
+
+use crate::elements::{LinalgScalar, Valued};
+use std::ops::Sub;
+
+/// The column order of a box holds the index lists of its row order, each once. The sums over both are equal: of a value for each
+/// index list, and of the cells of an array.
+pub fn column_order<A: Valued>()
+    ensures rearranges { ColumnOrderRearranges }
+    ensures totals { OrdersHaveEqualTotals A.addition }
+    ensures cells { CellsHaveEqualTotals A.addition A.meaning }
+{}
+
+/// (AB)C is A(BC), where the inner lengths are equal.
+pub fn mat_assoc<A: LinalgScalar>()
+    ensures { ProductsAssociate A.addition A.multiplication }
+{}
+
+/// The transpose of AB is the transpose of B times the transpose of A, where the inner lengths are equal.
+pub fn mat_transpose<A: LinalgScalar>()
+    ensures { ProductsTranspose A.addition A.multiplication }
+{}
+
+/// Of Kronecker products: (A kron B)(C kron D) is AC kron BD, where the inner lengths are equal; (A kron B) kron C is
+/// A kron (B kron C); and the transpose of A kron B is the transpose of A kron the transpose of B.
+pub fn kron_mixed<A: LinalgScalar>()
+    ensures mixed { KroneckersMultiply A.addition A.multiplication }
+    ensures associates { KroneckersAssociate A.multiplication }
+    ensures transposes { KroneckersTranspose A.multiplication }
+{}
+
+/// Of vectors and matrices, `dot` of `IxDyn` is the matrix product: they multiply where the last length of the left is the first of
+/// the right and the product is within the limit, the sums of the lanes stay in range where those of the rows and columns do, and
+/// the array that `dot` makes has the values of the product of the matrices.
+pub fn dot_agrees<A: LinalgScalar>()
+    ensures shapes { ShapesMultiplyAsMatrices }
+    ensures ranges { LaneSumsAreMatrixSums A.Valued }
+    ensures products { DotIsMatrixProduct A.Valued }
+{}
+
+/// The sum of all cells is the sum of the sums of the lanes along an axis, for each axis of the array. Where every selection of
+/// the cells has its sum in range, every selection of the lanes' sums has. Both hold of the arrays that `sum_axis` makes.
+pub fn axis_sums<A: Valued>()
+    ensures totals { AxisSumsAddUp A.addition A.meaning }
+    ensures ranges { AxisSumsStayInRange A.addition A.InRange A.meaning }
+    ensures arrays { AxisSumArraysAddUp A.addition A.InRange A.meaning }
+{}
+
+/// With two or more axes, `triu(k)` and `tril(k - 1)` keep each cell exactly once between them: one has the cell, and the
+/// other has zero. Where zero has the neutral value, their sums add up to the sum of all cells.
+pub fn triangles_part<A: Valued>()
+    ensures cells { TrianglesPart A }
+    ensures totals { TriangleSumsAddUp A.addition A.meaning }
+{}
+
+/// The difference of order m + n along an axis is the difference of order n of the difference of order m. Where `diff` may be called
+/// with order m + n, it may be called with order m, and with order n on each result of that.
+pub fn diff_adds<A: Copy + Sub<A, Output = A>>()
+    ensures same { DifferencesAdd A.sub_gives }
+    ensures defined { DifferencesCanBeTaken A.can_sub A.sub_gives }
+{}
+
+/// A stack is the concatenation of the arrays with the new axis inserted in each, which is no error where the stack is none.
+pub fn stack_is_concat<A>()
+    ensures { StackIsConcatenation A }
+{}
+
+/// The full convolution of two lists is that of the second and the first. It has one value less than both lists together, and none
+/// where one of them has none.
+pub fn conv_commutes<A: LinalgScalar>()
+    ensures length { HaveFullLength A.addition A.multiplication }
+    ensures commutes { ConvolutionsCommute A.addition A.multiplication }
+{}
+
+/// The full convolutions of three lists are the same, grouped either way, empty lists too.
+pub fn conv_assoc<A: LinalgScalar>()
+    ensures { ConvolutionsAssociate A.addition A.multiplication }
+{}
+
+/// Along one axis, a valid convolution is the middle part of the full one; and two filters one after another are one with the full
+/// convolution of their kernels, of lists and of arrays.
+pub fn conv_filters<A: LinalgScalar>()
+    ensures part { ValidIsPartOfFull A.addition A.multiplication }
+    ensures lists { FiltersCompose A.addition A.multiplication }
+    ensures arrays { ArrayFiltersCompose A.addition A.multiplication }
+{}

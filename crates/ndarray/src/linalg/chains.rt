@@ -1,0 +1,113 @@
+//! Products of three and of four arrays, in the order that makes the smaller arrays.
+
+ghost use Rattle.std.specs.Prelude.{◌≡◌, ◌↔◌, ◌*◌, IfOk, IsOk, IsTrue, slice_index};
+ghost use Rattle.ndarray.specs.Chains.{HasColumn, HasMatrix, ShapesChain, ShapesMultiplyInPairs};
+ghost use Rattle.ndarray.specs.Matrices.{kronecker_product};
+ghost use Rattle.ndarray.specs.Products.{HasProductsInRange, HasSumsInRange, column_of, matrix_of, product_of};
+
+use crate::base::array::{Array, ArrayBase};
+use crate::base::dimension::{Dimension, Ix1, Ix2, Lengths};
+use crate::base::storage::Data;
+use crate::elements::LinalgScalar;
+use crate::laws::{kron_mixed, mat_assoc};
+use crate::linalg::kronecker::{kron, lengths_multiply};
+use crate::linalg::products::{Dot, dot_ok};
+use std::alloc::{AllocError, Global};
+
+/// Whether two matrices and a vector are of lengths (m, k), (k, n) and (n). The size of the product of the two matrices does not
+/// matter.
+pub fn chain_ok<S: Data, S2: Data, S3: Data>(
+    a: &ArrayBase<S, Ix2>,
+    b: &ArrayBase<S2, Ix2>,
+    x: &ArrayBase<S3, Ix1>,
+) -> bool
+    ensures { IsTrue result ↔ ShapesChain a.now.lengths b.now.lengths x.now.lengths }
+{
+    let (_, k) = a.raw_dim().into_pattern();
+    let (rows, n) = b.raw_dim().into_pattern();
+    k == rows && n == x.raw_dim().into_pattern()
+}
+
+/// (AB)x, by A(Bx): two matrices times a vector, without the product of the matrices. Of lengths (m, k), (k, n) and (n) the
+/// vector has m cells.
+///
+/// Requires these lengths, which [`chain_ok`] tells, and that of the products of each inner sum of Bx and of A(Bx) every
+/// selection has its sum in range. Nothing is required of the size of AB, nor of the ranges of its cells. The error is allocation
+/// failure; the arrays are as before.
+///
+/// ```
+/// // a = [[2]], b = [[i64::MAX]], x = [0]
+/// mat_vec_chain(alloc, &a, &b, &x)?; // [0]
+/// ```
+pub fn mat_vec_chain<A: LinalgScalar, S: Data<Elem = A>, S2: Data<Elem = A>, S3: Data<Elem = A>>(
+    alloc: Global,
+    a: &ArrayBase<S, Ix2>,
+    b: &ArrayBase<S2, Ix2>,
+    x: &ArrayBase<S3, Ix1>,
+) -> Result<Array<A, Ix1>, AllocError>
+    requires shapes { ShapesChain a.now.lengths b.now.lengths x.now.lengths }
+    requires inner_sums { HasSumsInRange A.Valued (matrix_of A.Valued b.now) (column_of A.Valued x.now) }
+    requires outer_sums { HasSumsInRange A.Valued (matrix_of A.Valued a.now) (product_of A.Valued (matrix_of A.Valued b.now) (column_of A.Valued x.now)) }
+    ensures product { IfOk result (HasColumn A.Valued (product_of A.Valued (product_of A.Valued (matrix_of A.Valued a.now) (matrix_of A.Valued b.now)) (column_of A.Valued x.now))) }
+    ensures empty { slice_index a.now.lengths 0 ≡ 0 → slice_index b.now.lengths 0 ≡ 0 → IsOk result }
+{
+    mat_assoc::<A>();
+    let _lengths = (a.raw_dim(), b.raw_dim(), x.raw_dim());
+    let y = Dot::dot(b, alloc, x)?;
+    Dot::dot(a, alloc, &y)
+}
+
+/// Whether four matrices are of lengths (m, k), (p, q), (k, n) and (q, r), where the nonzero lengths of (m, n), of (p, r) and of
+/// (m * p, n * r) each multiply in whole numbers to at most `isize::MAX`.
+pub fn kron_dot_ok<S: Data, S2: Data, S3: Data, S4: Data>(
+    a: &ArrayBase<S, Ix2>,
+    b: &ArrayBase<S2, Ix2>,
+    c: &ArrayBase<S3, Ix2>,
+    d: &ArrayBase<S4, Ix2>,
+) -> bool
+    ensures { IsTrue result ↔ ShapesMultiplyInPairs a.now.lengths b.now.lengths c.now.lengths d.now.lengths }
+{
+    let (m, _) = a.raw_dim().into_pattern();
+    let (p, _) = b.raw_dim().into_pattern();
+    let (_, n) = c.raw_dim().into_pattern();
+    let (_, r) = d.raw_dim().into_pattern();
+    dot_ok(a, c) && dot_ok(b, d) && lengths_multiply((m, n), (p, r))
+}
+
+/// (A kron B)(C kron D), by AC kron BD: without the two Kronecker products that are multiplied. Of lengths (m, k), (p, q),
+/// (k, n) and (q, r) the matrix has lengths (m * p, n * r).
+///
+/// Requires these lengths, with AC, BD and the result within the limit, which [`kron_dot_ok`] tells; that of the products
+/// of each inner sum of AC and of BD every selection has its sum in range; and that each product of a cell of AC and one
+/// of BD is in range. Nothing is required of A kron B and of C kron D. The error is allocation failure; the arrays are as before.
+///
+/// ```
+/// // a = [[i64::MAX]], b = [[i64::MAX]], c = [[0]], d = [[0]]
+/// kron_dot(alloc, &a, &b, &c, &d)?; // [[0]]
+/// ```
+pub fn kron_dot<
+    A: LinalgScalar,
+    S: Data<Elem = A>,
+    S2: Data<Elem = A>,
+    S3: Data<Elem = A>,
+    S4: Data<Elem = A>,
+>(
+    alloc: Global,
+    a: &ArrayBase<S, Ix2>,
+    b: &ArrayBase<S2, Ix2>,
+    c: &ArrayBase<S3, Ix2>,
+    d: &ArrayBase<S4, Ix2>,
+) -> Result<Array<A, Ix2>, AllocError>
+    requires shapes { ShapesMultiplyInPairs a.now.lengths b.now.lengths c.now.lengths d.now.lengths }
+    requires left_sums { HasSumsInRange A.Valued (matrix_of A.Valued a.now) (matrix_of A.Valued c.now) }
+    requires right_sums { HasSumsInRange A.Valued (matrix_of A.Valued b.now) (matrix_of A.Valued d.now) }
+    requires products { HasProductsInRange A.Valued (product_of A.Valued (matrix_of A.Valued a.now) (matrix_of A.Valued c.now)) (product_of A.Valued (matrix_of A.Valued b.now) (matrix_of A.Valued d.now)) }
+    ensures product { IfOk result (HasMatrix A.Valued (product_of A.Valued (kronecker_product A.multiplication (matrix_of A.Valued a.now) (matrix_of A.Valued b.now)) (kronecker_product A.multiplication (matrix_of A.Valued c.now) (matrix_of A.Valued d.now)))) }
+    ensures empty { slice_index a.now.lengths 0 * slice_index c.now.lengths 1 ≡ 0 → slice_index b.now.lengths 0 * slice_index d.now.lengths 1 ≡ 0 → IsOk result }
+{
+    kron_mixed::<A>();
+    let _lengths = (a.raw_dim(), b.raw_dim(), c.raw_dim(), d.raw_dim());
+    let left = Dot::dot(a, alloc, c)?;
+    let right = Dot::dot(b, alloc, d)?;
+    kron(alloc, &left, &right)
+}

@@ -1,0 +1,144 @@
+//! Whether the entries of a product of integers stay in their type: `dot_fits` of each row and column.
+
+ghost use Rattle.std.specs.Prelude.{◌≡◌, ◌↔◌, IsTrue, pos, length, slice_index};
+ghost use Rattle.ndarray.specs.Grid.{IsGrid};
+ghost use Rattle.ndarray.specs.Integers.{int_products};
+ghost use Rattle.ndarray.specs.Products.{HasSumsInRange, ShapesMultiply, column_of, magnitude_sum, matrix_of, products_of, row_of};
+ghost use Rattle.ndarray.specs.WholeValues.{HasMagnitudesInRange, whole_numbers};
+
+use crate::base::array::{ArrayBase, ArrayView};
+use crate::base::axis::Axis;
+use crate::base::dimension::{Dimension, Ix1, Ix2};
+use crate::base::storage::Data;
+use crate::elements::{IntegerElem, IntegerScalar};
+use crate::linalg::products::{Dot, dot_ok};
+use crate::reduce::dot_fits;
+
+/// What has a product with `Rhs` whose range can be tested: vectors and matrices of integers, with vectors and matrices.
+pub trait IntegerDot<Rhs>: Dot<Rhs> {
+    // Whether the shapes multiply, and of each row and column the absolute values of the products add up to a number of the type.
+    ghost entries_in_range: { Self → Rhs → Type 0 };
+
+    /// Whether `self.dot(rhs)` may be asked for, by [`dot_fits`] of each row and column, as [`entries_fit`].
+    fn entries_fit(&self, rhs: &Rhs) -> bool
+        ensures exact { IsTrue result ↔ entries_in_range self.now rhs.now }
+        ensures defined { IsTrue result → Self.can_dot self.now rhs.now };
+}
+
+/// Whether two vectors or matrices of integers have a product, as [`dot_ok`] tells, and for each row of the left and column of
+/// the right the absolute values of the products add up to at most the type's greatest number. Then `left.dot(alloc, right)`
+/// may be asked for.
+///
+/// Requires nothing, and the test allocates nothing. It may say no where the product could be taken, as where large products
+/// of both signs are added.
+///
+/// ```
+/// if entries_fit(&a, &b) {
+///     let product = a.dot(alloc, &b)?;
+/// }
+/// ```
+pub fn entries_fit<L: IntegerDot<R>, R>(left: &L, right: &R) -> bool
+    ensures exact { IsTrue result ↔ L.entries_in_range left.now right.now }
+    ensures defined { IsTrue result → L.can_dot left.now right.now }
+{
+    left.entries_fit(right)
+}
+
+impl<A: IntegerScalar, S: Data<Elem = A>, S2: Data<Elem = A>> IntegerDot<ArrayBase<S2, Ix1>>
+    for ArrayBase<S, Ix1> {
+    ghost entries_in_range = { λ a b. (a.lengths ≡ b.lengths) × A.fits (pos (magnitude_sum (products_of int_products A.value a.cells b.cells))) };
+
+    fn entries_fit(&self, rhs: &ArrayBase<S2, Ix1>) -> bool {
+        dot_fits(self, rhs)
+    }
+}
+
+impl<A: IntegerScalar, S: Data<Elem = A>, S2: Data<Elem = A>> IntegerDot<ArrayBase<S2, Ix2>>
+    for ArrayBase<S, Ix1> {
+    ghost entries_in_range = { λ a b. ShapesMultiply a.lengths b.lengths × HasMagnitudesInRange A.fits (row_of (whole_numbers A.value A.fits) a) (matrix_of (whole_numbers A.value A.fits) b) };
+
+    fn entries_fit(&self, rhs: &ArrayBase<S2, Ix2>) -> bool {
+        dot_ok(self, rhs) && columns_fit(&self.view(), &rhs.view())
+    }
+}
+
+impl<A: IntegerScalar, S: Data<Elem = A>, S2: Data<Elem = A>> IntegerDot<ArrayBase<S2, Ix1>>
+    for ArrayBase<S, Ix2> {
+    ghost entries_in_range = { λ a b. ShapesMultiply a.lengths b.lengths × HasMagnitudesInRange A.fits (matrix_of (whole_numbers A.value A.fits) a) (column_of (whole_numbers A.value A.fits) b) };
+
+    fn entries_fit(&self, rhs: &ArrayBase<S2, Ix1>) -> bool {
+        dot_ok(self, rhs) && rows_fit(&self.view(), &rhs.view())
+    }
+}
+
+impl<A: IntegerScalar, S: Data<Elem = A>, S2: Data<Elem = A>> IntegerDot<ArrayBase<S2, Ix2>>
+    for ArrayBase<S, Ix2> {
+    ghost entries_in_range = { λ a b. ShapesMultiply a.lengths b.lengths × HasMagnitudesInRange A.fits (matrix_of (whole_numbers A.value A.fits) a) (matrix_of (whole_numbers A.value A.fits) b) };
+
+    fn entries_fit(&self, rhs: &ArrayBase<S2, Ix2>) -> bool {
+        dot_ok(self, rhs) && rows_and_columns_fit(&self.view(), &rhs.view())
+    }
+}
+
+/// Whether a vector and each column of a matrix pass `dot_fits`.
+fn columns_fit<A: IntegerElem>(x: &ArrayView<'_, A, Ix1>, b: &ArrayView<'_, A, Ix2>) -> bool
+    requires vector { IsGrid x.now × (length x.now.lengths ≡ 1) }
+    requires inner { slice_index x.now.lengths 0 ≡ slice_index b.now.lengths 0 }
+    ensures magnitudes { IsTrue result ↔ HasMagnitudesInRange A.fits (row_of (whole_numbers A.value A.fits) x.now) (matrix_of (whole_numbers A.value A.fits) b.now) }
+    ensures sums { IsTrue result → HasSumsInRange (whole_numbers A.value A.fits) (row_of (whole_numbers A.value A.fits) x.now) (matrix_of (whole_numbers A.value A.fits) b.now) }
+{
+    let (k, n) = b.raw_dim().into_pattern();
+    // Without cells there may be more columns than could be walked.
+    if k == 0 {
+        return true;
+    }
+    for j in 0..n {
+        if !dot_fits(x, &b.index_axis(Axis(1), j)) {
+            return false;
+        }
+    }
+    true
+}
+
+/// Whether each row of a matrix and a vector pass `dot_fits`.
+fn rows_fit<A: IntegerElem>(a: &ArrayView<'_, A, Ix2>, x: &ArrayView<'_, A, Ix1>) -> bool
+    requires vector { IsGrid x.now × (length x.now.lengths ≡ 1) }
+    requires inner { slice_index a.now.lengths 1 ≡ slice_index x.now.lengths 0 }
+    ensures magnitudes { IsTrue result ↔ HasMagnitudesInRange A.fits (matrix_of (whole_numbers A.value A.fits) a.now) (column_of (whole_numbers A.value A.fits) x.now) }
+    ensures sums { IsTrue result → HasSumsInRange (whole_numbers A.value A.fits) (matrix_of (whole_numbers A.value A.fits) a.now) (column_of (whole_numbers A.value A.fits) x.now) }
+{
+    let (m, k) = a.raw_dim().into_pattern();
+    // Without cells there may be more rows than could be walked.
+    if k == 0 {
+        return true;
+    }
+    for i in 0..m {
+        if !dot_fits(&a.index_axis(Axis(0), i), x) {
+            return false;
+        }
+    }
+    true
+}
+
+/// Whether each row of a matrix and each column of another pass `dot_fits`.
+fn rows_and_columns_fit<A: IntegerElem>(
+    a: &ArrayView<'_, A, Ix2>,
+    b: &ArrayView<'_, A, Ix2>,
+) -> bool
+    requires { slice_index a.now.lengths 1 ≡ slice_index b.now.lengths 0 }
+    ensures magnitudes { IsTrue result ↔ HasMagnitudesInRange A.fits (matrix_of (whole_numbers A.value A.fits) a.now) (matrix_of (whole_numbers A.value A.fits) b.now) }
+    ensures sums { IsTrue result → HasSumsInRange (whole_numbers A.value A.fits) (matrix_of (whole_numbers A.value A.fits) a.now) (matrix_of (whole_numbers A.value A.fits) b.now) }
+{
+    let (m, k) = a.raw_dim().into_pattern();
+    let (_, n) = b.raw_dim().into_pattern();
+    // Without cells there may be more rows than could be walked.
+    if k == 0 || n == 0 {
+        return true;
+    }
+    for i in 0..m {
+        if !columns_fit(&a.index_axis(Axis(0), i), b) {
+            return false;
+        }
+    }
+    true
+}

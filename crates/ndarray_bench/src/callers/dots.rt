@@ -1,0 +1,46 @@
+//! Products of arrays whose number of axes is told as the program runs.
+
+ghost use Rattle.std.specs.Prelude.{◌≡◌, ◌↔◌, IfOk, IfSome, IsOk, IsSome};
+ghost use Rattle.ndarray.specs.DotLaws.{HasOneOrTwoAxes, left_matrix, product_entries, right_matrix};
+ghost use Rattle.ndarray.specs.Index.{size};
+ghost use Rattle.ndarray.specs.Products.{HasSumsInRange, HasValues, ShapesMultiply, dot_entries, product_lengths};
+
+use crate::residue::Residue;
+use ndarray::laws::dot_agrees;
+use ndarray::linalg::{Dot, dot_ok};
+use ndarray::{Array, ArrayView, IxDyn, Lengths, LinalgScalar, Valued};
+use std::alloc::{AllocError, Global};
+
+/// The product of two arrays of residues modulo 97, which never leaves the range, or `None` where their shapes do not multiply.
+pub fn residue_dot(
+    alloc: Global,
+    a: &ArrayView<'_, Residue<97>, IxDyn>,
+    b: &ArrayView<'_, Residue<97>, IxDyn>,
+) -> Result<Option<Array<Residue<97>, IxDyn>>, AllocError>
+    ensures shapes { IfOk result (λ made. IsSome made ↔ ShapesMultiply a.now.lengths b.now.lengths) }
+    ensures product { let values = ⟦<Residue<97> as Valued>⟧ in IfOk result (λ made. IfSome made (HasValues values (product_lengths a.now.lengths b.now.lengths) (dot_entries values a.now b.now))) }
+{
+    if !dot_ok(a, b) {
+        return Ok(None);
+    }
+    let product = Dot::dot(a, alloc, b)?;
+    Ok(Some(product))
+}
+
+/// The product of two vectors or matrices whose number of axes is told as the program runs.
+pub fn dynamic_product<A: LinalgScalar>(
+    alloc: Global,
+    a: &ArrayView<'_, A, IxDyn>,
+    b: &ArrayView<'_, A, IxDyn>,
+) -> Result<Array<A, IxDyn>, AllocError>
+    requires left { HasOneOrTwoAxes a.now.lengths }
+    requires right { HasOneOrTwoAxes b.now.lengths }
+    requires shapes { ShapesMultiply a.now.lengths b.now.lengths }
+    requires sums { HasSumsInRange A.Valued (left_matrix A.Valued a.now) (right_matrix A.Valued b.now) }
+    ensures product { IfOk result (HasValues A.Valued (product_lengths a.now.lengths b.now.lengths) (product_entries A.Valued a.now b.now)) }
+    ensures empty { size (product_lengths a.now.lengths b.now.lengths) ≡ 0 → IsOk result }
+{
+    dot_agrees::<A>();
+    let _whole = (a.raw_dim(), b.raw_dim());
+    Dot::dot(a, alloc, b)
+}

@@ -1,0 +1,188 @@
+//! Functions on integers that ask first whether the results are in range, so that none requires anything.
+
+ghost use Rattle.std.specs.Prelude.{◌≡◌, ◌↔◌, ◌+ℤ◌, ◌-ℤ◌, ◌*ℤ◌, ◌-◌, ◌∷◌, [], map, pos, neg_ℤ, false, FitsSigned, IfOk, IfSome, IsSome, IsTrue};
+ghost use Rattle.std.specs.Int.{w64};
+ghost use Rattle.ndarray.specs.Elementwise.{Assigns, CanAssign, CanCombine, CanMap, Combines, Maps};
+ghost use Rattle.ndarray.specs.Integers.{int_products, int_sums, magnitude_product};
+ghost use Rattle.ndarray.specs.Products.{HasValues, ShapesMultiply, column_entries, column_of, magnitude_sum, matrix_entries, matrix_of, product_of, products_of};
+ghost use Rattle.ndarray.specs.Sums.{IsSummableBy, total, total_by};
+ghost use Rattle.ndarray.specs.WholeValues.{HasMagnitudesInRange, whole_numbers};
+
+use ndarray::linalg::entries_fit;
+use ndarray::reduce::dot_fits;
+use ndarray::{Array, ArrayBase, Data, DataMut, DimMax, IntegerScalar, Ix1, Ix2, Lengths, Valued};
+use std::alloc::{AllocError, Global};
+
+/// Subtracts a row from each row of a table; or returns `false`, where the row does not broadcast to the table's shape or a
+/// difference is no `i64`, and leaves the table as it is.
+pub fn subtract_row<S: DataMut<Elem = i64>, T: Data<Elem = i64>>(
+    table: &mut ArrayBase<S, Ix2>,
+    row: &ArrayBase<T, Ix1>,
+) -> bool
+    ensures when { IsTrue result ↔ CanAssign (λ x y. FitsSigned w64 (x -ℤ y)) table.old row.now }
+    ensures unchanged { result ≡ false → table.new ≡ table.old }
+    ensures differences { IsTrue result → Assigns (λ x y z. z ≡ x -ℤ y) table.old row.now table.new }
+{
+    if !table.sub_assign_fits(row) {
+        return false;
+    }
+    *table -= row;
+    true
+}
+
+/// The sums of the cells of two arrays broadcast together, or `None` where the shapes do not broadcast or a sum is no `i64`.
+pub fn sums_in_range<S: Data<Elem = i64>, T: Data<Elem = i64>, D: DimMax<E>, E: Lengths>(
+    alloc: Global,
+    a: &ArrayBase<S, D>,
+    b: &ArrayBase<T, E>,
+) -> Result<Option<Array<i64, <D as DimMax<E>>::Output>>, AllocError>
+    ensures when { IfOk result (λ made. IsSome made ↔ CanCombine a.now b.now (λ x y. FitsSigned w64 (x +ℤ y))) }
+    ensures sums { IfOk result (λ made. IfSome made (Combines a.now b.now (λ x y z. z ≡ x +ℤ y))) }
+{
+    if !a.add_fits(b) {
+        return Ok(None);
+    }
+    let copy = a.to_owned(alloc)?;
+    let sums = (copy + b)?;
+    Ok(Some(sums))
+}
+
+/// What is left of each cell after another is taken from it, or `None` where the shapes do not broadcast together or the other
+/// is greater: an unsigned type has no number below 0.
+pub fn what_is_left<D: Lengths + DimMax<D>>(
+    whole: &Array<u64, D>,
+    part: &Array<u64, D>,
+) -> Result<Option<Array<u64, <D as DimMax<D>>::Output>>, AllocError>
+    ensures when { IfOk result (λ made. IsSome made ↔ CanCombine whole.now part.now (λ x y. ⟦<u64 as num_traits::Number>⟧.fits (pos x -ℤ pos y))) }
+    ensures rests { IfOk result (λ made. IfSome made (Combines whole.now part.now (λ x y z. z ≡ x - y))) }
+{
+    if !whole.sub_fits(part) {
+        return Ok(None);
+    }
+    let rests = (whole - part)?;
+    Ok(Some(rests))
+}
+
+/// Adds a number to each cell; or returns `false`, where a sum is no `i64`, and leaves the array as it is.
+pub fn add_to_each<S: DataMut<Elem = i64>, D: Lengths>(
+    array: &mut ArrayBase<S, D>,
+    more: i64,
+) -> bool
+    ensures when { IsTrue result ↔ CanMap (λ x. FitsSigned w64 (x +ℤ more)) array.old }
+    ensures unchanged { result ≡ false → array.new ≡ array.old }
+    ensures sums { IsTrue result → Maps (λ x z. z ≡ x +ℤ more) array.old array.new }
+{
+    if !array.add_scalar_fits(more) {
+        return false;
+    }
+    *array += more;
+    true
+}
+
+/// The products of the cells of a table and of one that is broadcast with it, or `None` where the shapes do not broadcast
+/// together or a product is no `i64`.
+pub fn products_in_range<T: Data<Elem = i64>, E: Lengths>(
+    table: &Array<i64, Ix2>,
+    factors: &ArrayBase<T, E>,
+) -> Result<Option<Array<i64, <Ix2 as DimMax<E>>::Output>>, AllocError>
+where
+    Ix2: DimMax<E>,
+    ensures when { IfOk result (λ made. IsSome made ↔ CanCombine table.now factors.now (λ x y. FitsSigned w64 (x *ℤ y))) }
+    ensures products { IfOk result (λ made. IfSome made (Combines table.now factors.now (λ x y z. z ≡ x *ℤ y))) }
+{
+    if !table.mul_fits(factors) {
+        return Ok(None);
+    }
+    let products = (table * factors)?;
+    Ok(Some(products))
+}
+
+/// The negative of each cell, or `None` where a cell is the least `i64`.
+pub fn opposite<D: Lengths>(array: Array<i64, D>) -> Result<Option<Array<i64, D>>, AllocError>
+    ensures when { IfOk result (λ made. IsSome made ↔ CanMap (λ x. FitsSigned w64 (neg_ℤ x)) array) }
+    ensures negatives { IfOk result (λ made. IfSome made (Maps (λ x z. z ≡ neg_ℤ x) array)) }
+{
+    if !array.neg_fits() {
+        return Ok(None);
+    }
+    let negatives = (-array)?;
+    Ok(Some(negatives))
+}
+
+/// The product of two matrices, or `None` where their shapes do not multiply or, for some row and column, the absolute values
+/// of the products add up to more than the greatest `i64`.
+pub fn matrix_product_in_range<S: Data<Elem = i64>, T: Data<Elem = i64>>(
+    alloc: Global,
+    a: &ArrayBase<S, Ix2>,
+    b: &ArrayBase<T, Ix2>,
+) -> Result<Option<Array<i64, Ix2>>, AllocError>
+    ensures when { let values = ⟦<i64 as Valued>⟧ in IfOk result (λ made. IsSome made ↔ (ShapesMultiply a.now.lengths b.now.lengths × HasMagnitudesInRange (FitsSigned w64) (matrix_of values a.now) (matrix_of values b.now))) }
+    ensures product { let values = ⟦<i64 as Valued>⟧ in let product = product_of values (matrix_of values a.now) (matrix_of values b.now) in IfOk result (λ made. IfSome made (HasValues values (product.rows ∷ product.columns ∷ []) (matrix_entries product))) }
+{
+    if !entries_fit(a, b) {
+        return Ok(None);
+    }
+    let product = a.dot(alloc, b)?;
+    Ok(Some(product))
+}
+
+/// The sum of all cells of any integer type, or `None` where some selection of them has a sum that is no number of the type.
+pub fn checked_total<A: IntegerScalar, S: Data<Elem = A>, D: Lengths>(
+    a: &ArrayBase<S, D>,
+) -> Option<A>
+    ensures when { IsSome result ↔ IsSummableBy int_sums A.fits A.value a.now.cells }
+    ensures total { IfSome result (λ sum. A.value sum ≡ total_by int_sums A.value a.now.cells) }
+{
+    if a.sums_fit() { Some(a.sum()) } else { None }
+}
+
+/// The inner sum of two vectors of any integer type, or `None` where they are not of one length, or the absolute values of the
+/// products add up to more than the type's greatest number.
+pub fn checked_inner_sum<A: IntegerScalar, S: Data<Elem = A>, T: Data<Elem = A>>(
+    alloc: Global,
+    x: &ArrayBase<S, Ix1>,
+    y: &ArrayBase<T, Ix1>,
+) -> Option<A>
+    ensures when { IsSome result ↔ ((x.now.lengths ≡ y.now.lengths) × A.fits (pos (magnitude_sum (products_of int_products A.value x.now.cells y.now.cells)))) }
+    ensures sum { IfSome result (λ sum. A.value sum ≡ total int_sums (products_of int_products A.value x.now.cells y.now.cells)) }
+{
+    let (x, y) = (x.view(), y.view());
+    if dot_fits(&x, &y) {
+        Some(x.dot(alloc, &y))
+    } else {
+        None
+    }
+}
+
+/// The product of all cells of any integer type, or `None` where the absolute values of those that are not zero multiply to more
+/// than the type's greatest number.
+pub fn checked_product<A: IntegerScalar, S: Data<Elem = A>, D: Lengths>(
+    a: &ArrayBase<S, D>,
+) -> Option<A>
+    ensures when { IsSome result ↔ A.fits (pos (magnitude_product (map A.value a.now.cells))) }
+    ensures product { IfSome result (λ product. A.value product ≡ total_by int_products A.value a.now.cells) }
+{
+    if a.products_fit() {
+        Some(a.product())
+    } else {
+        None
+    }
+}
+
+/// A matrix times a vector, of any integer type, or `None` where the lengths do not meet or, for some row, the absolute values of
+/// the products add up to more than the type's greatest number.
+pub fn checked_matrix_times_vector<A: IntegerScalar, S: Data<Elem = A>, T: Data<Elem = A>>(
+    alloc: Global,
+    a: &ArrayBase<S, Ix2>,
+    x: &ArrayBase<T, Ix1>,
+) -> Result<Option<Array<A, Ix1>>, AllocError>
+    ensures when { let values = whole_numbers A.value A.fits in IfOk result (λ made. IsSome made ↔ (ShapesMultiply a.now.lengths x.now.lengths × HasMagnitudesInRange A.fits (matrix_of values a.now) (column_of values x.now))) }
+    ensures product { let product = product_of A.Valued (matrix_of A.Valued a.now) (column_of A.Valued x.now) in IfOk result (λ made. IfSome made (HasValues A.Valued (product.rows ∷ []) (column_entries product))) }
+{
+    let (a, x) = (a.view(), x.view());
+    if !entries_fit(&a, &x) {
+        return Ok(None);
+    }
+    let product = a.dot(alloc, &x)?;
+    Ok(Some(product))
+}

@@ -1,0 +1,62 @@
+-- Why words have no answer: which fault comes first, as they are read from left to right, and then computed with.
+use Rattle.std.specs.Prelude.{◌≡◌, ◌⊎◌, ◌<◌, ◌≤◌, ⊤, ℕ, ℤ, List, [], ◌∷◌, length, take, All}
+use Rattle.ndarray.specs.Grid.{Grid}
+use Rattle.ndarray.specs.Index.{size}
+use Rattle.ndarray.specs.declared.base.shape.Order.{Order}
+use Rattle.ndtables.specs.Adding.{ForbidsSums}
+use Rattle.ndtables.specs.Reading.{ReadsCount, ReadsTable}
+use Rattle.ndtables.specs.Reducing.{AreInRangeAlong, CanCumulateAlong, ForbidsDifferences, ForbidsMaking, HasAxis}
+use Rattle.ndtables.specs.Spelling.{IsCellWord, IsCountWord, SpellsNoShape, SpellsShape}
+use Rattle.ndtables.specs.declared.fault.Fault.{Fault}
+use Rattle.ndtables.specs.declared.fault.Fault.TheVariants.{Usage, Shape, Number, Range, Memory}
+
+-- the fault is why no axis or order was read: there is no word, or it spells none
+abbrev pub ForbidsCount : List (List ℕ) → Fault → Type 0
+ForbidsCount [] fault = fault ≡ Usage
+ForbidsCount (word ∷ rest) fault = (IsCountWord word → ⊥) × (fault ≡ Number)
+
+-- the fault is why the next n words were not read as cells: there are fewer, or one spells no cell, or allocation failure
+abbrev pub ForbidsCells : ℕ → List (List ℕ) → Fault → Type 0
+ForbidsCells n words Usage = length words < n
+ForbidsCells n words Shape = ⊥
+ForbidsCells n words Number = (n ≤ length words) × (All IsCellWord (take n words) → ⊥)
+ForbidsCells n words Range = ⊥
+ForbidsCells n words Memory = n ≤ length words
+
+-- the fault is why no table was read: there is no word, or it spells no shape, or the fault is that of its cells
+abbrev pub ForbidsTable : List (List ℕ) → Fault → Type 0
+ForbidsTable [] fault = fault ≡ Usage
+ForbidsTable (word ∷ rest) fault = (SpellsNoShape word × (fault ≡ Shape)) ⊎ ((ns : List ℕ) × (order : Order) × SpellsShape word ns order × ForbidsCells (size ns) rest fault)
+
+-- the fault is why no axis or order was read, or one was, and the fault is that of what follows
+abbrev pub AfterCount : (ℕ → List (List ℕ) → Fault → Type 0) → List (List ℕ) → Fault → Type 0
+AfterCount follows words fault = ForbidsCount words fault ⊎ ((count : ℕ) × (rest : List (List ℕ)) × ReadsCount words rest count × follows count rest fault)
+
+-- the fault is why no table was read, or one was, and the fault is that of what follows
+abbrev pub AfterTable : (Grid ℤ → List (List ℕ) → Fault → Type 0) → List (List ℕ) → Fault → Type 0
+AfterTable follows words fault = ForbidsTable words fault ⊎ ((table : Grid ℤ) × (rest : List (List ℕ)) × ReadsTable words rest table × follows table rest fault)
+
+-- words are left over, or none is, and the fault is that of what is computed
+abbrev pub AtEnd : (Fault → Type 0) → List (List ℕ) → Fault → Type 0
+AtEnd computes [] fault = computes fault
+AtEnd computes (word ∷ rest) fault = fault ≡ Usage
+
+-- why the total of a table was not printed
+abbrev pub ForbidsTotal : (List ℤ → Type 0) → List (List ℕ) → Fault → Type 0
+ForbidsTotal in_range = AfterTable (λ table. AtEnd (ForbidsMaking ⊤ (in_range table.cells)))
+
+-- why the array of the sums of two tables was not printed
+abbrev pub ForbidsAdd : List (List ℕ) → Fault → Type 0
+ForbidsAdd = AfterTable (λ left. AfterTable (λ right. AtEnd (ForbidsSums left right)))
+
+-- why the array of the totals of the lanes along an axis was not printed
+abbrev pub ForbidsTotals : (List ℤ → Type 0) → List (List ℕ) → Fault → Type 0
+ForbidsTotals in_range = AfterCount (λ axis. AfterTable (λ table. AtEnd (ForbidsMaking (HasAxis table axis) (AreInRangeAlong in_range table axis))))
+
+-- why the difference of an order along an axis was not printed
+abbrev pub ForbidsDiff : List (List ℕ) → Fault → Type 0
+ForbidsDiff = AfterCount (λ order. AfterCount (λ axis. AfterTable (λ table. AtEnd (ForbidsDifferences table order axis))))
+
+-- why the running products along an axis were not printed
+abbrev pub ForbidsCumprod : List (List ℕ) → Fault → Type 0
+ForbidsCumprod = AfterCount (λ axis. AfterTable (λ table. AtEnd (ForbidsMaking (HasAxis table axis) (CanCumulateAlong table axis))))
