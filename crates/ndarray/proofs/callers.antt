@@ -13,6 +13,7 @@ pub mod Mapping
 pub mod ProductChains
 pub mod Products
 pub mod RowOrder
+pub mod RowsBelow
 pub mod SameMatrices
 pub mod Scanning
 pub mod Stacking

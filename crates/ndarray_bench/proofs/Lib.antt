@@ -1,5 +1,4 @@
 mod Grants
 pub mod FibonacciPowers
 pub mod PairedProducts
-pub mod RowsBelow
 pub mod Uses

@@ -1,15 +1,18 @@
 //! Uses of the library as a user would write them: totals put under a table, the determinant of a triangle, a step of the game
 //! of life, and a fixed-point signal.
 
-ghost use Rattle.std.specs.Prelude.{◌≡◌, ◌≢◌, ◌↔◌, ◌<◌, ◌≤◌, ◌+◌, ◌*ℤ◌, ◌^◌, ◌∷◌, [], ℕ, drop, slice_index, FitsSigned, IfErr, IfOk, IfSome, IsOk, IsSome, IsTrue};
+ghost use Rattle.std.specs.Prelude.{◌≡◌, ◌≢◌, ◌↔◌, ◌<◌, ◌≤◌, ◌+◌, ◌*ℤ◌, ◌^◌, ◌∷◌, [], ℕ, drop, slice_index, Err, Some, FitsSigned, IfErr, IfOk, IfSome, IsOk, IsSome, IsTrue};
 ghost use Rattle.std.specs.Int.{w64};
 ghost use Rattle.ndarray.specs.Elementwise.{CanMap};
 ghost use Rattle.ndarray.specs.Grid.{IsGrid, array_by, cell};
 ghost use Rattle.ndarray.specs.Index.{InBox, size};
 ghost use Rattle.ndarray.specs.Integers.{int_sums};
-ghost use Rattle.ndarray.specs.Joining.{concatenation};
+ghost use Rattle.ndarray.specs.Errors.{shape_error};
+ghost use Rattle.ndarray.specs.Joining.{concatenate_error, concatenation};
 ghost use Rattle.ndarray.specs.Sums.{IsSummable};
 ghost use Rattle.ndarray.specs.Views.{axis_inserted};
+ghost use Rattle.ndarray.specs.declared.base.error.ErrorKind.{ErrorKind};
+ghost use Rattle.ndarray.specs.declared.stacking.error.StackError.TheVariants.{Shape};
 ghost use Rattle.ndarray_bench.specs.Uses.{HasDiagonalInRange, amplified_at, diagonal_product, life_step_at, living, living_in_row, total_below};
 
 use ndarray::{
@@ -17,13 +20,13 @@ use ndarray::{
 };
 use std::alloc::{AllocError, Global};
 
-/// A table with one more row below it. The error is a `ShapeError` of the kind `Overflow`, where that is beyond the limit, or
-/// allocation failure.
+/// A table with one more row below it. The error is that of `concatenate`, of the table and a table of that row.
 fn with_row_below(
     alloc: Global,
     table: &ArrayView<'_, i64, Ix2>,
     row: &ArrayView<'_, i64, Ix1>,
 ) -> Result<Array<i64, Ix2>, StackError>
+    ensures errors { (k : ErrorKind) → (result ≡ Err (Shape (shape_error k))) ↔ (concatenate_error 0 (table.now.lengths ∷ (1 ∷ row.now.lengths) ∷ []) ≡ Some k) }
     ensures cells { IfOk result (λ t. t ≡ concatenation 0 (table.now ∷ axis_inserted row.now 0 ∷ [])) }
     ensures whole { IfOk result IsGrid }
 {
@@ -33,12 +36,13 @@ fn with_row_below(
 }
 
 /// A table with one more row below it, which holds the sum of each column; or `None` where some of the table's numbers add up to
-/// no `i64`. The error is that of `concatenate`, where the table with one more row is beyond the limit, or allocation failure.
+/// no `i64`. The error is that of `concatenate`, of the table and a table of one row, or allocation failure.
 pub fn with_totals<S: Data<Elem = i64>>(
     alloc: Global,
     table: &ArrayBase<S, Ix2>,
 ) -> Result<Option<Array<i64, Ix2>>, StackError>
     ensures fits { IfOk result (λ made. IsSome made ↔ IsSummable int_sums (FitsSigned w64) table.now.cells) }
+    ensures errors { (k : ErrorKind) → result ≡ Err (Shape (shape_error k)) → concatenate_error 0 (table.now.lengths ∷ (1 ∷ drop 1 table.now.lengths) ∷ []) ≡ Some k }
     ensures totals { IfOk result (λ made. IfSome made (λ t. t ≡ array_by ((slice_index table.now.lengths 0 + 1) ∷ drop 1 table.now.lengths) (total_below table.now))) }
 {
     let table = table.view();
