@@ -11,6 +11,7 @@ pub mod EntryTests
 pub mod IndexedCells
 pub mod LaneCells
 pub mod LaneSums
+pub mod LaneTests
 pub mod Matrices
 pub mod Overwriting
 pub mod Products

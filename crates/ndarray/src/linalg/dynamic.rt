@@ -1,9 +1,10 @@
 //! Products of arrays whose number of axes is told as the program runs.
 
-ghost use Rattle.std.specs.Prelude.{◌≡◌};
+ghost use Rattle.std.specs.Prelude.{◌≡◌, ◌-◌, ◌≤◌, length};
 ghost use Rattle.ndarray.specs.Dimensions.{held_numbers};
 ghost use Rattle.ndarray.specs.LaneSums.{CanSumLanes, SumsLanes};
 ghost use Rattle.ndarray.specs.Products.{HasLaneSumsInRange, MakesValues, ShapesMultiply, dot_entries, product_lengths};
+ghost use Rattle.ndarray.specs.Subviews.{lanes_of};
 
 use crate::base::array::{Array, ArrayBase, ArrayView};
 use crate::base::axis::Axis;
@@ -45,10 +46,18 @@ fn product<A: LinalgScalar>(
 {
     let (left, right) = (x.raw_dim(), y.raw_dim());
     let sums = LaneSums {
-        rows: x.lanes(Axis(left.ndim() - 1)),
-        columns: y.lanes(Axis(right.ndim().saturating_sub(2))),
+        rows: x.rows(),
+        columns: inner_lanes(y),
     };
     array_of(alloc, product_dim(left.slice(), right.slice()), sums)
+}
+
+/// The lanes of the right side of a product that meet the rows of the left: along the last axis but one, or the only one.
+pub(crate) fn inner_lanes<'a, A>(right: &'a ArrayView<'_, A, IxDyn>) -> Lanes<'a, A, IxDyn>
+    requires { 1 ≤ length right.now.lengths }
+    ensures { result ≡ lanes_of right.now (length right.now.lengths - 2) }
+{
+    right.lanes(Axis(right.ndim().saturating_sub(2)))
 }
 
 /// The inner sums of rows and columns, each at the index list of the row and then that of the column.
