@@ -4,6 +4,7 @@ use Rattle.ndarray.specs.Grid.{Grid}
 use Rattle.ndarray.specs.Index.{size}
 use Rattle.ndarray.specs.declared.base.shape.Order.{Order}
 use Rattle.ndtables.specs.Adding.{ForbidsSums}
+use Rattle.ndtables.specs.Multiplying.{ForbidsProduct}
 use Rattle.ndtables.specs.Reading.{ReadsCount, ReadsTable}
 use Rattle.ndtables.specs.Reducing.{AreInRangeAlong, CanCumulateAlong, ForbidsDifferences, ForbidsMaking, HasAxis}
 use Rattle.ndtables.specs.Spelling.{IsCellWord, IsCountWord, SpellsNoShape, SpellsShape}
@@ -56,6 +57,10 @@ ForbidsTotals in_range = AfterCount (λ axis. AfterTable (λ table. AtEnd (Forbi
 -- why the difference of an order along an axis was not printed
 abbrev pub ForbidsDiff : List (List ℕ) → Fault → Type 0
 ForbidsDiff = AfterCount (λ order. AfterCount (λ axis. AfterTable (λ table. AtEnd (ForbidsDifferences table order axis))))
+
+-- why the product of two tables was not printed
+abbrev pub ForbidsDot : List (List ℕ) → Fault → Type 0
+ForbidsDot = AfterTable (λ left. AfterTable (λ right. AtEnd (ForbidsProduct left right)))
 
 -- why the running products along an axis were not printed
 abbrev pub ForbidsCumprod : List (List ℕ) → Fault → Type 0

@@ -2,12 +2,13 @@
 
 ghost use Rattle.std.specs.Prelude.{◌≡◌, MatchOption, IfOk, IfErr, string_bytes};
 ghost use Rattle.ndarray.specs.Integers.{int_products, int_sums};
-ghost use Rattle.ndtables.specs.Faults.{ForbidsAdd, ForbidsCumprod, ForbidsDiff, ForbidsTotal, ForbidsTotals};
-ghost use Rattle.ndtables.specs.Reading.{PrintsAdd, PrintsCumprod, PrintsDiff, PrintsTotal, PrintsTotals};
+ghost use Rattle.ndtables.specs.Faults.{ForbidsAdd, ForbidsCumprod, ForbidsDiff, ForbidsDot, ForbidsTotal, ForbidsTotals};
+ghost use Rattle.ndtables.specs.Reading.{PrintsAdd, PrintsCumprod, PrintsDiff, PrintsDot, PrintsTotal, PrintsTotals};
 ghost use Rattle.ndtables.specs.Reducing.{ProductsFit, SumsFit};
 
 use crate::adding::sums_in_range;
 use crate::fault::Fault;
+use crate::multiplying::dot_in_range;
 use crate::printing::text_of;
 use crate::reducing::{
     differences, product_in_range, products_along, running_products, sum_in_range, sums_along,
@@ -26,6 +27,9 @@ pub enum Command {
     Cumprod,
     /// `diff N K TABLE` prints the difference of order N along axis K.
     Diff,
+    /// `dot TABLE TABLE` prints the product of two tables: the sums of the products of the lanes of the
+    /// left along its last axis and the lanes of the right along its last axis but one, or its only one.
+    Dot,
     /// `product TABLE` prints the product of all cells.
     Product,
     /// `product-axis K TABLE` prints the array of the products of the lanes along axis K.
@@ -47,6 +51,7 @@ impl Command {
             "add" => Some(Command::Add),
             "cumprod" => Some(Command::Cumprod),
             "diff" => Some(Command::Diff),
+            "dot" => Some(Command::Dot),
             "product" => Some(Command::Product),
             "product-axis" => Some(Command::ProductAxis),
             "sum" => Some(Command::Sum),
@@ -67,6 +72,7 @@ impl Command {
             Command::Add => add(alloc, words),
             Command::Cumprod => cumprod(alloc, words),
             Command::Diff => diff(alloc, words),
+            Command::Dot => dot(alloc, words),
             Command::Product => product(alloc, words),
             Command::ProductAxis => product_axis(alloc, words),
             Command::Sum => sum(alloc, words),
@@ -110,6 +116,18 @@ fn diff(alloc: Global, mut words: Words<'_>) -> Result<String, Fault>
     words.end()?;
     let differences = differences(alloc, &table.view(), order, Axis(axis))?;
     Ok(text_of(alloc, &differences.view())?)
+}
+
+/// `dot TABLE TABLE`.
+fn dot(alloc: Global, mut words: Words<'_>) -> Result<String, Fault>
+    ensures text { IfOk result (λ text. PrintsDot words.entry (string_bytes text)) }
+    ensures err { IfErr result (ForbidsDot words.entry) }
+{
+    let left = words.table(alloc)?;
+    let right = words.table(alloc)?;
+    words.end()?;
+    let product = dot_in_range(alloc, &left.view(), &right.view())?;
+    Ok(text_of(alloc, &product.view())?)
 }
 
 /// `product TABLE`.
