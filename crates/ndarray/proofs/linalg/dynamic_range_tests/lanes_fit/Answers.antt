@@ -2,7 +2,9 @@ use Rattle.std.proofs.Common.{◌≡◌, ◌∙◌, ◌⊎◌, All, ap, inl, inr
 use Rattle.std.proofs.lemmas.List.Elements.{All-nil}
 use Rattle.ndarray.specs.DotRanges.{HasInnerMagnitudeInRange, HasInnerSumInRange}
 use Rattle.ndarray.specs.Index.{size}
-use Rattle.ndarray.proofs.cells.LaneTests.{EachColumn, magnitudes-exact, magnitudes-none, one-failed, one-held, one-held_from, rows_of, sums-all, sums-none}
+use Rattle.ndarray.proofs.cells.LanePairs.{EachColumn, rows_of}
+use Rattle.ndarray.proofs.cells.LaneTests.{magnitudes-exact, magnitudes-none, sums-all, sums-none}
+use Rattle.ndarray.proofs.lists.TestedElements.{one-failed, one-held, one-held_from}
 use Rattle.ndarray.proofs.lists.Decisions.{says_no, says_yes}
 use Rattle.ndarray.proofs.linalg.dynamic_range_tests.lanes_fit.Given.{Over}
 use Rattle.ndarray.proofs.linalg.dynamic_range_tests.lanes_fit.Goals.{then-len-eq0-via-then-len-eq0, then-len-eq0-via-else-len-eq0+then-len-eq0-2}

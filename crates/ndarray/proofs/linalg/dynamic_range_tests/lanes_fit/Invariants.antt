@@ -1,7 +1,7 @@
 -- The rows to come fit with each column where all do, and the other way round.
 use Rattle.std.proofs.Common.{◌↔◌, All}
 use Rattle.ndarray.specs.DotRanges.{HasInnerMagnitudeInRange, HasInnerSumInRange}
-use Rattle.ndarray.proofs.cells.LaneTests.{EachColumn, rows_of}
+use Rattle.ndarray.proofs.cells.LanePairs.{EachColumn, rows_of}
 use Rattle.ndarray.proofs.linalg.dynamic_range_tests.lanes_fit.Given as goal
 
 abbrev pub invariant-loop-row : goal.invariant-loop-row

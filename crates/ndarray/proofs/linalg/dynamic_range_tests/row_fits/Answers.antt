@@ -1,5 +1,5 @@
 use Rattle.ndarray.specs.DotRanges.{HasInnerMagnitudeInRange, HasInnerSumInRange}
-use Rattle.ndarray.proofs.cells.LaneTests.{one-failed, one-held, one-held_from}
+use Rattle.ndarray.proofs.lists.TestedElements.{one-failed, one-held, one-held_from}
 use Rattle.ndarray.proofs.lists.Decisions.{says_no}
 use Rattle.ndarray.proofs.linalg.dynamic_range_tests.row_fits.Goals as goal
 
