@@ -1,6 +1,6 @@
 //! Products of arrays whose number of axes is told as the program runs.
 
-ghost use Rattle.std.specs.Prelude.{◌≡◌, ◌↔◌, IfOk, IfSome, IsOk, IsSome};
+ghost use Rattle.std.specs.Prelude.{◌≡◌, ◌≢◌, ◌↔◌, IfErr, IfOk, IfSome, IsOk, IsSome};
 ghost use Rattle.ndarray.specs.DotLaws.{HasOneOrTwoAxes, left_matrix, product_entries, right_matrix};
 ghost use Rattle.ndarray.specs.DotRanges.{HasLaneMagnitudesInRange};
 ghost use Rattle.ndarray.specs.Index.{size};
@@ -22,6 +22,7 @@ pub fn residue_dot(
 ) -> Result<Option<Array<Residue<97>, IxDyn>>, AllocError>
     ensures shapes { IfOk result (λ made. IsSome made ↔ ShapesMultiply a.now.lengths b.now.lengths) }
     ensures product { let values = ⟦<Residue<97> as Valued>⟧ in IfOk result (λ made. IfSome made (HasValues values (product_lengths a.now.lengths b.now.lengths) (dot_entries values a.now b.now))) }
+    ensures error { IfErr result (λ _. ShapesMultiply a.now.lengths b.now.lengths × (size (product_lengths a.now.lengths b.now.lengths) ≢ 0)) }
 {
     if !dot_ok(a, b) {
         return Ok(None);
@@ -57,7 +58,7 @@ pub fn checked_dot<A: IntegerScalar, S: Data<Elem = A>, T: Data<Elem = A>>(
 ) -> Result<Option<Array<A, IxDyn>>, AllocError>
     ensures when { IfOk result (λ made. IsSome made ↔ (ShapesMultiply a.now.lengths b.now.lengths × HasLaneMagnitudesInRange A.value A.fits a.now b.now)) }
     ensures product { IfOk result (λ made. IfSome made (HasValues A.Valued (product_lengths a.now.lengths b.now.lengths) (dot_entries A.Valued a.now b.now))) }
-    ensures empty { size (product_lengths a.now.lengths b.now.lengths) ≡ 0 → IsOk result }
+    ensures error { IfErr result (λ _. ShapesMultiply a.now.lengths b.now.lengths × HasLaneMagnitudesInRange A.value A.fits a.now b.now × (size (product_lengths a.now.lengths b.now.lengths) ≢ 0)) }
 {
     let (a, b) = (a.view(), b.view());
     if !entries_fit(&a, &b) {

@@ -9,7 +9,8 @@ use Rattle.ndarray.specs.Products.{dot_entries, product_lengths}
 use Rattle.ndarray.proofs.boxes.Orders.{length-row_order}
 use Rattle.ndarray.proofs.cells.Cells.{cells-row_major}
 use Rattle.ndarray.proofs.cells.LanePairs.{EachColumn, columns_of}
-use Rattle.ndarray.proofs.cells.LaneSums.{lanes-can_sum, sums-in_row_order, values-in_row_order, values-none}
+use Rattle.ndarray.proofs.cells.LaneSums.{lanes-can_sum, sums-in_row_order}
+use Rattle.ndarray.proofs.cells.Products.{values-in_row_order, values-none}
 use Rattle.ndarray.proofs.lists.Pushes.{some-pushed, some-room}
 use Rattle.ndarray.proofs.linalg.dynamic.product.Goals as goal
 
