@@ -10,7 +10,9 @@ pub mod Elementwise
 pub mod EntryTests
 pub mod IndexedCells
 pub mod LaneCells
+pub mod LanePairs
 pub mod LaneSums
+pub mod LaneTests
 pub mod Matrices
 pub mod Overwriting
 pub mod Products

@@ -3,7 +3,10 @@ pub mod CellLookup
 pub mod Collections
 pub mod Decisions
 pub mod Elements
+pub mod FlatMaps
 pub mod Pairs
 pub mod Permutations
 pub mod Prefixes
+pub mod Pushes
 pub mod Refits
+pub mod TestedElements

@@ -8,6 +8,7 @@ pub mod Convolution
 pub mod ConvolutionLaws
 pub mod Dimensions
 pub mod DotLaws
+pub mod DotRanges
 pub mod Elementwise
 pub mod Entries
 pub mod Errors

@@ -6,6 +6,7 @@
 
 mod chains;
 mod dynamic;
+mod dynamic_range_tests;
 mod entries;
 mod general;
 mod inner;

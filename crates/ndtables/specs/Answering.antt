@@ -1,11 +1,11 @@
 -- What the program answers to its words, and why it does not.
 use Rattle.std.specs.Prelude.{◌≡◌, ◌⊎◌, ℕ, List, [], ◌∷◌, codes}
 use Rattle.ndarray.specs.Integers.{int_products, int_sums}
-use Rattle.ndtables.specs.Faults.{ForbidsAdd, ForbidsCumprod, ForbidsDiff, ForbidsTotal, ForbidsTotals}
-use Rattle.ndtables.specs.Reading.{PrintsAdd, PrintsCumprod, PrintsDiff, PrintsTotal, PrintsTotals}
+use Rattle.ndtables.specs.Faults.{ForbidsAdd, ForbidsCumprod, ForbidsDiff, ForbidsDot, ForbidsTotal, ForbidsTotals}
+use Rattle.ndtables.specs.Reading.{PrintsAdd, PrintsCumprod, PrintsDiff, PrintsDot, PrintsTotal, PrintsTotals}
 use Rattle.ndtables.specs.Reducing.{ProductsFit, SumsFit}
 use Rattle.ndtables.specs.declared.command.Command.{Command}
-use Rattle.ndtables.specs.declared.command.Command.TheVariants.{Add, Cumprod, Diff, Product, ProductAxis, Sum, SumAxis}
+use Rattle.ndtables.specs.declared.command.Command.TheVariants.{Add, Cumprod, Diff, Dot, Product, ProductAxis, Sum, SumAxis}
 use Rattle.ndtables.specs.declared.fault.Fault.{Fault}
 use Rattle.ndtables.specs.declared.fault.Fault.TheVariants.{Usage}
 
@@ -14,6 +14,7 @@ abbrev pub name_of : Command → List ℕ
 name_of Add = codes "add"
 name_of Cumprod = codes "cumprod"
 name_of Diff = codes "diff"
+name_of Dot = codes "dot"
 name_of Product = codes "product"
 name_of ProductAxis = codes "product-axis"
 name_of Sum = codes "sum"
@@ -24,6 +25,7 @@ abbrev pub Prints : Command → List (List ℕ) → List ℕ → Type 0
 Prints Add = PrintsAdd
 Prints Cumprod = PrintsCumprod
 Prints Diff = PrintsDiff
+Prints Dot = PrintsDot
 Prints Product = PrintsTotal int_products ProductsFit
 Prints ProductAxis = PrintsTotals int_products ProductsFit
 Prints Sum = PrintsTotal int_sums SumsFit
@@ -41,6 +43,7 @@ abbrev pub Forbids : Command → List (List ℕ) → Fault → Type 0
 Forbids Add = ForbidsAdd
 Forbids Cumprod = ForbidsCumprod
 Forbids Diff = ForbidsDiff
+Forbids Dot = ForbidsDot
 Forbids Product = ForbidsTotal ProductsFit
 Forbids ProductAxis = ForbidsTotals ProductsFit
 Forbids Sum = ForbidsTotal SumsFit

@@ -4,6 +4,7 @@ use Rattle.ndarray.specs.Grid.{Grid}
 use Rattle.ndarray.specs.Index.{size}
 use Rattle.ndarray.specs.declared.base.shape.Order.{Order}
 use Rattle.ndtables.specs.Adding.{ForbidsSums}
+use Rattle.ndtables.specs.Multiplying.{ForbidsProduct}
 use Rattle.ndtables.specs.Reading.{ReadsAxisAndTable, ReadsCount, ReadsTable, ReadsTables}
 use Rattle.ndtables.specs.Reducing.{AreInRangeAlong, CanCumulateAlong, ForbidsDifferences, ForbidsMaking, HasAxis}
 use Rattle.ndtables.specs.Spelling.{IsCellWord, IsCountWord, SpellsNoShape, SpellsShape}
@@ -80,6 +81,10 @@ ForbidsTotals in_range = AfterAxisAndTable (λ axis table. ForbidsMaking (HasAxi
 -- why the difference of an order along an axis was not printed
 abbrev pub ForbidsDiff : List (List ℕ) → Fault → Type 0
 ForbidsDiff = AfterCount (λ order. AfterAxisAndTable (λ axis table. ForbidsDifferences table order axis))
+
+-- why the product of two tables was not printed
+abbrev pub ForbidsDot : List (List ℕ) → Fault → Type 0
+ForbidsDot = AfterTables ForbidsProduct
 
 -- why the running products along an axis were not printed
 abbrev pub ForbidsCumprod : List (List ℕ) → Fault → Type 0

@@ -1,6 +1,7 @@
 pub mod Adding
 pub mod Answering
 pub mod Faults
+pub mod Multiplying
 pub mod Printing
 pub mod Reading
 pub mod Reducing

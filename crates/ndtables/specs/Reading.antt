@@ -7,6 +7,7 @@ use Rattle.ndarray.specs.Grid.{Grid, IsGrid}
 use Rattle.ndarray.specs.Sums.{total}
 use Rattle.ndarray.specs.declared.base.shape.Order.{Order}
 use Rattle.ndtables.specs.Adding.{AreSums}
+use Rattle.ndtables.specs.Multiplying.{IsProduct}
 use Rattle.ndtables.specs.Printing.{array_text}
 use Rattle.ndtables.specs.Reducing.{AreDifferences, AreRunningProducts, AreTotalsAlong}
 use Rattle.ndtables.specs.Spelling.{IsCellWord, IsCountWord, SpellsShape}
@@ -62,6 +63,15 @@ pub record PrintsAdd (words : List (List ℕ)) (text : List ℕ) : Type 0 where
   pub read : ReadsTables words left right
   pub added : AreSums left right sums
   pub lines : text ≡ array_text sums
+
+-- all of the words were read as two tables, one after the other, and the text is their product
+pub record PrintsDot (words : List (List ℕ)) (text : List ℕ) : Type 0 where
+  pub left : Grid ℤ
+  pub right : Grid ℤ
+  pub product : Grid ℤ
+  pub read : ReadsTables words left right
+  pub multiplied : IsProduct left right product
+  pub lines : text ≡ array_text product
 
 -- all of the words were read as an axis and a table, and the text is the array of the totals of the table's lanes along the axis
 pub record PrintsTotals (M : CommutativeMonoid ℤ) (in_range : List ℤ → Type 0) (words : List (List ℕ)) (text : List ℕ) : Type 0 where

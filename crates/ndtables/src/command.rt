@@ -2,12 +2,13 @@
 
 ghost use Rattle.std.specs.Prelude.{◌≡◌, MatchOption, IfOk, IfErr, string_bytes};
 ghost use Rattle.ndarray.specs.Integers.{int_products, int_sums};
-ghost use Rattle.ndtables.specs.Faults.{ForbidsAdd, ForbidsCumprod, ForbidsDiff, ForbidsTotal, ForbidsTotals};
-ghost use Rattle.ndtables.specs.Reading.{PrintsAdd, PrintsCumprod, PrintsDiff, PrintsTotal, PrintsTotals};
+ghost use Rattle.ndtables.specs.Faults.{ForbidsAdd, ForbidsCumprod, ForbidsDiff, ForbidsDot, ForbidsTotal, ForbidsTotals};
+ghost use Rattle.ndtables.specs.Reading.{PrintsAdd, PrintsCumprod, PrintsDiff, PrintsDot, PrintsTotal, PrintsTotals};
 ghost use Rattle.ndtables.specs.Reducing.{ProductsFit, SumsFit};
 
 use crate::adding::sums_in_range;
 use crate::fault::Fault;
+use crate::multiplying::dot_in_range;
 use crate::printing::text_of;
 use crate::reducing::{
     differences, product_in_range, products_along, running_products, sum_in_range, sums_along,
@@ -25,6 +26,9 @@ pub enum Command {
     Cumprod,
     /// `diff N K TABLE` prints the difference of order N along axis K.
     Diff,
+    /// `dot TABLE TABLE` prints the product of two tables: the sums of the products of the lanes of the
+    /// left along its last axis and the lanes of the right along its last axis but one, or its only one.
+    Dot,
     /// `product TABLE` prints the product of all cells.
     Product,
     /// `product-axis K TABLE` prints the array of the products of the lanes along axis K.
@@ -46,6 +50,7 @@ impl Command {
             "add" => Some(Command::Add),
             "cumprod" => Some(Command::Cumprod),
             "diff" => Some(Command::Diff),
+            "dot" => Some(Command::Dot),
             "product" => Some(Command::Product),
             "product-axis" => Some(Command::ProductAxis),
             "sum" => Some(Command::Sum),
@@ -66,6 +71,7 @@ impl Command {
             Command::Add => add(alloc, words),
             Command::Cumprod => cumprod(alloc, words),
             Command::Diff => diff(alloc, words),
+            Command::Dot => dot(alloc, words),
             Command::Product => product(alloc, words),
             Command::ProductAxis => product_axis(alloc, words),
             Command::Sum => sum(alloc, words),
@@ -103,6 +109,16 @@ fn diff(alloc: Global, mut words: Words<'_>) -> Result<String, Fault>
     let (axis, table) = words.axis_and_table(alloc)?;
     let differences = differences(alloc, &table.view(), order, axis)?;
     Ok(text_of(alloc, &differences.view())?)
+}
+
+/// `dot TABLE TABLE`.
+fn dot(alloc: Global, words: Words<'_>) -> Result<String, Fault>
+    ensures text { IfOk result (λ text. PrintsDot words.entry (string_bytes text)) }
+    ensures err { IfErr result (ForbidsDot words.entry) }
+{
+    let (left, right) = words.two_tables(alloc)?;
+    let product = dot_in_range(alloc, &left.view(), &right.view())?;
+    Ok(text_of(alloc, &product.view())?)
 }
 
 /// `product TABLE`.

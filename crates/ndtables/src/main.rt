@@ -4,6 +4,7 @@
 mod adding;
 mod command;
 mod fault;
+mod multiplying;
 mod printing;
 mod program;
 mod reducing;

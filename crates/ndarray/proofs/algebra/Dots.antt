@@ -14,7 +14,8 @@ use Rattle.ndarray.specs.declared.elements.Valued.{Ghosts as ValuedGhosts}
 use Rattle.ndarray.proofs.boxes.ProductShapes.{lengths-one_one, lengths-one_two, lengths-two_one, lengths-two_two, matrix-shapes}
 use Rattle.ndarray.proofs.callers.SameMatrices.{two-indices}
 use Rattle.ndarray.proofs.cells.Cells.{cell-inside, tabulate-cell}
-use Rattle.ndarray.proofs.cells.LaneSums.{InBox-cut, length-of_lane}
+use Rattle.ndarray.proofs.boxes.JoinedBoxes.{InBox-cut}
+use Rattle.ndarray.proofs.cells.LaneSums.{length-of_lane}
 use Rattle.ndarray.proofs.cells.Matrices.{below-same, one-length, two-lengths, vector-values}
 use Rattle.ndarray.proofs.sums.InnerSums.{lists-meet}
 

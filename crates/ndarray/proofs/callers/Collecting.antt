@@ -3,6 +3,7 @@ use Rattle.std.proofs.Common.{◌≡◌, ℕ, List, [], ◌∷◌, ◌++◌, Opt
 use Rattle.std.specs.Prelude.{Result, IfOk, IfSome}
 use Rattle.std.specs.List.{AllByRecursion, Contains, FoldsTo}
 use Rattle.std.proofs.lemmas.List.Elements.{All-contains}
+use Rattle.std.proofs.lemmas.Simd.{map-map}
 use Rattle.ndarray.specs.Index.{InBox}
 use Rattle.ndarray.specs.Grid.{Grid, cell, IsGrid, array_by}
 use Rattle.ndarray.specs.Orders.{box_in}
@@ -35,10 +36,6 @@ agree-at f h xs x e c = All-contains (λ x. f x ≡ h x) xs x (All-from_recursio
 pub box-contains : (o : Order) (ns is : List ℕ) → InBox ns is → Contains (box_in o ns) is
 box-contains RowMajor ns is h = (row_order-is ns).whole is h
 box-contains ColumnMajor ns is h = (column_order-is ns).whole is h
-
-map-map : {X Y Z : Type 0} (f : Y → Z) (h : X → Y) (xs : List X) → map f (map h xs) ≡ map (λ x. f (h x)) xs
-map-map f h [] = refl
-map-map f h (x ∷ xs) = ap (λ l. f (h x) ∷ l) (map-map f h xs)
 
 -- What `map_collect` made, where each call at the items of an index list in the box leaves the closure as it was and answers h of the
 -- index list.

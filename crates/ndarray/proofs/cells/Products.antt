@@ -1,15 +1,44 @@
 -- Arrays that have the values of products.
-use Rattle.std.proofs.Common.{◌≡◌, ◌∙◌, ℕ, ◌<◌, ◌/◌, ◌%◌, get_or, List, [], ◌∷◌, Some, ap, subst, sym}
-use Rattle.std.specs.Prelude.{Result, IfOk, IsOk}
+use Rattle.std.proofs.Common.{◌≡◌, ◌∙◌, ℕ, zero, suc, ◌<◌, ◌/◌, ◌%◌, get_or, List, [], ◌∷◌, Some, ap, arith, map, subst, sym}
+use Rattle.std.specs.Prelude.{Result, IfOk, IsOk, slice_get}
 use Rattle.ndarray.specs.Entries.{HasEntries}
-use Rattle.ndarray.specs.Grid.{Grid, cell}
-use Rattle.ndarray.specs.Index.{size}
+use Rattle.ndarray.specs.Grid.{Grid, IsGrid, cell}
+use Rattle.ndarray.specs.Index.{row_order, size}
 use Rattle.ndarray.specs.Matrices.{Matrix, kronecker_product}
-use Rattle.ndarray.specs.Products.{Accumulates, AccumulatesEntries, AddsScaled, CanSumInner, HasSumsInRange, MakesValues, matrix_of, product_of, value_at, value_or}
+use Rattle.ndarray.specs.Products.{Accumulates, AccumulatesEntries, AddsScaled, CanSumInner, HasSumsInRange, HasValues, MakesValues, matrix_of, product_of, value_at, value_or}
+use Rattle.ndarray.specs.base.Ranks.{rank}
 use Rattle.ndarray.specs.declared.elements.Valued.{Ghosts as ValuedGhosts}
+use Rattle.ndarray.proofs.boxes.Boxes.{InBox-some}
+use Rattle.ndarray.proofs.boxes.Orders.{row_order-at}
 use Rattle.ndarray.proofs.callers.Collecting.{if_ok-both}
+use Rattle.ndarray.proofs.cells.Cells.{cell-inside, cell-within}
+
+-- elements whose values are listed
+mapped-at : {X Y C : Type 0} (f : X → C) (h : Y → C) (xs : List X) (ys : List Y) (k : ℕ) (x : X) (d : Y) → map f xs ≡ map h ys → slice_get xs k ≡ Some x → f x ≡ h (get_or ys k d)
+mapped-at f h [] ys k x d same at = absurd (cc)
+mapped-at f h (z ∷ xs) [] k x d same at = absurd (cc)
+mapped-at f h (z ∷ xs) (y ∷ ys) zero x d same at = cc
+mapped-at f h (z ∷ xs) (y ∷ ys) (suc k) x d same at = mapped-at f h xs ys k x d (cc) at
 
 module _ {A : Type 0} (e : ValuedGhosts A) where
+  -- an array whose cells have the values of the index lists in row order
+  pub values-in_row_order : (ns : List ℕ) (value : List ℕ → e.Carrier) (r : Grid A) → r.lengths ≡ ns → IsGrid r → map e.meaning r.cells ≡ map value (row_order ns) → HasValues e ns value r
+  values-in_row_order ns value r same whole values = record {
+    lengths = same;
+    whole = whole;
+    cells = λ is z at.
+        let inside = cell-inside r is z at in
+        mapped-at e.meaning value r.cells (row_order ns) (rank r.lengths is) z [] values (sym (cell-within r whole is inside) ∙ at)
+        ∙ ap value (ap (λ ms. get_or (row_order ms) (rank r.lengths is) []) (sym same) ∙ row_order-at r.lengths is [] inside);
+  }
+
+  pub values-none : (ns : List ℕ) (value : List ℕ → e.Carrier) (r : Grid A) → r.lengths ≡ ns → IsGrid r → size ns ≡ 0 → HasValues e ns value r
+  values-none ns value r same whole none = record {
+    lengths = same;
+    whole = whole;
+    cells = λ is z at. let some = InBox-some r.lengths is (cell-inside r is z at) in absurd (omega (arith, some, ap size same, none));
+  }
+
   -- an array of entries whose values are known
   pub values-of : {X E : Type 0} (numbers : X → List ℕ) (computes : X → A → Type 0) (ns ms : List ℕ) (value : List ℕ → e.Carrier) → ns ≡ ms
       → ((t : X) (z : A) → computes t z → e.meaning z ≡ value (numbers t)) → (r : Result (Grid A) E) → IfOk r (HasEntries numbers computes ns) → (size ns ≡ 0 → IsOk r) → MakesValues e ms value r

@@ -1,4 +1,4 @@
--- An array that is filled one cell after another: for `base`, `zip::collecting` and `stacking::blocks`.
+-- An array that is filled one cell after another: for `base`, `zip::collecting`, `stacking::blocks` and `linalg::dynamic`.
 use Rattle.std.specs.Prelude.{ℕ, ◌≤◌, ◌++◌, ◌∷◌, [], List}
 use Rattle.ndarray.specs.Index.{size}
 use Rattle.ndarray.specs.Limits.{IsWithinLimit}

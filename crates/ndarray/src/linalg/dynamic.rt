@@ -1,18 +1,20 @@
 //! Products of arrays whose number of axes is told as the program runs.
 
-ghost use Rattle.std.specs.Prelude.{◌≡◌};
-ghost use Rattle.ndarray.specs.Dimensions.{held_numbers};
-ghost use Rattle.ndarray.specs.LaneSums.{CanSumLanes, SumsLanes};
+ghost use Rattle.std.specs.Prelude.{◌≡◌, ◌+◌, ◌-◌, ◌≤◌, All, length};
+ghost use Rattle.ndarray.specs.Index.{size};
+ghost use Rattle.ndarray.specs.LaneSums.{CanSumLanes, PushesSums};
 ghost use Rattle.ndarray.specs.Products.{HasLaneSumsInRange, MakesValues, ShapesMultiply, dot_entries, product_lengths};
+ghost use Rattle.ndarray.specs.Subviews.{lanes_of};
 
 use crate::base::array::{Array, ArrayBase, ArrayView};
 use crate::base::axis::Axis;
-use crate::base::dimension::{IxDyn, Lengths};
+use crate::base::builder::ArrayBuilder;
+use crate::base::dimension::{Ix1, IxDyn, Lengths};
 use crate::base::storage::Data;
 use crate::elements::LinalgScalar;
-use crate::linalg::entries::{Entries, array_of};
 use crate::linalg::inner::inner;
 use crate::linalg::products::{Dot, product_dim};
+use crate::order::Order;
 use crate::subviews::lanes::Lanes;
 use std::alloc::{AllocError, Global};
 
@@ -44,32 +46,39 @@ fn product<A: LinalgScalar>(
     ensures { MakesValues A.Valued (product_lengths x.now.lengths y.now.lengths) (dot_entries A.Valued x.now y.now) result }
 {
     let (left, right) = (x.raw_dim(), y.raw_dim());
-    let sums = LaneSums {
-        rows: x.lanes(Axis(left.ndim() - 1)),
-        columns: y.lanes(Axis(right.ndim().saturating_sub(2))),
-    };
-    array_of(alloc, product_dim(left.slice(), right.slice()), sums)
+    let dim = product_dim(left.slice(), right.slice());
+    let size = dim.size();
+    let mut sums = ArrayBuilder::with_capacity(alloc, dim, Order::RowMajor)?;
+    if size == 0 {
+        // However many rows there are.
+        return Ok(sums.finish());
+    }
+    let columns = inner_lanes(y);
+    for row in x.rows() {
+        push_sums(&mut sums, &row, columns.again());
+    }
+    Ok(sums.finish())
 }
 
-/// The inner sums of rows and columns, each at the index list of the row and then that of the column.
-#[derive(Drop)]
-struct LaneSums<'a, 'b, A> {
-    rows: Lanes<'a, A, IxDyn>,
-    columns: Lanes<'b, A, IxDyn>,
+/// The lanes of the right side of a product that meet the rows of the left: along the last axis but one, or the only one.
+pub(crate) fn inner_lanes<'a, A>(right: &'a ArrayView<'_, A, IxDyn>) -> Lanes<'a, A, IxDyn>
+    requires { 1 ≤ length right.now.lengths }
+    ensures { result ≡ lanes_of right.now (length right.now.lengths - 2) }
+{
+    right.lanes(Axis(right.ndim().saturating_sub(2)))
 }
 
-impl<'a, 'b, A: LinalgScalar> Entries<IxDyn> for LaneSums<'a, 'b, A> {
-    type Elem = A;
-
-    ghost can_compute = { λ s t. CanSumLanes A.Valued s.rows s.columns (held_numbers t.0) };
-
-    ghost computes = { λ s t r. SumsLanes A.Valued s.rows s.columns (held_numbers t.0) r };
-
-    fn entry(&self, at: IxDyn) -> A {
-        let (row, column) = at.slice().split_at(self.rows.raw_dim().ndim());
-        inner(
-            &self.rows.item(&IxDyn(row)),
-            &self.columns.item(&IxDyn(column)),
-        )
+/// Pushes the sum of the products of a row and each of some columns.
+fn push_sums<A: LinalgScalar>(
+    sums: &mut ArrayBuilder<A, IxDyn>,
+    row: &ArrayView<'_, A, Ix1>,
+    columns: Lanes<'_, A, IxDyn>,
+)
+    requires can { All (CanSumLanes A.Valued row.now) columns.cells }
+    requires room { length sums.old.cells + length columns.cells ≤ size sums.old.lengths }
+    ensures { PushesSums A.Valued row.now columns.entry.cells sums.old sums.new }
+{
+    for column in columns {
+        sums.push(inner(row, &column));
     }
 }

@@ -36,7 +36,16 @@ pub trait Dot<Rhs> {
     /// two lanes that meet there: of a (2, 3, 4) and a (5, 4, 6) array the product has lengths (2, 3, 5, 6).
     ///
     /// Requires shapes that multiply, which [`dot_ok`] tells, and that of the products of each inner sum every selection
-    /// has its sum in range, for which `dot_fits` of each row and column is enough (of each two lanes that meet, of `IxDyn`).
+    /// has its sum in range, for which `dot_fits` of each row and column is enough (of each two lanes that meet, of `IxDyn`). Of
+    /// integers [`entries_fit`](crate::linalg::entries_fit) tests both.
+    ///
+    /// ```
+    /// let a = ArrayView::from_shape(IxDyn(&[2, 1, 2]), &[1i64, 2, 3, 4])?;
+    /// let b = ArrayView::from_shape(IxDyn(&[2, 2]), &[1i64, 0, 1, 1])?;
+    /// if entries_fit(&a, &b) {
+    ///     a.dot(alloc, &b)?; // [[[3, 2]], [[7, 4]]]
+    /// }
+    /// ```
     fn dot(&self, alloc: Global, rhs: &Rhs) -> Self::Output
         requires { can_dot self.now rhs.now }
         ensures { dot_gives self.now rhs.now result };

@@ -14,12 +14,14 @@ use crate::elements::{IntegerElem, IntegerScalar};
 use crate::linalg::products::{Dot, dot_ok};
 use crate::reduce::dot_fits;
 
-/// What has a product with `Rhs` whose range can be tested: vectors and matrices of integers, with vectors and matrices.
+/// What has a product with `Rhs` whose range can be tested: vectors and matrices of integers, with vectors and matrices, and arrays
+/// of integers of `IxDyn`.
 pub trait IntegerDot<Rhs>: Dot<Rhs> {
-    // Whether the shapes multiply, and of each row and column the absolute values of the products add up to a number of the type.
+    // Whether the shapes multiply, and of each row and column, or each two lanes that meet, the absolute values of the products add up to a number of the type.
     ghost entries_in_range: { Self → Rhs → Type 0 };
 
-    /// Whether `self.dot(rhs)` may be asked for, by [`dot_fits`] of each row and column, as [`entries_fit`].
+    /// Whether `self.dot(rhs)` may be asked for, by [`dot_fits`] of each row and column, or of each two lanes that meet, as
+    /// [`entries_fit`].
     fn entries_fit(&self, rhs: &Rhs) -> bool
         ensures exact { IsTrue result ↔ entries_in_range self.now rhs.now }
         ensures defined { IsTrue result → Self.can_dot self.now rhs.now };
@@ -28,6 +30,9 @@ pub trait IntegerDot<Rhs>: Dot<Rhs> {
 /// Whether two vectors or matrices of integers have a product, as [`dot_ok`] tells, and for each row of the left and column of
 /// the right the absolute values of the products add up to at most the type's greatest number. Then `left.dot(alloc, right)`
 /// may be asked for.
+///
+/// Of arrays of `IxDyn`, which may have any number of axes, it is so of each lane of the left along its last axis and each lane of
+/// the right along its last axis but one, or its only one.
 ///
 /// Requires nothing, and the test allocates nothing. It may say no where the product could be taken, as where large products
 /// of both signs are added.

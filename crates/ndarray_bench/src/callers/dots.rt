@@ -2,13 +2,16 @@
 
 ghost use Rattle.std.specs.Prelude.{◌≡◌, ◌≢◌, ◌↔◌, IfErr, IfOk, IfSome, IsOk, IsSome};
 ghost use Rattle.ndarray.specs.DotLaws.{HasOneOrTwoAxes, left_matrix, product_entries, right_matrix};
+ghost use Rattle.ndarray.specs.DotRanges.{HasLaneMagnitudesInRange};
 ghost use Rattle.ndarray.specs.Index.{size};
 ghost use Rattle.ndarray.specs.Products.{HasSumsInRange, HasValues, ShapesMultiply, dot_entries, product_lengths};
 
 use crate::residue::Residue;
 use ndarray::laws::dot_agrees;
-use ndarray::linalg::{Dot, dot_ok};
-use ndarray::{Array, ArrayView, IxDyn, Lengths, LinalgScalar, Valued};
+use ndarray::linalg::{Dot, dot_ok, entries_fit};
+use ndarray::{
+    Array, ArrayBase, ArrayView, Data, IntegerScalar, IxDyn, Lengths, LinalgScalar, Valued,
+};
 use std::alloc::{AllocError, Global};
 
 /// The product of two arrays of residues modulo 97, which never leaves the range, or `None` where their shapes do not multiply.
@@ -44,4 +47,23 @@ pub fn dynamic_product<A: LinalgScalar>(
     dot_agrees::<A>();
     let _whole = (a.raw_dim(), b.raw_dim());
     Dot::dot(a, alloc, b)
+}
+
+/// The product of two arrays of any integer type and any number of axes, or `None` where their shapes do not multiply or, at some
+/// index list of the product, the absolute values of the products of the two lanes add up to more than the type's greatest number.
+pub fn checked_dot<A: IntegerScalar, S: Data<Elem = A>, T: Data<Elem = A>>(
+    alloc: Global,
+    a: &ArrayBase<S, IxDyn>,
+    b: &ArrayBase<T, IxDyn>,
+) -> Result<Option<Array<A, IxDyn>>, AllocError>
+    ensures when { IfOk result (λ made. IsSome made ↔ (ShapesMultiply a.now.lengths b.now.lengths × HasLaneMagnitudesInRange A.value A.fits a.now b.now)) }
+    ensures product { IfOk result (λ made. IfSome made (HasValues A.Valued (product_lengths a.now.lengths b.now.lengths) (dot_entries A.Valued a.now b.now))) }
+    ensures error { IfErr result (λ _. ShapesMultiply a.now.lengths b.now.lengths × HasLaneMagnitudesInRange A.value A.fits a.now b.now × (size (product_lengths a.now.lengths b.now.lengths) ≢ 0)) }
+{
+    let (a, b) = (a.view(), b.view());
+    if !entries_fit(&a, &b) {
+        return Ok(None);
+    }
+    let product = a.dot(alloc, &b)?;
+    Ok(Some(product))
 }

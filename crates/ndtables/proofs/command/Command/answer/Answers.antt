@@ -21,6 +21,12 @@ returns-in-Diff-clause-text c = subst (λ command. IfOk c.diff.result (λ text. 
 pub returns-in-Diff-clause-err : goal.returns-in-Diff-clause-err
 returns-in-Diff-clause-err c = subst (λ command. IfErr c.diff.result (Forbids command c.args.words)) (sym c.in-Diff.is) c.diff.ensures.err
 
+pub returns-in-Dot-clause-text : goal.returns-in-Dot-clause-text
+returns-in-Dot-clause-text c = subst (λ command. IfOk c.dot.result (λ text. Prints command c.args.words (string_bytes text))) (sym c.in-Dot.is) c.dot.ensures.text
+
+pub returns-in-Dot-clause-err : goal.returns-in-Dot-clause-err
+returns-in-Dot-clause-err c = subst (λ command. IfErr c.dot.result (Forbids command c.args.words)) (sym c.in-Dot.is) c.dot.ensures.err
+
 pub returns-in-Product-clause-text : goal.returns-in-Product-clause-text
 returns-in-Product-clause-text c = subst (λ command. IfOk c.product.result (λ text. Prints command c.args.words (string_bytes text))) (sym c.in-Product.is) c.product.ensures.text
 
