@@ -10,6 +10,7 @@ pub mod Mirrors
 pub mod NeutralValues
 pub mod OneAxis
 pub mod OverWindows
+pub mod Overlaps
 pub mod Padding
 pub mod Pairs
 pub mod ProductLists
