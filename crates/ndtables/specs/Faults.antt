@@ -4,7 +4,7 @@ use Rattle.ndarray.specs.Grid.{Grid}
 use Rattle.ndarray.specs.Index.{size}
 use Rattle.ndarray.specs.declared.base.shape.Order.{Order}
 use Rattle.ndtables.specs.Adding.{ForbidsSums}
-use Rattle.ndtables.specs.Reading.{ReadsCount, ReadsTable}
+use Rattle.ndtables.specs.Reading.{ReadsAxisAndTable, ReadsCount, ReadsTable, ReadsTables}
 use Rattle.ndtables.specs.Reducing.{AreInRangeAlong, CanCumulateAlong, ForbidsDifferences, ForbidsMaking, HasAxis}
 use Rattle.ndtables.specs.Spelling.{IsCellWord, IsCountWord, SpellsNoShape, SpellsShape}
 use Rattle.ndtables.specs.declared.fault.Fault.{Fault}
@@ -36,27 +36,51 @@ AfterCount follows words fault = ForbidsCount words fault ⊎ ((count : ℕ) × 
 abbrev pub AfterTable : (Grid ℤ → List (List ℕ) → Fault → Type 0) → List (List ℕ) → Fault → Type 0
 AfterTable follows words fault = ForbidsTable words fault ⊎ ((table : Grid ℤ) × (rest : List (List ℕ)) × ReadsTable words rest table × follows table rest fault)
 
--- words are left over, or none is, and the fault is that of what is computed
-abbrev pub AtEnd : (Fault → Type 0) → List (List ℕ) → Fault → Type 0
-AtEnd computes [] fault = computes fault
-AtEnd computes (word ∷ rest) fault = fault ≡ Usage
+-- the fault is that a word is left over
+abbrev pub LeavesWords : List (List ℕ) → Fault → Type 0
+LeavesWords [] fault = ⊥
+LeavesWords (word ∷ rest) fault = fault ≡ Usage
+
+-- the fault is why the words, all of them, were not read as a table
+abbrev pub ForbidsLastTable : List (List ℕ) → Fault → Type 0
+ForbidsLastTable = AfterTable (λ _. LeavesWords)
+
+-- the fault is why the words, all of them, were not read as two tables
+abbrev pub ForbidsTables : List (List ℕ) → Fault → Type 0
+ForbidsTables = AfterTable (λ _. ForbidsLastTable)
+
+-- the fault is why the words, all of them, were not read as an axis and a table
+abbrev pub ForbidsAxisAndTable : List (List ℕ) → Fault → Type 0
+ForbidsAxisAndTable = AfterCount (λ _. ForbidsLastTable)
+
+-- the fault is why the words were not read as a table, or they were, and the fault is that of what is computed
+abbrev pub AfterLastTable : (Grid ℤ → Fault → Type 0) → List (List ℕ) → Fault → Type 0
+AfterLastTable computes words fault = ForbidsLastTable words fault ⊎ ((table : Grid ℤ) × ReadsTable words [] table × computes table fault)
+
+-- the fault is why the words were not read as two tables, or they were, and the fault is that of what is computed
+abbrev pub AfterTables : (Grid ℤ → Grid ℤ → Fault → Type 0) → List (List ℕ) → Fault → Type 0
+AfterTables computes words fault = ForbidsTables words fault ⊎ ((left : Grid ℤ) × (right : Grid ℤ) × ReadsTables words left right × computes left right fault)
+
+-- the fault is why the words were not read as an axis and a table, or they were, and the fault is that of what is computed
+abbrev pub AfterAxisAndTable : (ℕ → Grid ℤ → Fault → Type 0) → List (List ℕ) → Fault → Type 0
+AfterAxisAndTable computes words fault = ForbidsAxisAndTable words fault ⊎ ((axis : ℕ) × (table : Grid ℤ) × ReadsAxisAndTable words axis table × computes axis table fault)
 
 -- why the total of a table was not printed
 abbrev pub ForbidsTotal : (List ℤ → Type 0) → List (List ℕ) → Fault → Type 0
-ForbidsTotal in_range = AfterTable (λ table. AtEnd (ForbidsMaking ⊤ (in_range table.cells)))
+ForbidsTotal in_range = AfterLastTable (λ table. ForbidsMaking ⊤ (in_range table.cells))
 
 -- why the array of the sums of two tables was not printed
 abbrev pub ForbidsAdd : List (List ℕ) → Fault → Type 0
-ForbidsAdd = AfterTable (λ left. AfterTable (λ right. AtEnd (ForbidsSums left right)))
+ForbidsAdd = AfterTables ForbidsSums
 
 -- why the array of the totals of the lanes along an axis was not printed
 abbrev pub ForbidsTotals : (List ℤ → Type 0) → List (List ℕ) → Fault → Type 0
-ForbidsTotals in_range = AfterCount (λ axis. AfterTable (λ table. AtEnd (ForbidsMaking (HasAxis table axis) (AreInRangeAlong in_range table axis))))
+ForbidsTotals in_range = AfterAxisAndTable (λ axis table. ForbidsMaking (HasAxis table axis) (AreInRangeAlong in_range table axis))
 
 -- why the difference of an order along an axis was not printed
 abbrev pub ForbidsDiff : List (List ℕ) → Fault → Type 0
-ForbidsDiff = AfterCount (λ order. AfterCount (λ axis. AfterTable (λ table. AtEnd (ForbidsDifferences table order axis))))
+ForbidsDiff = AfterCount (λ order. AfterAxisAndTable (λ axis table. ForbidsDifferences table order axis))
 
 -- why the running products along an axis were not printed
 abbrev pub ForbidsCumprod : List (List ℕ) → Fault → Type 0
-ForbidsCumprod = AfterCount (λ axis. AfterTable (λ table. AtEnd (ForbidsMaking (HasAxis table axis) (CanCumulateAlong table axis))))
+ForbidsCumprod = AfterAxisAndTable (λ axis table. ForbidsMaking (HasAxis table axis) (CanCumulateAlong table axis))

@@ -35,6 +35,18 @@ pub record ReadsTable (old new : List (List ℕ)) (table : Grid ℤ) : Type 0 wh
   pub cells : ReadsNumbers rest new table.cells
   pub whole : IsGrid table
 
+-- all of the words were read as two tables, one after the other
+pub record ReadsTables (words : List (List ℕ)) (left right : Grid ℤ) : Type 0 where
+  pub rest : List (List ℕ)
+  pub read_left : ReadsTable words rest left
+  pub read_right : ReadsTable rest [] right
+
+-- all of the words were read as an axis and a table
+pub record ReadsAxisAndTable (words : List (List ℕ)) (axis : ℕ) (table : Grid ℤ) : Type 0 where
+  pub rest : List (List ℕ)
+  pub read_axis : ReadsCount words rest axis
+  pub read_table : ReadsTable rest [] table
+
 -- all of the words were read as a table, its cells are in range, and the text is their total, as a line
 pub record PrintsTotal (M : CommutativeMonoid ℤ) (in_range : List ℤ → Type 0) (words : List (List ℕ)) (text : List ℕ) : Type 0 where
   pub table : Grid ℤ
@@ -47,9 +59,7 @@ pub record PrintsAdd (words : List (List ℕ)) (text : List ℕ) : Type 0 where
   pub left : Grid ℤ
   pub right : Grid ℤ
   pub sums : Grid ℤ
-  pub rest : List (List ℕ)
-  pub read_left : ReadsTable words rest left
-  pub read_right : ReadsTable rest [] right
+  pub read : ReadsTables words left right
   pub added : AreSums left right sums
   pub lines : text ≡ array_text sums
 
@@ -58,9 +68,7 @@ pub record PrintsTotals (M : CommutativeMonoid ℤ) (in_range : List ℤ → Typ
   pub axis : ℕ
   pub table : Grid ℤ
   pub totals : Grid ℤ
-  pub rest : List (List ℕ)
-  pub read_axis : ReadsCount words rest axis
-  pub read_table : ReadsTable rest [] table
+  pub read : ReadsAxisAndTable words axis table
   pub added : AreTotalsAlong M in_range table axis totals
   pub lines : text ≡ array_text totals
 
@@ -70,11 +78,9 @@ pub record PrintsDiff (words : List (List ℕ)) (text : List ℕ) : Type 0 where
   pub axis : ℕ
   pub table : Grid ℤ
   pub differences : Grid ℤ
-  pub after_order : List (List ℕ)
-  pub after_axis : List (List ℕ)
-  pub read_order : ReadsCount words after_order order
-  pub read_axis : ReadsCount after_order after_axis axis
-  pub read_table : ReadsTable after_axis [] table
+  pub rest : List (List ℕ)
+  pub read_order : ReadsCount words rest order
+  pub read : ReadsAxisAndTable rest axis table
   pub subtracted : AreDifferences table order axis differences
   pub lines : text ≡ array_text differences
 
@@ -83,8 +89,6 @@ pub record PrintsCumprod (words : List (List ℕ)) (text : List ℕ) : Type 0 wh
   pub axis : ℕ
   pub table : Grid ℤ
   pub products : Grid ℤ
-  pub rest : List (List ℕ)
-  pub read_axis : ReadsCount words rest axis
-  pub read_table : ReadsTable rest [] table
+  pub read : ReadsAxisAndTable words axis table
   pub multiplied : AreRunningProducts table axis products
   pub lines : text ≡ array_text products

@@ -13,7 +13,6 @@ use crate::reducing::{
     differences, product_in_range, products_along, running_products, sum_in_range, sums_along,
 };
 use crate::words::Words;
-use ndarray::Axis;
 use std::alloc::Global;
 
 /// A command, by its name.
@@ -76,26 +75,22 @@ impl Command {
 }
 
 /// `add TABLE TABLE`.
-fn add(alloc: Global, mut words: Words<'_>) -> Result<String, Fault>
+fn add(alloc: Global, words: Words<'_>) -> Result<String, Fault>
     ensures text { IfOk result (λ text. PrintsAdd words.entry (string_bytes text)) }
     ensures err { IfErr result (ForbidsAdd words.entry) }
 {
-    let left = words.table(alloc)?;
-    let right = words.table(alloc)?;
-    words.end()?;
+    let (left, right) = words.two_tables(alloc)?;
     let sums = sums_in_range(alloc, &left.view(), &right.view())?;
     Ok(text_of(alloc, &sums.view())?)
 }
 
 /// `cumprod K TABLE`.
-fn cumprod(alloc: Global, mut words: Words<'_>) -> Result<String, Fault>
+fn cumprod(alloc: Global, words: Words<'_>) -> Result<String, Fault>
     ensures text { IfOk result (λ text. PrintsCumprod words.entry (string_bytes text)) }
     ensures err { IfErr result (ForbidsCumprod words.entry) }
 {
-    let axis = words.count()?;
-    let table = words.table(alloc)?;
-    words.end()?;
-    let products = running_products(alloc, &table.view(), Axis(axis))?;
+    let (axis, table) = words.axis_and_table(alloc)?;
+    let products = running_products(alloc, &table.view(), axis)?;
     Ok(text_of(alloc, &products.view())?)
 }
 
@@ -105,55 +100,47 @@ fn diff(alloc: Global, mut words: Words<'_>) -> Result<String, Fault>
     ensures err { IfErr result (ForbidsDiff words.entry) }
 {
     let order = words.count()?;
-    let axis = words.count()?;
-    let table = words.table(alloc)?;
-    words.end()?;
-    let differences = differences(alloc, &table.view(), order, Axis(axis))?;
+    let (axis, table) = words.axis_and_table(alloc)?;
+    let differences = differences(alloc, &table.view(), order, axis)?;
     Ok(text_of(alloc, &differences.view())?)
 }
 
 /// `product TABLE`.
-fn product(alloc: Global, mut words: Words<'_>) -> Result<String, Fault>
+fn product(alloc: Global, words: Words<'_>) -> Result<String, Fault>
     ensures text { IfOk result (λ text. PrintsTotal int_products ProductsFit words.entry (string_bytes text)) }
     ensures err { IfErr result (ForbidsTotal ProductsFit words.entry) }
 {
-    let table = words.table(alloc)?;
-    words.end()?;
+    let table = words.last_table(alloc)?;
     let product = product_in_range(&table.view()).ok_or(Fault::Range)?;
     Ok(format!(in alloc; "{product}\n")?)
 }
 
 /// `product-axis K TABLE`.
-fn product_axis(alloc: Global, mut words: Words<'_>) -> Result<String, Fault>
+fn product_axis(alloc: Global, words: Words<'_>) -> Result<String, Fault>
     ensures text { IfOk result (λ text. PrintsTotals int_products ProductsFit words.entry (string_bytes text)) }
     ensures err { IfErr result (ForbidsTotals ProductsFit words.entry) }
 {
-    let axis = words.count()?;
-    let table = words.table(alloc)?;
-    words.end()?;
-    let products = products_along(alloc, &table.view(), Axis(axis))?;
+    let (axis, table) = words.axis_and_table(alloc)?;
+    let products = products_along(alloc, &table.view(), axis)?;
     Ok(text_of(alloc, &products.view())?)
 }
 
 /// `sum TABLE`.
-fn sum(alloc: Global, mut words: Words<'_>) -> Result<String, Fault>
+fn sum(alloc: Global, words: Words<'_>) -> Result<String, Fault>
     ensures text { IfOk result (λ text. PrintsTotal int_sums SumsFit words.entry (string_bytes text)) }
     ensures err { IfErr result (ForbidsTotal SumsFit words.entry) }
 {
-    let table = words.table(alloc)?;
-    words.end()?;
+    let table = words.last_table(alloc)?;
     let total = sum_in_range(&table.view()).ok_or(Fault::Range)?;
     Ok(format!(in alloc; "{total}\n")?)
 }
 
 /// `sum-axis K TABLE`.
-fn sum_axis(alloc: Global, mut words: Words<'_>) -> Result<String, Fault>
+fn sum_axis(alloc: Global, words: Words<'_>) -> Result<String, Fault>
     ensures text { IfOk result (λ text. PrintsTotals int_sums SumsFit words.entry (string_bytes text)) }
     ensures err { IfErr result (ForbidsTotals SumsFit words.entry) }
 {
-    let axis = words.count()?;
-    let table = words.table(alloc)?;
-    words.end()?;
-    let sums = sums_along(alloc, &table.view(), Axis(axis))?;
+    let (axis, table) = words.axis_and_table(alloc)?;
+    let sums = sums_along(alloc, &table.view(), axis)?;
     Ok(text_of(alloc, &sums.view())?)
 }

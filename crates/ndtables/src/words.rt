@@ -1,13 +1,13 @@
 //! The words of a command line, read from left to right.
 
 ghost use Rattle.std.specs.Prelude.{◌≡◌, ◌≤◌, ◌↔◌, ◌∷◌, [], map, length, IfOk, IfErr, OnErr, MatchResult, IsOk, string_bytes};
-ghost use Rattle.ndtables.specs.Faults.{ForbidsCells, ForbidsCount, ForbidsTable};
-ghost use Rattle.ndtables.specs.Reading.{ReadsCount, ReadsNumbers, ReadsTable};
+ghost use Rattle.ndtables.specs.Faults.{ForbidsAxisAndTable, ForbidsCells, ForbidsCount, ForbidsLastTable, ForbidsTable, ForbidsTables};
+ghost use Rattle.ndtables.specs.Reading.{ReadsAxisAndTable, ReadsCount, ReadsNumbers, ReadsTable, ReadsTables};
 
 use crate::fault::Fault;
 use crate::spelling;
 use crate::table::Table;
-use ndarray::{IxDyn, Lengths};
+use ndarray::{Axis, IxDyn, Lengths};
 use std::alloc::Global;
 use std::marker::Model;
 
@@ -93,8 +93,38 @@ impl<'a> Words<'a> {
         Ok(cells)
     }
 
+    /// Reads all of the words as a table. The fault is that of the table, or `usage` where a word is left over.
+    pub fn last_table(mut self, alloc: Global) -> Result<Table<IxDyn>, Fault>
+        ensures read { IfOk result (ReadsTable self.entry []) }
+        ensures err { IfErr result (ForbidsLastTable self.entry) }
+    {
+        let table = self.table(alloc)?;
+        self.end()?;
+        Ok(table)
+    }
+
+    /// Reads all of the words as two tables, one after the other.
+    pub fn two_tables(mut self, alloc: Global) -> Result<(Table<IxDyn>, Table<IxDyn>), Fault>
+        ensures read { IfOk result (λ tables. ReadsTables self.entry tables.0 tables.1) }
+        ensures err { IfErr result (ForbidsTables self.entry) }
+    {
+        let left = self.table(alloc)?;
+        let right = self.last_table(alloc)?;
+        Ok((left, right))
+    }
+
+    /// Reads all of the words as an axis and a table.
+    pub fn axis_and_table(mut self, alloc: Global) -> Result<(Axis, Table<IxDyn>), Fault>
+        ensures read { IfOk result (λ both. ReadsAxisAndTable self.entry both.0.0 both.1) }
+        ensures err { IfErr result (ForbidsAxisAndTable self.entry) }
+    {
+        let axis = self.count()?;
+        let table = self.last_table(alloc)?;
+        Ok((Axis(axis), table))
+    }
+
     /// Tests that no word is left over. Else the fault is `usage`.
-    pub fn end(&self) -> Result<(), Fault>
+    fn end(&self) -> Result<(), Fault>
         ensures none_left { IsOk result ↔ (self.now ≡ []) }
         ensures err { IfErr result (λ fault. fault ≡ Fault.Usage) }
     {

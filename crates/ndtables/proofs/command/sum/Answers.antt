@@ -1,9 +1,8 @@
-use Rattle.std.proofs.Common.{◌≡◌, None, inr, refl, subst, sym}
+use Rattle.std.proofs.Common.{◌≡◌, None, inr, subst, sym}
 use Rattle.std.specs.Prelude.{IsSome}
 use Rattle.std.proofs.lemmas.Result.{err_from_is_err_and}
 use Rattle.ndtables.specs.Reducing.{SumsFit}
 use Rattle.ndtables.specs.declared.fault.Fault.TheVariants.{Range}
-use Rattle.ndtables.proofs.FirstFaults.{at_end-none}
 use Rattle.ndtables.proofs.command.sum.Goals as goal
 
 pub returns-in_err-total-clause-err : goal.returns-in_err-total-clause-err
@@ -16,9 +15,4 @@ returns-in_err-total-clause-err c =
     let found : IsSome c.sum_in_range.result = c.sum_in_range.ensures.fits.1 (subst (λ g. SumsFit g.cells) (sym c.view.ensures.same) fit) in
     let no_value = rw none at found in
     absurd (cc) in
-    rw (p.1, p.2, range) (inr (
-      c.in_ok-table.table,
-      c.table.new.self,
-      c.in_ok-table.ensures.read,
-      at_end-none c.table.new.self Range _ (c.in_ok-end.ensures.none_left.0 refl) (tt, not),
-    ))
+    rw (p.1, p.2, range) (inr (c.in_ok-table.table, c.in_ok-table.ensures.read, (tt, not)))

@@ -1,58 +1,17 @@
-use Rattle.std.proofs.Common.{inr, refl, subst}
+use Rattle.std.proofs.Common.{inl, inr, subst}
 use Rattle.std.proofs.lemmas.Result.{err_from_is_err_and}
 use Rattle.ndtables.specs.Reducing.{CanSumAlong, ForbidsMaking, HasAxis}
-use Rattle.ndtables.specs.declared.fault.Fault.TheVariants.{Memory}
-use Rattle.ndtables.proofs.FirstFaults.{at_end-left, at_end-none}
 use Rattle.ndtables.proofs.command.sum_axis.Goals as goal
 
-pub returns-in_err-end-clause-err : goal.returns-in_err-end-clause-err
-returns-in_err-end-clause-err c =
-    let p = err_from_is_err_and c.from_residual-in_err-end.result c.from_residual-in_err-end.ensures.1 in
-    let rest = c.table.new.self in
-    rw (p.1, p.2) (inr (
-      c.in_ok-axis.axis,
-      c.count.new.self,
-      c.in_ok-axis.ensures.read,
-      inr (
-        c.in_ok-table.table,
-        rest,
-        c.in_ok-table.ensures.read,
-        at_end-left rest c.in_err-end.field-0.0 _ (λ e. let h = c.in_err-end.ensures.none_left.1 e in absurd (cc)) c.in_err-end.ensures.err,
-      ),
-    ))
+pub returns-in_err-axis-clause-err : goal.returns-in_err-axis-clause-err
+returns-in_err-axis-clause-err c =
+    let p = err_from_is_err_and c.from_residual.result c.from_residual.ensures.1 in
+    rw (p.1, p.2) (inl c.in_err-axis.ensures.err)
 
 pub returns-in_err-sums-clause-err : goal.returns-in_err-sums-clause-err
 returns-in_err-sums-clause-err c =
     let p = err_from_is_err_and c.from_residual-in_err-sums.result c.from_residual-in_err-sums.ensures.1 in
-    let axis = c.in_ok-axis.axis in
+    let axis = c.in_ok-axis.axis.0 in
     let fault = c.in_err-sums.field-0.0 in
-    rw (p.1, p.2) (inr (
-      axis,
-      c.count.new.self,
-      c.in_ok-axis.ensures.read,
-      inr (
-        c.in_ok-table.table,
-        c.table.new.self,
-        c.in_ok-table.ensures.read,
-        at_end-none c.table.new.self fault _ (c.in_ok-end.ensures.none_left.0 refl)
-            (subst (λ g. ForbidsMaking (HasAxis g axis) (CanSumAlong g axis) fault) c.view.ensures.same c.in_err-sums.ensures.err),
-      ),
-    ))
-
-pub returns-in_err-text_of-clause-err : goal.returns-in_err-text_of-clause-err
-returns-in_err-text_of-clause-err c =
-    let p = err_from_is_err_and c.from_residual-in_err-text_of.result c.from_residual-in_err-text_of.ensures.1 in
-    let axis = c.in_ok-axis.axis in
-    let made = c.in_ok-sums.ensures.sums in
-    rw (p.1, p.2) (inr (
-      axis,
-      c.count.new.self,
-      c.in_ok-axis.ensures.read,
-      inr (
-        c.in_ok-table.table,
-        c.table.new.self,
-        c.in_ok-table.ensures.read,
-        at_end-none c.table.new.self Memory _ (c.in_ok-end.ensures.none_left.0 refl)
-            (subst (λ g. HasAxis g axis × CanSumAlong g axis) c.view.ensures.same (made.shape, made.fits)),
-      ),
-    ))
+    let forbids = subst (λ g. ForbidsMaking (HasAxis g axis) (CanSumAlong g axis) fault) c.view.ensures.same c.in_err-sums.ensures.err in
+    rw (p.1, p.2) (inr (axis, c.in_ok-axis.table, c.in_ok-axis.ensures.read, forbids))
