@@ -3,6 +3,7 @@ pub mod Cauchy
 pub mod Examples
 pub mod Filters
 pub mod Full
+pub mod KernelSums
 pub mod Magnitudes
 pub mod Mapped
 pub mod MirroredViews
