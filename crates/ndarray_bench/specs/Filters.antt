@@ -1,6 +1,6 @@
 -- Filters of images and of signals, by what each of their values is.
 use Rattle.std.specs.Prelude.{◌≡◌, ℕ, ℤ, ◌+◌, ◌-◌, ◌*ℤ◌, pos, List, [], ◌∷◌, Some, length, slice_index}
-use Rattle.core.specs.Int.{int_shr}
+use Rattle.std.specs.Int.{int_shr}
 use Rattle.ndarray.specs.Convolution.{filtered, full_convolution}
 use Rattle.ndarray.specs.Grid.{Grid, IsGrid, cell}
 use Rattle.ndarray.specs.Integers.{int_sums}
