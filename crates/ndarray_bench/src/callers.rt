@@ -10,15 +10,15 @@ pub mod updating;
 pub mod uses;
 pub mod writing;
 
-ghost use Rattle.std.specs.Prelude.{◌≡◌, ◌↔◌, ◌<◌, ◌≤◌, ◌^◌, ◌∷◌, [], ◌++◌, ◌+ℤ◌, ◌-ℤ◌, ◌/◌, ℕ, ℤ, List, Some, length, map, max, nat_lt, pos, replicate, slice_index, false, IfOk, IfSome, IsSome, IsTrue, FitsSigned};
+ghost use Rattle.std.specs.Prelude.{◌≡◌, ◌≢◌, ◌↔◌, ◌<◌, ◌≤◌, ◌^◌, ◌∷◌, [], ◌++◌, ◌+ℤ◌, ◌-ℤ◌, ◌/◌, ◌*◌, ℕ, ℤ, List, Some, length, map, max, nat_lt, pos, replicate, slice_index, false, IfErr, IfOk, IfSome, IsOk, IsSome, IsTrue, FitsSigned};
 ghost use Rattle.std.specs.Int.{w64};
 ghost use Rattle.std.specs.List.{fold, list_all, list_any};
 ghost use Rattle.ndarray.specs.AlongAxis.{Cumulates, IsDifference, one_further};
-ghost use Rattle.ndarray.specs.Broadcast.{BroadcastsTo};
+ghost use Rattle.ndarray.specs.Broadcast.{BroadcastsTo, broadcast_lengths};
 ghost use Rattle.ndarray.specs.Chains.{HasColumn, HasMatrix};
 ghost use Rattle.ndarray.specs.Elementwise.{CanCombine, Combines};
 ghost use Rattle.ndarray.specs.Grid.{Grid, IsGrid, array_by, cell, one_axis};
-ghost use Rattle.ndarray.specs.Index.{InBox};
+ghost use Rattle.ndarray.specs.Index.{InBox, size};
 ghost use Rattle.ndarray.specs.Integers.{int_products, int_sums, magnitude_product};
 ghost use Rattle.ndarray.specs.Joining.{stack_of};
 ghost use Rattle.ndarray.specs.Products.{column_entries, column_of, magnitude_sum, matrix_of, product_of, products_of, ShapesMultiply, ShapesMultiplyInto};
@@ -46,7 +46,8 @@ pub fn halve<S: Data<Elem = u64>, D: Lengths>(
     alloc: Global,
     a: &ArrayBase<S, D>,
 ) -> Result<Array<u64, D>, AllocError>
-    ensures { IfOk result (λ b. b ≡ array_by a.now.lengths (half_at a.now)) }
+    ensures halves { IfOk result (λ b. b ≡ array_by a.now.lengths (half_at a.now)) }
+    ensures empty { size a.now.lengths ≡ 0 → IsOk result }
 {
     Zip::from(a).map_collect(alloc, |x| *x / 2)
 }
@@ -66,7 +67,8 @@ pub fn clear_diagonal<S: Data<Elem = u64>>(
     alloc: Global,
     a: &ArrayBase<S, Ix2>,
 ) -> Result<Array<u64, Ix2>, AllocError>
-    ensures { IfOk result (λ b. b ≡ array_by a.now.lengths (off_diagonal a.now)) }
+    ensures cells { IfOk result (λ b. b ≡ array_by a.now.lengths (off_diagonal a.now)) }
+    ensures empty { size a.now.lengths ≡ 0 → IsOk result }
 {
     Zip::indexed(a).map_collect(alloc, |(i, j), x| if i == j { 0 } else { *x })
 }
@@ -78,7 +80,8 @@ pub fn raise_to<S: Data<Elem = u64>, T: Data<Elem = u64>, D: Lengths, E: Lengths
     limits: &ArrayBase<T, E>,
 ) -> Result<Array<u64, D>, AllocError>
     requires { BroadcastsTo limits.now.lengths a.now.lengths }
-    ensures { IfOk result (λ b. b ≡ array_by a.now.lengths (greater_at a.now limits.now)) }
+    ensures cells { IfOk result (λ b. b ≡ array_by a.now.lengths (greater_at a.now limits.now)) }
+    ensures empty { size a.now.lengths ≡ 0 → IsOk result }
 {
     Zip::from(a)
         .and_broadcast(limits)
@@ -90,7 +93,8 @@ pub fn list_cells<'a, S: Data<Elem = u64>, D: Lengths>(
     alloc: Global,
     a: &'a ArrayBase<S, D>,
 ) -> Result<Vec<&'a u64>, AllocError>
-    ensures { IfOk result (λ v. map (λ x. x.now) v.items ≡ a.now.cells) }
+    ensures cells { IfOk result (λ v. map (λ x. x.now) v.items ≡ a.now.cells) }
+    ensures empty { length a.now.cells ≡ 0 → IsOk result }
 {
     to_vec(alloc, a.iter())
 }
@@ -100,7 +104,8 @@ pub fn list_halves<S: Data<Elem = u64>, D: Lengths>(
     alloc: Global,
     a: &ArrayBase<S, D>,
 ) -> Result<Vec<u64>, AllocError>
-    ensures { IfOk result (λ v. v.items ≡ map (λ x. x / 2) a.now.cells) }
+    ensures halves { IfOk result (λ v. v.items ≡ map (λ x. x / 2) a.now.cells) }
+    ensures empty { length a.now.cells ≡ 0 → IsOk result }
 {
     to_vec_mapped(alloc, a.iter(), |x| *x / 2)
 }
@@ -131,7 +136,8 @@ pub fn greatest_of_each<'a, N: NdProducer<Item = ArrayView<'a, u64, Ix2>>>(
     alloc: Global,
     views: N,
 ) -> Result<Array<u64, N::Dim>, AllocError>
-    ensures { IfOk result (λ d. (view_at : List ℕ → Grid ℕ) → ((is : List ℕ) (v : Grid ℕ) → InBox (N.lengths views) is → N.yields_at views is v → v ≡ view_at is) → d ≡ array_by (N.lengths views) (λ is. fold max 0 (view_at is).cells)) }
+    ensures greatest { IfOk result (λ d. (view_at : List ℕ → Grid ℕ) → ((is : List ℕ) (v : Grid ℕ) → InBox (N.lengths views) is → N.yields_at views is v → v ≡ view_at is) → d ≡ array_by (N.lengths views) (λ is. fold max 0 (view_at is).cells)) }
+    ensures empty { size (N.lengths views) ≡ 0 → IsOk result }
 {
     Zip::from(views).map_collect(alloc, |view| greatest(&view))
 }
@@ -142,7 +148,8 @@ pub fn maximum_filter<S: Data<Elem = u64>>(
     alloc: Global,
     image: &ArrayBase<S, Ix2>,
 ) -> Result<Array<u64, Ix2>, AllocError>
-    ensures { IfOk result (λ d. d ≡ array_by (window_counts image.now.lengths (3 ∷ 3 ∷ []) (1 ∷ 1 ∷ [])) (greatest_in_square image.now)) }
+    ensures greatest { IfOk result (λ d. d ≡ array_by (window_counts image.now.lengths (3 ∷ 3 ∷ []) (1 ∷ 1 ∷ [])) (greatest_in_square image.now)) }
+    ensures empty { size (window_counts image.now.lengths (3 ∷ 3 ∷ []) (1 ∷ 1 ∷ [])) ≡ 0 → IsOk result }
 {
     let _axes = image.ndim();
     greatest_of_each(alloc, image.windows((3, 3)))
@@ -161,7 +168,8 @@ pub fn residue_sum<const M: u32, S: Data<Elem = Residue<M>>, D: Lengths>(
 pub fn table_sums(a: &Array<i64, Ix2>, b: &Array<i64, Ix2>) -> Result<Array<i64, Ix2>, AllocError>
     requires same { a.now.lengths ≡ b.now.lengths }
     requires fits { (is : List ℕ) (x y : ℤ) → cell a.now is ≡ Some x → cell b.now is ≡ Some y → FitsSigned w64 (x +ℤ y) }
-    ensures { IfOk result (λ c. c ≡ array_by a.now.lengths (sum_at a.now b.now)) }
+    ensures sums { IfOk result (λ c. c ≡ array_by a.now.lengths (sum_at a.now b.now)) }
+    ensures empty { size a.now.lengths ≡ 0 → IsOk result }
 {
     let _lengths = (a.raw_dim(), b.raw_dim());
     a + b
@@ -174,7 +182,8 @@ pub fn cell_sums<S: Data<Elem = i64>, T: Data<Elem = i64>, D: DimMax<D>>(
     b: &ArrayBase<T, D>,
 ) -> Result<Array<i64, <D as DimMax<D>>::Output>, AllocError>
     requires { CanCombine a.now b.now (λ x y. FitsSigned w64 (x +ℤ y)) }
-    ensures { IfOk result (Combines a.now b.now (λ x y z. z ≡ x +ℤ y)) }
+    ensures sums { IfOk result (Combines a.now b.now (λ x y z. z ≡ x +ℤ y)) }
+    ensures empty { size a.now.lengths ≡ 0 → size (broadcast_lengths a.now.lengths b.now.lengths) ≡ 0 → IsOk result }
 {
     let copy = a.to_owned(alloc)?;
     copy + b
@@ -187,7 +196,8 @@ pub fn rests<S: Data<Elem = u16>, D: Lengths>(
     whole: u16,
     parts: &ArrayBase<S, D>,
 ) -> Result<Array<u16, D>, AllocError>
-    ensures { IfOk result (λ rests. rests ≡ array_by parts.now.lengths (rest_at whole parts.now)) }
+    ensures rests { IfOk result (λ rests. rests ≡ array_by parts.now.lengths (rest_at whole parts.now)) }
+    ensures empty { size parts.now.lengths ≡ 0 → IsOk result }
 {
     scalar_left(
         alloc,
@@ -227,6 +237,7 @@ pub fn row_sums<S: Data<Elem = i64>>(
 ) -> Result<Option<Array<i64, Ix1>>, AllocError>
     ensures fits { IfOk result (λ made. IsSome made ↔ IsSummable int_sums (FitsSigned w64) a.now.cells) }
     ensures sums { IfOk result (λ made. IfSome made (λ r. r ≡ array_by (slice_index a.now.lengths 0 ∷ []) (row_total a.now))) }
+    ensures error { IfErr result (λ _. IsSummable int_sums (FitsSigned w64) a.now.cells × (slice_index a.now.lengths 0 ≢ 0)) }
 {
     let table = a.view();
     if !table.sums_fit() {
@@ -245,7 +256,8 @@ pub fn increases<S: Data<Elem = i64>, D: Lengths>(
     requires axis { axis.0 < length a.now.lengths }
     requires some { 1 < slice_index a.now.lengths axis.0 }
     requires fits { (is : List ℕ) (y x : ℤ) → cell a.now (one_further axis.0 is) ≡ Some y → cell a.now is ≡ Some x → FitsSigned w64 (y -ℤ x) }
-    ensures { IfOk result (IsDifference (λ y x z. z ≡ y -ℤ x) axis.0 a.now) }
+    ensures differences { IfOk result (IsDifference (λ y x z. z ≡ y -ℤ x) axis.0 a.now) }
+    ensures empty { size a.now.lengths ≡ 0 → IsOk result }
 {
     a.diff(alloc, 1, axis)
 }
@@ -257,7 +269,8 @@ pub fn residue_running_products<const M: u32, S: Data<Elem = Residue<M>>, D: Len
     axis: Axis,
 ) -> Result<Array<Residue<M>, D>, AllocError>
     requires { axis.0 < length a.now.lengths }
-    ensures { IfOk result (Cumulates (λ x p z. z ≡ (residue_products (modulus M) (modulus_pos M)).op x p) axis.0 a.now) }
+    ensures products { IfOk result (Cumulates (λ x p z. z ≡ (residue_products (modulus M) (modulus_pos M)).op x p) axis.0 a.now) }
+    ensures empty { size a.now.lengths ≡ 0 → IsOk result }
 {
     a.cumprod(alloc, axis)
 }
@@ -307,6 +320,7 @@ pub fn lower_part<S: Data<Elem = i64>>(
     ensures whole { IfOk result IsGrid }
     ensures kept { IfOk result (λ l. (i j : ℕ) → InBox a.now.lengths (i ∷ j ∷ []) → j ≤ i → cell l (i ∷ j ∷ []) ≡ cell a.now (i ∷ j ∷ [])) }
     ensures zero { IfOk result (λ l. (i j : ℕ) → InBox a.now.lengths (i ∷ j ∷ []) → i < j → cell l (i ∷ j ∷ []) ≡ Some (pos 0)) }
+    ensures empty { size a.now.lengths ≡ 0 → IsOk result }
 {
     a.tril(alloc, 0)
 }
@@ -336,6 +350,7 @@ pub fn residue_product<const M: u32, S: Data<Elem = Residue<M>>, T: Data<Elem = 
 ) -> Result<Option<Array<Residue<M>, Ix2>>, AllocError>
     ensures shapes { IfOk result (λ made. IsSome made ↔ ShapesMultiply a.now.lengths b.now.lengths) }
     ensures product { let values = ⟦<Residue<M> as Valued>⟧ in IfOk result (λ made. IfSome made (HasMatrix values (product_of values (matrix_of values a.now) (matrix_of values b.now)))) }
+    ensures error { IfErr result (λ _. ShapesMultiply a.now.lengths b.now.lengths × (slice_index a.now.lengths 0 * slice_index b.now.lengths 1 ≢ 0)) }
 {
     if !dot_ok(a, b) {
         return Ok(None);
@@ -353,6 +368,7 @@ pub fn matrix_times_vector<S: Data<Elem = i64>, T: Data<Elem = i64>>(
 ) -> Result<Option<Array<i64, Ix1>>, AllocError>
     ensures fits { let values = ⟦<i64 as Valued>⟧ in IfOk result (λ made. IsSome made ↔ (ShapesMultiply a.now.lengths x.now.lengths × HasMagnitudesInRange (FitsSigned w64) (matrix_of values a.now) (column_of values x.now))) }
     ensures product { let values = ⟦<i64 as Valued>⟧ in IfOk result (λ made. IfSome made (HasColumn values (product_of values (matrix_of values a.now) (column_of values x.now)))) }
+    ensures error { let values = ⟦<i64 as Valued>⟧ in IfErr result (λ _. HasMagnitudesInRange (FitsSigned w64) (matrix_of values a.now) (column_of values x.now) × (slice_index a.now.lengths 0 ≢ 0)) }
 {
     let (a, x) = (a.view(), x.view());
     if !entries_fit(&a, &x) {

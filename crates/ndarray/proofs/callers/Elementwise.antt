@@ -21,7 +21,8 @@ array_by-follows r ns f whole e at =
 
 -- Two arrays of the same lengths.
 module _ {A B : Type 0} (g : Grid A) (h : Grid B) (left_whole : IsGrid g) (right_whole : IsGrid h) (same : g.lengths ≡ h.lengths) where
-  lengths-same : broadcast_lengths g.lengths h.lengths ≡ g.lengths
+  -- the lengths of the array that an operator returns are theirs
+  pub lengths-same : broadcast_lengths g.lengths h.lengths ≡ g.lengths
   lengths-same = lengths-stretched g.lengths h.lengths (subst (λ ms. BroadcastsTo ms g.lengths) same (broadcasts-itself g.lengths))
 
   left-own : (is : List ℕ) → cell (broadcast_to g (broadcast_lengths g.lengths h.lengths)) is ≡ cell g is

@@ -196,3 +196,20 @@ impl<S: Data> ArrayBase<S, Ix2> {
         Dot::dot(self, alloc, rhs)
     }
 }
+
+impl<S: Data> ArrayBase<S, IxDyn> {
+    /// The product with an array on the right, of any number of axes from one on both sides, as [`Dot::dot`].
+    ///
+    /// ```
+    /// // a of (2, 1, 2) is [[[1, 2]], [[3, 4]]], and b is [[1, 0], [1, 1]]
+    /// a.dot(alloc, &b)?; // [[[3, 2]], [[7, 4]]]
+    /// ```
+    pub fn dot<Rhs>(&self, alloc: Global, rhs: &Rhs) -> <Self as Dot<Rhs>>::Output
+    where
+        Self: Dot<Rhs>,
+        requires { ⟦<ArrayBase<S, IxDyn> as Dot<Rhs>>⟧.can_dot self.now rhs.now }
+        ensures { ⟦<ArrayBase<S, IxDyn> as Dot<Rhs>>⟧.dot_gives self.now rhs.now result }
+    {
+        Dot::dot(self, alloc, rhs)
+    }
+}

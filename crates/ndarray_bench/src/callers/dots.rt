@@ -1,6 +1,6 @@
 //! Products of arrays whose number of axes is told as the program runs.
 
-ghost use Rattle.std.specs.Prelude.{◌≡◌, ◌↔◌, IfOk, IfSome, IsOk, IsSome};
+ghost use Rattle.std.specs.Prelude.{◌≡◌, ◌≢◌, ◌↔◌, IfErr, IfOk, IfSome, IsOk, IsSome};
 ghost use Rattle.ndarray.specs.DotLaws.{HasOneOrTwoAxes, left_matrix, product_entries, right_matrix};
 ghost use Rattle.ndarray.specs.Index.{size};
 ghost use Rattle.ndarray.specs.Products.{HasSumsInRange, HasValues, ShapesMultiply, dot_entries, product_lengths};
@@ -19,6 +19,7 @@ pub fn residue_dot(
 ) -> Result<Option<Array<Residue<97>, IxDyn>>, AllocError>
     ensures shapes { IfOk result (λ made. IsSome made ↔ ShapesMultiply a.now.lengths b.now.lengths) }
     ensures product { let values = ⟦<Residue<97> as Valued>⟧ in IfOk result (λ made. IfSome made (HasValues values (product_lengths a.now.lengths b.now.lengths) (dot_entries values a.now b.now))) }
+    ensures error { IfErr result (λ _. ShapesMultiply a.now.lengths b.now.lengths × (size (product_lengths a.now.lengths b.now.lengths) ≢ 0)) }
 {
     if !dot_ok(a, b) {
         return Ok(None);

@@ -1,6 +1,6 @@
 //! Functions that rest on laws: each cites a law of `ndarray::laws` on arrays that the calls made.
 
-ghost use Rattle.std.specs.Prelude.{◌≡◌, ◌≢◌, ◌↔◌, ◌≤◌, ◌<◌, ◌∷◌, [], ◌+◌, ◌-◌, ◌^◌, pos, negsuc, ◌<ℤ◌, ◌+ℤ◌, length, reverse, slice_index, Err, None, IfOk, IfSome, IsOk, IsSome, FitsSigned};
+ghost use Rattle.std.specs.Prelude.{◌≡◌, ◌≢◌, ◌↔◌, ◌≤◌, ◌<◌, ◌∷◌, [], ◌+◌, ◌-◌, ◌^◌, pos, negsuc, ◌<ℤ◌, ◌+ℤ◌, length, reverse, slice_index, Err, None, IfErr, IfOk, IfSome, IsOk, IsSome, FitsSigned};
 ghost use Rattle.std.specs.Int.{w64};
 ghost use Rattle.ndarray.specs.AlongAxis.{IsDifferenceOf, IsTotalOf};
 ghost use Rattle.ndarray.specs.Chains.{HasColumn, HasMatrix, ShapesChain, ShapesMultiplyInPairs};
@@ -58,6 +58,7 @@ pub fn table_totals<S: Data<Elem = i64>>(
     ensures rows { IfOk result (λ made. IfSome made (λ t. Maps (IsTotalOf int_sums (λ x. x)) (lanes_of table.now 1) t.0)) }
     ensures columns { IfOk result (λ made. IfSome made (λ t. Maps (IsTotalOf int_sums (λ x. x)) (lanes_of table.now 0) t.1)) }
     ensures all { IfOk result (λ made. IfSome made (λ t. t.2 ≡ total int_sums table.now.cells)) }
+    ensures error { IfErr result (λ _. IsSummable int_sums (FitsSigned w64) table.now.cells × (slice_index table.now.lengths 0 + slice_index table.now.lengths 1 ≢ 0)) }
 {
     axis_sums::<i64>();
     let table = table.view();
@@ -134,7 +135,8 @@ pub fn sum_of_triangles<S: Data<Elem = Residue<5>>>(
     k: isize,
 ) -> Result<Array<Residue<5>, Ix2>, AllocError>
     requires above_least { negsuc (2 ^ 63 - 1) <ℤ k }
-    ensures { IfOk result (λ r. r ≡ matrix.now) }
+    ensures same { IfOk result (λ r. r ≡ matrix.now) }
+    ensures empty { size matrix.now.lengths ≡ 0 → IsOk result }
 {
     triangles_part::<Residue<5>>();
     let _lengths = matrix.raw_dim();
@@ -192,6 +194,7 @@ pub fn residue_chain<
 ) -> Result<Option<Array<Residue<5>, Ix1>>, AllocError>
     ensures fits { IfOk result (λ made. IsSome made ↔ ShapesChain a.now.lengths b.now.lengths x.now.lengths) }
     ensures product { IfOk result (λ made. IfSome made (HasColumn ⟦<Residue<5> as Valued>⟧ (product_of ⟦<Residue<5> as Valued>⟧ (product_of ⟦<Residue<5> as Valued>⟧ (matrix_of ⟦<Residue<5> as Valued>⟧ a.now) (matrix_of ⟦<Residue<5> as Valued>⟧ b.now)) (column_of ⟦<Residue<5> as Valued>⟧ x.now)))) }
+    ensures error { IfErr result (λ _. ShapesChain a.now.lengths b.now.lengths x.now.lengths × (slice_index a.now.lengths 0 ≡ 0 → slice_index b.now.lengths 0 ≡ 0 → ⊥)) }
 {
     if !chain_ok(a, b, x) {
         return Ok(None);
@@ -211,6 +214,7 @@ pub fn residue_kron_dot(
 ) -> Result<Option<Array<Residue<5>, Ix2>>, AllocError>
     ensures fits { IfOk result (λ made. IsSome made ↔ ShapesMultiplyInPairs a.now.lengths b.now.lengths c.now.lengths d.now.lengths) }
     ensures product { IfOk result (λ made. IfSome made (HasMatrix ⟦<Residue<5> as Valued>⟧ (product_of ⟦<Residue<5> as Valued>⟧ (kronecker_product ⟦<Residue<5> as Valued>⟧.multiplication (matrix_of ⟦<Residue<5> as Valued>⟧ a.now) (matrix_of ⟦<Residue<5> as Valued>⟧ b.now)) (kronecker_product ⟦<Residue<5> as Valued>⟧.multiplication (matrix_of ⟦<Residue<5> as Valued>⟧ c.now) (matrix_of ⟦<Residue<5> as Valued>⟧ d.now))))) }
+    ensures error { IfErr result (λ _. ShapesMultiplyInPairs a.now.lengths b.now.lengths c.now.lengths d.now.lengths) }
 {
     if !kron_dot_ok(a, b, c, d) {
         return Ok(None);

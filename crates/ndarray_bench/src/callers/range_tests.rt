@@ -1,8 +1,10 @@
 //! Functions on integers that ask first whether the results are in range, so that none requires anything.
 
-ghost use Rattle.std.specs.Prelude.{◌≡◌, ◌↔◌, ◌+ℤ◌, ◌-ℤ◌, ◌*ℤ◌, ◌-◌, ◌∷◌, [], map, pos, neg_ℤ, false, FitsSigned, IfOk, IfSome, IsSome, IsTrue};
+ghost use Rattle.std.specs.Prelude.{◌≡◌, ◌≢◌, ◌↔◌, ◌+ℤ◌, ◌-ℤ◌, ◌*ℤ◌, ◌*◌, ◌-◌, ◌∷◌, [], map, pos, neg_ℤ, false, FitsSigned, IfErr, IfOk, IfSome, IsOk, IsSome, IsTrue, slice_index};
 ghost use Rattle.std.specs.Int.{w64};
+ghost use Rattle.ndarray.specs.Broadcast.{broadcast_lengths};
 ghost use Rattle.ndarray.specs.Elementwise.{Assigns, CanAssign, CanCombine, CanMap, Combines, Maps};
+ghost use Rattle.ndarray.specs.Index.{size};
 ghost use Rattle.ndarray.specs.Integers.{int_products, int_sums, magnitude_product};
 ghost use Rattle.ndarray.specs.Products.{HasValues, ShapesMultiply, column_entries, column_of, magnitude_sum, matrix_entries, matrix_of, product_of, products_of};
 ghost use Rattle.ndarray.specs.Sums.{IsSummableBy, total, total_by};
@@ -38,6 +40,7 @@ pub fn sums_in_range<S: Data<Elem = i64>, T: Data<Elem = i64>, D: DimMax<E>, E: 
 ) -> Result<Option<Array<i64, <D as DimMax<E>>::Output>>, AllocError>
     ensures when { IfOk result (λ made. IsSome made ↔ CanCombine a.now b.now (λ x y. FitsSigned w64 (x +ℤ y))) }
     ensures sums { IfOk result (λ made. IfSome made (Combines a.now b.now (λ x y z. z ≡ x +ℤ y))) }
+    ensures error { IfErr result (λ _. CanCombine a.now b.now (λ x y. FitsSigned w64 (x +ℤ y))) }
 {
     if !a.add_fits(b) {
         return Ok(None);
@@ -55,6 +58,7 @@ pub fn what_is_left<D: Lengths + DimMax<D>>(
 ) -> Result<Option<Array<u64, <D as DimMax<D>>::Output>>, AllocError>
     ensures when { IfOk result (λ made. IsSome made ↔ CanCombine whole.now part.now (λ x y. ⟦<u64 as num_traits::Number>⟧.fits (pos x -ℤ pos y))) }
     ensures rests { IfOk result (λ made. IfSome made (Combines whole.now part.now (λ x y z. z ≡ x - y))) }
+    ensures error { IfErr result (λ _. CanCombine whole.now part.now (λ x y. ⟦<u64 as num_traits::Number>⟧.fits (pos x -ℤ pos y)) × (size (broadcast_lengths whole.now.lengths part.now.lengths) ≢ 0)) }
 {
     if !whole.sub_fits(part) {
         return Ok(None);
@@ -89,6 +93,7 @@ where
     Ix2: DimMax<E>,
     ensures when { IfOk result (λ made. IsSome made ↔ CanCombine table.now factors.now (λ x y. FitsSigned w64 (x *ℤ y))) }
     ensures products { IfOk result (λ made. IfSome made (Combines table.now factors.now (λ x y z. z ≡ x *ℤ y))) }
+    ensures error { IfErr result (λ _. CanCombine table.now factors.now (λ x y. FitsSigned w64 (x *ℤ y)) × (size (broadcast_lengths table.now.lengths factors.now.lengths) ≢ 0)) }
 {
     if !table.mul_fits(factors) {
         return Ok(None);
@@ -101,6 +106,7 @@ where
 pub fn opposite<D: Lengths>(array: Array<i64, D>) -> Result<Option<Array<i64, D>>, AllocError>
     ensures when { IfOk result (λ made. IsSome made ↔ CanMap (λ x. FitsSigned w64 (neg_ℤ x)) array) }
     ensures negatives { IfOk result (λ made. IfSome made (Maps (λ x z. z ≡ neg_ℤ x) array)) }
+    ensures ok { IsOk result }
 {
     if !array.neg_fits() {
         return Ok(None);
@@ -118,6 +124,7 @@ pub fn matrix_product_in_range<S: Data<Elem = i64>, T: Data<Elem = i64>>(
 ) -> Result<Option<Array<i64, Ix2>>, AllocError>
     ensures when { let values = ⟦<i64 as Valued>⟧ in IfOk result (λ made. IsSome made ↔ (ShapesMultiply a.now.lengths b.now.lengths × HasMagnitudesInRange (FitsSigned w64) (matrix_of values a.now) (matrix_of values b.now))) }
     ensures product { let values = ⟦<i64 as Valued>⟧ in let product = product_of values (matrix_of values a.now) (matrix_of values b.now) in IfOk result (λ made. IfSome made (HasValues values (product.rows ∷ product.columns ∷ []) (matrix_entries product))) }
+    ensures error { let values = ⟦<i64 as Valued>⟧ in IfErr result (λ _. ShapesMultiply a.now.lengths b.now.lengths × HasMagnitudesInRange (FitsSigned w64) (matrix_of values a.now) (matrix_of values b.now) × (slice_index a.now.lengths 0 * slice_index b.now.lengths 1 ≢ 0)) }
 {
     if !entries_fit(a, b) {
         return Ok(None);
@@ -178,6 +185,7 @@ pub fn checked_matrix_times_vector<A: IntegerScalar, S: Data<Elem = A>, T: Data<
 ) -> Result<Option<Array<A, Ix1>>, AllocError>
     ensures when { let values = whole_numbers A.value A.fits in IfOk result (λ made. IsSome made ↔ (ShapesMultiply a.now.lengths x.now.lengths × HasMagnitudesInRange A.fits (matrix_of values a.now) (column_of values x.now))) }
     ensures product { let product = product_of A.Valued (matrix_of A.Valued a.now) (column_of A.Valued x.now) in IfOk result (λ made. IfSome made (HasValues A.Valued (product.rows ∷ []) (column_entries product))) }
+    ensures error { let values = whole_numbers A.value A.fits in IfErr result (λ _. ShapesMultiply a.now.lengths x.now.lengths × HasMagnitudesInRange A.fits (matrix_of values a.now) (column_of values x.now) × (slice_index a.now.lengths 0 ≢ 0)) }
 {
     let (a, x) = (a.view(), x.view());
     if !entries_fit(&a, &x) {

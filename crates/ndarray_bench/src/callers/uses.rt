@@ -1,11 +1,11 @@
 //! Uses of the library as a user would write them: totals put under a table, the determinant of a triangle, a step of the game
 //! of life, and a fixed-point signal.
 
-ghost use Rattle.std.specs.Prelude.{◌≡◌, ◌↔◌, ◌<◌, ◌≤◌, ◌+◌, ◌*ℤ◌, ◌^◌, ◌∷◌, [], ℕ, drop, slice_index, FitsSigned, IfOk, IfSome, IsSome, IsTrue};
+ghost use Rattle.std.specs.Prelude.{◌≡◌, ◌≢◌, ◌↔◌, ◌<◌, ◌≤◌, ◌+◌, ◌*ℤ◌, ◌^◌, ◌∷◌, [], ℕ, drop, slice_index, FitsSigned, IfErr, IfOk, IfSome, IsOk, IsSome, IsTrue};
 ghost use Rattle.std.specs.Int.{w64};
 ghost use Rattle.ndarray.specs.Elementwise.{CanMap};
 ghost use Rattle.ndarray.specs.Grid.{IsGrid, array_by, cell};
-ghost use Rattle.ndarray.specs.Index.{InBox};
+ghost use Rattle.ndarray.specs.Index.{InBox, size};
 ghost use Rattle.ndarray.specs.Integers.{int_sums};
 ghost use Rattle.ndarray.specs.Joining.{concatenation};
 ghost use Rattle.ndarray.specs.Sums.{IsSummable};
@@ -123,7 +123,8 @@ pub fn step_of_life<S: Data<Elem = bool>>(
     alloc: Global,
     grid: &ArrayBase<S, Ix2>,
 ) -> Result<Array<bool, Ix2>, AllocError>
-    ensures { IfOk result (λ next. next ≡ array_by grid.now.lengths (life_step_at grid.now)) }
+    ensures cells { IfOk result (λ next. next ≡ array_by grid.now.lengths (life_step_at grid.now)) }
+    ensures empty { size grid.now.lengths ≡ 0 → IsOk result }
 {
     let grid = grid.view();
     Zip::indexed(&grid).map_collect(alloc, |(i, j), _alive| next_state(&grid, i, j))
@@ -140,6 +141,7 @@ pub fn amplify<S: Data<Elem = i64>>(
     requires { bits < 64 }
     ensures when { IfOk result (λ made. IsSome made ↔ CanMap (λ x. FitsSigned w64 (x *ℤ gain)) signal.now) }
     ensures samples { IfOk result (λ made. IfSome made (λ s. s ≡ array_by signal.now.lengths (amplified_at gain bits signal.now))) }
+    ensures error { IfErr result (λ _. CanMap (λ x. FitsSigned w64 (x *ℤ gain)) signal.now × (size signal.now.lengths ≢ 0)) }
 {
     if !signal.mul_scalar_fits(gain) {
         return Ok(None);

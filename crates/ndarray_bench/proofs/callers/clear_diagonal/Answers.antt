@@ -5,8 +5,8 @@ use Rattle.ndarray.proofs.callers.Collecting.{collect-follows, if_ok-both}
 use Rattle.ndarray_bench.specs.Callers.{off_diagonal}
 use Rattle.ndarray_bench.proofs.callers.clear_diagonal.Goals as goal
 
-pub returns : goal.returns
-returns g c =
+pub returns-clause-cells : goal.returns-clause-cells
+returns-clause-cells g c =
     let a = c.args.a.now in
     let nested = c.indexed.result.nested in
     let second : nested.second ≡ a = c.indexed.ensures.part in

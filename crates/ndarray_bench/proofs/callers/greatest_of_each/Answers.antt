@@ -4,8 +4,8 @@ use Rattle.ndarray.specs.Grid.{array_by}
 use Rattle.ndarray.proofs.callers.Collecting.{collect-follows, if_ok-both}
 use Rattle.ndarray_bench.proofs.callers.greatest_of_each.Goals as goal
 
-pub returns : goal.returns
-returns g c =
+pub returns-clause-greatest : goal.returns-clause-greatest
+returns-clause-greatest g c =
     if_ok-both c.map_collect.result _ _ _
     (λ d ran whole view_at told.
     let greatest_at : List ℕ → ℕ = λ is. fold max 0 (view_at is).cells in

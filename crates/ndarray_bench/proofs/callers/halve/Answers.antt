@@ -4,8 +4,8 @@ use Rattle.ndarray.proofs.callers.Collecting.{collect-follows, if_ok-both}
 use Rattle.ndarray_bench.specs.Callers.{half_at}
 use Rattle.ndarray_bench.proofs.callers.halve.Goals as goal
 
-pub returns : goal.returns
-returns g c =
+pub returns-clause-halves : goal.returns-clause-halves
+returns-clause-halves g c =
     let a = c.args.a.now in
     let first : c.from.result.nested ≡ a = c.from.ensures in
     if_ok-both c.map_collect.result _ _ (λ b. b ≡ array_by a.lengths (half_at a))

@@ -5,8 +5,8 @@ use Rattle.ndarray.proofs.callers.Collecting.{array_by-at, if_ok-both}
 use Rattle.ndarray_bench.specs.Callers.{greatest_in_square}
 use Rattle.ndarray_bench.proofs.callers.maximum_filter.Goals as goal
 
-pub returns : goal.returns
-returns g c =
+pub returns-clause-greatest : goal.returns-clause-greatest
+returns-clause-greatest g c =
     let a = c.args.image.now in
     let sides = 3 ∷ 3 ∷ [] in
     let steps = 1 ∷ 1 ∷ [] in
@@ -15,4 +15,4 @@ returns g c =
     (λ d made same.
     made (window a sides steps) (λ i square inside shown. array_by-at _ (window a sides steps) c.windows.result i square windows inside shown)
     ∙ ap (λ v. array_by v.lengths (greatest_in_square a)) windows)
-    c.greatest_of_each.ensures c.greatest_of_each.ensures
+    c.greatest_of_each.ensures.greatest c.greatest_of_each.ensures.greatest

@@ -5,8 +5,8 @@ use Rattle.ndarray.proofs.callers.Collecting.{collect-follows, if_ok-both}
 use Rattle.ndarray_bench.specs.Callers.{greater_at}
 use Rattle.ndarray_bench.proofs.callers.raise_to.Goals as goal
 
-pub returns : goal.returns
-returns g c =
+pub returns-clause-cells : goal.returns-clause-cells
+returns-clause-cells g c =
     let a = c.args.a.now in
     let limits = c.args.limits.now in
     let first : c.and_broadcast.result.nested.first ≡ a = c.and_broadcast.ensures.before ∙ c.from.ensures in

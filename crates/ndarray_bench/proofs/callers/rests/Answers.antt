@@ -4,8 +4,8 @@ use Rattle.ndarray.proofs.callers.Collecting.{collect-follows, if_ok-both}
 use Rattle.ndarray_bench.specs.Callers.{rest_at}
 use Rattle.ndarray_bench.proofs.callers.rests.Goals as goal
 
-pub returns : goal.returns
-returns g c =
+pub returns-clause-rests : goal.returns-clause-rests
+returns-clause-rests g c =
     let parts = c.args.parts.now in
     let whole = c.args.whole in
     if_ok-both c.scalar_left.result _ _ (λ b. b ≡ array_by parts.lengths (rest_at whole parts))

@@ -1,6 +1,6 @@
 use Rattle.std.proofs.Common.{rules, ◌≡◌, ◌∙◌, ◌*ℤ◌, FitsSigned, ap, of_z, refl, subst, sym, to_z, w64}
 use Rattle.std.proofs.lemmas.Int.{to_z-of_z}
-use Rattle.ndarray.specs.Elementwise.{Maps}
+use Rattle.ndarray.specs.Elementwise.{CanMap, Maps}
 use Rattle.std.specs.Int.{int_shr}
 use Rattle.ndarray.specs.Grid.{array_by}
 use Rattle.ndarray.proofs.callers.Mapping.{maps-follow-twice}
@@ -13,6 +13,12 @@ returns-then-not-mul_scalar_fits-clause-when g c = (λ off. absurd (search rules
 
 pub returns-clause-when : goal.returns-clause-when
 returns-clause-when g c = (λ _ is x here. subst (λ k. FitsSigned w64 (x *ℤ k)) (to_z-of_z w64 c.args.gain c.ranges.gain) (c.if-not-mul_scalar_fits.ensures.exact.0 refl is x here), λ _. refl)
+
+pub returns-in_err-copy-clause-error : goal.returns-in_err-copy-clause-error
+returns-in_err-copy-clause-error g c =
+    let can : CanMap (λ x. FitsSigned w64 (x *ℤ c.args.gain)) c.args.signal.now =
+    λ is x here. subst (λ k. FitsSigned w64 (x *ℤ k)) (to_z-of_z w64 c.args.gain c.ranges.gain) (c.if-not-mul_scalar_fits.ensures.exact.0 refl is x here) in
+    search (rules, can)
 
 pub returns-clause-samples : goal.returns-clause-samples
 returns-clause-samples g c =

@@ -5,8 +5,8 @@ use Rattle.ndarray.proofs.callers.Collecting.{collect-follows, if_ok-both}
 use Rattle.ndarray_bench.specs.Uses.{life_step_at}
 use Rattle.ndarray_bench.proofs.callers.uses.step_of_life.Goals as goal
 
-pub returns : goal.returns
-returns g c =
+pub returns-clause-cells : goal.returns-clause-cells
+returns-clause-cells g c =
     let a = c.args.grid.now in
     let view : c.view-grid.result ≡ a = c.view-grid.ensures.same in
     let nested = c.indexed.result.nested in
