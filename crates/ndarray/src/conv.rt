@@ -190,7 +190,7 @@ impl<'a, 'k, A: IntegerElem, D: Lengths> ItemCall<ArrayView<'a, A, D>> for Windo
 /// and m it has length n + m - 1, and length 0 where one of them has no cells.
 ///
 /// Requires, where both have cells, that n + 2m - 2 is at most `isize::MAX`; check with [`conv_full_ok`]. Requires too that at each s every
-/// selection of the products has its sum in range. The error is allocation failure; where one of
+/// selection of the products has its sum in range, for which [`full_fits`] is enough. The error is allocation failure; where one of
 /// them has no cells there is none. Besides the result, a copy of `x` between m - 1 zeros on each side is allocated.
 ///
 /// ```
@@ -263,7 +263,7 @@ fn overlaps_fit<A: IntegerElem>(x: &ArrayView<'_, A, Ix1>, mirrored: &ArrayView<
     true
 }
 
-/// The same at one s: the cells of the one vector from the first on that meets a cell of the other, and so the other's, place by place.
+/// The same at one s. There the cells of each vector from the first on that meets a cell of the other are multiplied, place by place.
 fn overlap_fits<A: IntegerElem>(
     x: &ArrayView<'_, A, Ix1>,
     mirrored: &ArrayView<'_, A, Ix1>,
