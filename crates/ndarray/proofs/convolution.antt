@@ -3,6 +3,7 @@ pub mod Cauchy
 pub mod Examples
 pub mod Filters
 pub mod Full
+pub mod KernelSums
 pub mod Magnitudes
 pub mod Mapped
 pub mod MirroredViews
@@ -10,6 +11,7 @@ pub mod Mirrors
 pub mod NeutralValues
 pub mod OneAxis
 pub mod OverWindows
+pub mod Overlaps
 pub mod Padding
 pub mod Pairs
 pub mod ProductLists

@@ -116,6 +116,10 @@ module _ {A : Type 0} (value : A → ℤ) (fits : ℤ → Type 0) where
   abbrev pub TestsProducts : List A → List A → Bool → Type 0
   TestsProducts xs ys r = (IsTrue r ↔ fits (pos (magnitude_sum (products_of int_products value xs ys)))) × (IsTrue r → IsSummable int_sums fits (products_of int_products value xs ys))
 
-  -- the same at each place of the full convolution
+  -- at each place of the full convolution, the absolute values of the products add up to a number that fits
   abbrev pub HasFullMagnitudesInRange : List A → List A → Type 0
   HasFullMagnitudesInRange xs ys = (s : ℕ) → s < full_length (length xs) (length ys) → fits (pos (magnitude_sum (convolution_products int_products value xs ys s)))
+
+  -- of the products at each place of the full convolution, every selection has its sum in the whole numbers that fit
+  abbrev pub HasFullSelectionsInRange : List A → List A → Type 0
+  HasFullSelectionsInRange xs ys = (s : ℕ) → s < full_length (length xs) (length ys) → IsSummable int_sums fits (convolution_products int_products value xs ys s)

@@ -3,12 +3,12 @@
 //! A convolution is defined on the values of the cells (`specs/Convolution.antt`), and each call requires that at each place every
 //! selection of the products has its sum in range, so that no order of adding leaves the range.
 
-ghost use Rattle.std.specs.Prelude.{⊤, ℕ, List, ◌≡◌, ◌+◌, ◌*◌, ◌^◌, ◌<◌, ◌++◌, IfOk, IsTrue, ◌↔◌, length, replicate, reverse};
-ghost use Rattle.ndarray.specs.Convolution.{CanPad, HasFullSumsInRange, HasValidMagnitudesInRange, HasValidSumsInRange, HasWindowMagnitudesInRange, MakesFullConvolution, MakesValidConvolution, TestsProducts, padded, valid_counts, window_products};
+ghost use Rattle.std.specs.Prelude.{⊤, ℕ, List, ◌≡◌, ◌+◌, ◌*◌, ◌^◌, ◌<◌, ◌≤◌, ◌++◌, IfOk, IsTrue, ◌↔◌, drop, length, pos, replicate, reverse};
+ghost use Rattle.ndarray.specs.Convolution.{CanPad, HasFullMagnitudesInRange, HasFullSelectionsInRange, HasFullSumsInRange, HasValidMagnitudesInRange, HasValidSumsInRange, HasWindowMagnitudesInRange, MakesFullConvolution, MakesValidConvolution, TestsProducts, convolution_products, padded, valid_counts, window_products};
 ghost use Rattle.ndarray.specs.Grid.{IsGrid, one_axis};
 ghost use Rattle.ndarray.specs.Index.{InBox};
 ghost use Rattle.ndarray.specs.Integers.{int_products, int_sums};
-ghost use Rattle.ndarray.specs.Products.{MakesValues, products_of};
+ghost use Rattle.ndarray.specs.Products.{MakesValues, magnitude_sum, products_of};
 ghost use Rattle.ndarray.specs.Subviews.{ArePositive};
 ghost use Rattle.ndarray.specs.Sums.{IsSummable, total};
 
@@ -190,7 +190,7 @@ impl<'a, 'k, A: IntegerElem, D: Lengths> ItemCall<ArrayView<'a, A, D>> for Windo
 /// and m it has length n + m - 1, and length 0 where one of them has no cells.
 ///
 /// Requires, where both have cells, that n + 2m - 2 is at most `isize::MAX`; check with [`conv_full_ok`]. Requires too that at each s every
-/// selection of the products has its sum in range. The error is allocation failure; where one of
+/// selection of the products has its sum in range, for which [`full_fits`] is enough. The error is allocation failure; where one of
 /// them has no cells there is none. Besides the result, a copy of `x` between m - 1 zeros on each side is allocated.
 ///
 /// ```
@@ -222,6 +222,70 @@ pub fn conv_full_ok<S: Data, S2: Data>(x: &ArrayBase<S, Ix1>, y: &ArrayBase<S2, 
     let _limits = (x.raw_dim(), y.raw_dim());
     let (n, m) = (x.len(), y.len());
     n == 0 || m == 0 || 2 * (m - 1) <= isize::MAX as usize - n
+}
+
+/// Whether at each s of the full convolution of two vectors of integers the absolute values of the products add up to at most the
+/// type's greatest number. Then [`conv_full`] may be asked for, where [`conv_full_ok`] says yes too.
+///
+/// Requires nothing, and the test allocates nothing. It may say no where the convolution could be taken, as where large products of both
+/// signs are added. Where one of the vectors has no cells it says yes.
+///
+/// ```
+/// if conv_full_ok(&x, &y) && full_fits(&x, &y) {
+///     let product = conv_full(alloc, &x, &y)?;
+/// }
+/// ```
+pub fn full_fits<A: IntegerScalar, S: Data<Elem = A>, S2: Data<Elem = A>>(
+    x: &ArrayBase<S, Ix1>,
+    y: &ArrayBase<S2, Ix1>,
+) -> bool
+    ensures magnitudes { IsTrue result ↔ HasFullMagnitudesInRange A.value A.fits x.now.cells y.now.cells }
+    ensures sums { IsTrue result → HasFullSumsInRange A.Valued x.now.cells y.now.cells }
+{
+    overlaps_fit(&x.view(), &mirrored_view(&y.view()))
+}
+
+/// The same of views, the second seen from its other end, for [`full_fits`].
+fn overlaps_fit<A: IntegerElem>(x: &ArrayView<'_, A, Ix1>, mirrored: &ArrayView<'_, A, Ix1>) -> bool
+    ensures magnitudes { IsTrue result ↔ HasFullMagnitudesInRange A.value A.fits x.now.cells (reverse mirrored.now.cells) }
+    ensures selections { IsTrue result → HasFullSelectionsInRange A.value A.fits x.now.cells (reverse mirrored.now.cells) }
+{
+    let n = x.raw_dim().into_pattern();
+    let m = mirrored.raw_dim().into_pattern();
+    if n == 0 || m == 0 {
+        return true;
+    }
+    for s in 0..n + m - 1 {
+        if !overlap_fits(x, mirrored, s) {
+            return false;
+        }
+    }
+    true
+}
+
+/// The same at one s. There the cells of each vector from the first on that meets a cell of the other are multiplied, place by place.
+fn overlap_fits<A: IntegerElem>(
+    x: &ArrayView<'_, A, Ix1>,
+    mirrored: &ArrayView<'_, A, Ix1>,
+    s: usize,
+) -> bool
+    requires small { s + 1 < 2 ^ 64 }
+    requires place { s + 1 < length x.now.cells + length mirrored.now.cells }
+    ensures magnitudes { IsTrue result ↔ A.fits (pos (magnitude_sum (convolution_products int_products A.value x.now.cells (reverse mirrored.now.cells) s))) }
+    ensures selections { IsTrue result → IsSummable int_sums A.fits (convolution_products int_products A.value x.now.cells (reverse mirrored.now.cells) s) }
+{
+    let first = (s + 1).saturating_sub(mirrored.len());
+    let first_mirrored = mirrored.len().saturating_sub(s + 1);
+    inner_stays_in_range(&cells_from(x, first), &cells_from(mirrored, first_mirrored))
+}
+
+/// The cells of a vector from one on.
+fn cells_from<'a, A>(x: &'a ArrayView<'_, A, Ix1>, first: usize) -> ArrayView<'a, A, Ix1>
+    requires { first ≤ length x.now.cells }
+    ensures { result.cells ≡ drop first x.now.cells }
+{
+    let (_, rest) = x.view().split_at(Axis(0), first);
+    rest
 }
 
 /// A vector between as many zeros on each side.

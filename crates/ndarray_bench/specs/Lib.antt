@@ -1,6 +1,7 @@
 pub mod Callers
 pub mod Chains
 pub mod Fibonacci
+pub mod Filters
 pub mod PairedProducts
 pub mod Residue
 pub mod Updating

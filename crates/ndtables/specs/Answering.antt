@@ -1,17 +1,19 @@
 -- What the program answers to its words, and why it does not.
 use Rattle.std.specs.Prelude.{◌≡◌, ◌⊎◌, ℕ, List, [], ◌∷◌, codes}
 use Rattle.ndarray.specs.Integers.{int_products, int_sums}
-use Rattle.ndtables.specs.Faults.{ForbidsAdd, ForbidsCumprod, ForbidsDiff, ForbidsDot, ForbidsTotal, ForbidsTotals}
-use Rattle.ndtables.specs.Reading.{PrintsAdd, PrintsCumprod, PrintsDiff, PrintsDot, PrintsTotal, PrintsTotals}
+use Rattle.ndtables.specs.Faults.{ForbidsAdd, ForbidsConv, ForbidsConvFull, ForbidsCumprod, ForbidsDiff, ForbidsDot, ForbidsTotal, ForbidsTotals}
+use Rattle.ndtables.specs.Reading.{PrintsAdd, PrintsConv, PrintsConvFull, PrintsCumprod, PrintsDiff, PrintsDot, PrintsTotal, PrintsTotals}
 use Rattle.ndtables.specs.Reducing.{ProductsFit, SumsFit}
 use Rattle.ndtables.specs.declared.command.Command.{Command}
-use Rattle.ndtables.specs.declared.command.Command.TheVariants.{Add, Cumprod, Diff, Dot, Product, ProductAxis, Sum, SumAxis}
+use Rattle.ndtables.specs.declared.command.Command.TheVariants.{Add, Conv, ConvFull, Cumprod, Diff, Dot, Product, ProductAxis, Sum, SumAxis}
 use Rattle.ndtables.specs.declared.fault.Fault.{Fault}
 use Rattle.ndtables.specs.declared.fault.Fault.TheVariants.{Usage}
 
 -- the name of a command
 abbrev pub name_of : Command → List ℕ
 name_of Add = codes "add"
+name_of Conv = codes "conv"
+name_of ConvFull = codes "conv-full"
 name_of Cumprod = codes "cumprod"
 name_of Diff = codes "diff"
 name_of Dot = codes "dot"
@@ -23,6 +25,8 @@ name_of SumAxis = codes "sum-axis"
 -- what the command prints for its arguments
 abbrev pub Prints : Command → List (List ℕ) → List ℕ → Type 0
 Prints Add = PrintsAdd
+Prints Conv = PrintsConv
+Prints ConvFull = PrintsConvFull
 Prints Cumprod = PrintsCumprod
 Prints Diff = PrintsDiff
 Prints Dot = PrintsDot
@@ -41,6 +45,8 @@ pub record Answers (words : List (List ℕ)) (text : List ℕ) : Type 0 where
 -- the fault is why the command prints nothing for its arguments
 abbrev pub Forbids : Command → List (List ℕ) → Fault → Type 0
 Forbids Add = ForbidsAdd
+Forbids Conv = ForbidsConv
+Forbids ConvFull = ForbidsConvFull
 Forbids Cumprod = ForbidsCumprod
 Forbids Diff = ForbidsDiff
 Forbids Dot = ForbidsDot

@@ -2,8 +2,10 @@
 use Rattle.std.specs.Prelude.{◌≡◌, ◌⊎◌, ◌<◌, ◌≤◌, ⊤, ℕ, ℤ, List, [], ◌∷◌, length, take, All}
 use Rattle.ndarray.specs.Grid.{Grid}
 use Rattle.ndarray.specs.Index.{size}
+use Rattle.ndarray.specs.Subviews.{ArePositive}
 use Rattle.ndarray.specs.declared.base.shape.Order.{Order}
 use Rattle.ndtables.specs.Adding.{ForbidsSums}
+use Rattle.ndtables.specs.Convolving.{AreVectors, CanConvolve, CanConvolveInFull}
 use Rattle.ndtables.specs.Multiplying.{ForbidsProduct}
 use Rattle.ndtables.specs.Reading.{ReadsAxisAndTable, ReadsCount, ReadsTable, ReadsTables}
 use Rattle.ndtables.specs.Reducing.{AreInRangeAlong, CanCumulateAlong, ForbidsDifferences, ForbidsMaking, HasAxis}
@@ -73,6 +75,14 @@ ForbidsTotal in_range = AfterLastTable (λ table. ForbidsMaking ⊤ (in_range ta
 -- why the array of the sums of two tables was not printed
 abbrev pub ForbidsAdd : List (List ℕ) → Fault → Type 0
 ForbidsAdd = AfterTables ForbidsSums
+
+-- why the valid convolution of a table with a kernel was not printed
+abbrev pub ForbidsConv : List (List ℕ) → Fault → Type 0
+ForbidsConv = AfterTables (λ table kernel. ForbidsMaking (ArePositive table.lengths kernel.lengths) (CanConvolve table kernel))
+
+-- why the full convolution of two tables was not printed
+abbrev pub ForbidsConvFull : List (List ℕ) → Fault → Type 0
+ForbidsConvFull = AfterTables (λ left right. ForbidsMaking (AreVectors left right) (CanConvolveInFull left right))
 
 -- why the array of the totals of the lanes along an axis was not printed
 abbrev pub ForbidsTotals : (List ℤ → Type 0) → List (List ℕ) → Fault → Type 0

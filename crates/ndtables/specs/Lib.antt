@@ -1,5 +1,6 @@
 pub mod Adding
 pub mod Answering
+pub mod Convolving
 pub mod Faults
 pub mod Multiplying
 pub mod Printing

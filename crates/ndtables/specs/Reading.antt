@@ -7,6 +7,7 @@ use Rattle.ndarray.specs.Grid.{Grid, IsGrid}
 use Rattle.ndarray.specs.Sums.{total}
 use Rattle.ndarray.specs.declared.base.shape.Order.{Order}
 use Rattle.ndtables.specs.Adding.{AreSums}
+use Rattle.ndtables.specs.Convolving.{IsFullConvolution, IsValidConvolution}
 use Rattle.ndtables.specs.Multiplying.{IsProduct}
 use Rattle.ndtables.specs.Printing.{array_text}
 use Rattle.ndtables.specs.Reducing.{AreDifferences, AreRunningProducts, AreTotalsAlong}
@@ -62,6 +63,24 @@ pub record PrintsAdd (words : List (List ℕ)) (text : List ℕ) : Type 0 where
   pub sums : Grid ℤ
   pub read : ReadsTables words left right
   pub added : AreSums left right sums
+  pub lines : text ≡ array_text sums
+
+-- all of the words were read as two tables, and the text is the valid convolution of the first with the second
+pub record PrintsConv (words : List (List ℕ)) (text : List ℕ) : Type 0 where
+  pub table : Grid ℤ
+  pub kernel : Grid ℤ
+  pub sums : Grid ℤ
+  pub read : ReadsTables words table kernel
+  pub convolved : IsValidConvolution table kernel sums
+  pub lines : text ≡ array_text sums
+
+-- all of the words were read as two tables, and the text is their full convolution
+pub record PrintsConvFull (words : List (List ℕ)) (text : List ℕ) : Type 0 where
+  pub left : Grid ℤ
+  pub right : Grid ℤ
+  pub sums : Grid ℤ
+  pub read : ReadsTables words left right
+  pub convolved : IsFullConvolution left right sums
   pub lines : text ≡ array_text sums
 
 -- all of the words were read as two tables, one after the other, and the text is their product

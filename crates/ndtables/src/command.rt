@@ -2,11 +2,12 @@
 
 ghost use Rattle.std.specs.Prelude.{◌≡◌, MatchOption, IfOk, IfErr, string_bytes};
 ghost use Rattle.ndarray.specs.Integers.{int_products, int_sums};
-ghost use Rattle.ndtables.specs.Faults.{ForbidsAdd, ForbidsCumprod, ForbidsDiff, ForbidsDot, ForbidsTotal, ForbidsTotals};
-ghost use Rattle.ndtables.specs.Reading.{PrintsAdd, PrintsCumprod, PrintsDiff, PrintsDot, PrintsTotal, PrintsTotals};
+ghost use Rattle.ndtables.specs.Faults.{ForbidsAdd, ForbidsConv, ForbidsConvFull, ForbidsCumprod, ForbidsDiff, ForbidsDot, ForbidsTotal, ForbidsTotals};
+ghost use Rattle.ndtables.specs.Reading.{PrintsAdd, PrintsConv, PrintsConvFull, PrintsCumprod, PrintsDiff, PrintsDot, PrintsTotal, PrintsTotals};
 ghost use Rattle.ndtables.specs.Reducing.{ProductsFit, SumsFit};
 
 use crate::adding::sums_in_range;
+use crate::convolving::{full_convolution, valid_convolution};
 use crate::fault::Fault;
 use crate::multiplying::dot_in_range;
 use crate::printing::text_of;
@@ -22,6 +23,10 @@ pub enum Command {
     /// `add TABLE TABLE` prints the array of the sums of the cells of two tables, whose shapes are
     /// broadcast together.
     Add,
+    /// `conv TABLE KERNEL` prints the valid convolution of a table with a kernel.
+    Conv,
+    /// `conv-full TABLE TABLE` prints the full convolution of two tables of one axis each.
+    ConvFull,
     /// `cumprod K TABLE` prints the array of the running products along axis K.
     Cumprod,
     /// `diff N K TABLE` prints the difference of order N along axis K.
@@ -48,6 +53,8 @@ impl Command {
     {
         match name {
             "add" => Some(Command::Add),
+            "conv" => Some(Command::Conv),
+            "conv-full" => Some(Command::ConvFull),
             "cumprod" => Some(Command::Cumprod),
             "diff" => Some(Command::Diff),
             "dot" => Some(Command::Dot),
@@ -69,6 +76,8 @@ impl Command {
     {
         match self {
             Command::Add => add(alloc, words),
+            Command::Conv => conv(alloc, words),
+            Command::ConvFull => conv_full(alloc, words),
             Command::Cumprod => cumprod(alloc, words),
             Command::Diff => diff(alloc, words),
             Command::Dot => dot(alloc, words),
@@ -87,6 +96,26 @@ fn add(alloc: Global, words: Words<'_>) -> Result<String, Fault>
 {
     let (left, right) = words.two_tables(alloc)?;
     let sums = sums_in_range(alloc, &left.view(), &right.view())?;
+    Ok(text_of(alloc, &sums.view())?)
+}
+
+/// `conv TABLE KERNEL`.
+fn conv(alloc: Global, words: Words<'_>) -> Result<String, Fault>
+    ensures text { IfOk result (λ text. PrintsConv words.entry (string_bytes text)) }
+    ensures err { IfErr result (ForbidsConv words.entry) }
+{
+    let (table, kernel) = words.two_tables(alloc)?;
+    let sums = valid_convolution(alloc, &table.view(), &kernel.view())?;
+    Ok(text_of(alloc, &sums.view())?)
+}
+
+/// `conv-full TABLE TABLE`.
+fn conv_full(alloc: Global, words: Words<'_>) -> Result<String, Fault>
+    ensures text { IfOk result (λ text. PrintsConvFull words.entry (string_bytes text)) }
+    ensures err { IfErr result (ForbidsConvFull words.entry) }
+{
+    let (left, right) = words.two_tables(alloc)?;
+    let sums = full_convolution(alloc, &left.view(), &right.view())?;
     Ok(text_of(alloc, &sums.view())?)
 }
 

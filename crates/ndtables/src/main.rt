@@ -3,6 +3,7 @@
 
 mod adding;
 mod command;
+mod convolving;
 mod fault;
 mod multiplying;
 mod printing;

@@ -4,6 +4,7 @@ use Rattle.std.specs.Prelude.{All, slice_index}
 use Rattle.std.specs.List.{range_with_len}
 use Rattle.std.proofs.lemmas.List.{length-map}
 use Rattle.std.proofs.lemmas.Simd.{map-map}
+use Rattle.ndarray.specs.Algebra.{CommutativeMonoid}
 use Rattle.ndarray.specs.Convolution.{convolution_products, filtered, filtered_by, full_convolution, full_convolution_by, full_length, valid_convolution_by, valid_counts, valid_products}
 use Rattle.ndarray.specs.ConvolutionLaws.{FiltersCompose}
 use Rattle.ndarray.specs.Grid.{Grid, IsGrid, array_by, cell, one_axis}
@@ -14,10 +15,11 @@ use Rattle.ndarray.specs.Subviews.{ArePositive}
 use Rattle.ndarray.specs.Sums.{total}
 use Rattle.ndarray.specs.declared.elements.Valued.{Ghosts as ValuedGhosts}
 use Rattle.ndarray.proofs.boxes.Orders.{row_order-is}
+use Rattle.ndarray.proofs.callers.Elementwise.{array_by-follows}
 use Rattle.ndarray.proofs.callers.Joining.{one_axis-is}
 use Rattle.ndarray.proofs.cells.Cells.{cell-Some}
 use Rattle.ndarray.proofs.convolution.Mapped.{filtered-map, full_convolution-map}
-use Rattle.ndarray.proofs.convolution.OneAxis.{filtered-valid, map-range-below, row_order-one}
+use Rattle.ndarray.proofs.convolution.OneAxis.{array_by-one, filtered-valid, map-range-below, row_order-one}
 use Rattle.ndarray.proofs.convolution.WholeWindows.{in_rows}
 use Rattle.ndarray.proofs.lists.Elements.{map-same}
 
@@ -41,6 +43,27 @@ strip (x ∷ xs) (y ∷ ys) e =
 value_of : {X Y : Type 0} → (X → Y) → Option X → Option Y
 value_of f None = None
 value_of f (Some x) = Some (f x)
+
+-- arrays of elements that are their own values
+module _ {C : Type 0} (plus times : CommutativeMonoid C) where
+  -- a valid convolution along one axis
+  pub valid-made : (g kernel r : Grid C) → length g.lengths ≡ 1 → IsGrid g → length kernel.lengths ≡ 1 → IsGrid kernel
+      → r.lengths ≡ valid_counts g.lengths kernel.lengths → IsGrid r → ((is : List ℕ) (z : C) → cell r is ≡ Some z → z ≡ total plus (valid_products times (λ x. x) g kernel is))
+      → r ≡ one_axis (filtered plus times g.cells kernel.cells)
+  valid-made g kernel r one_g whole_g one_k whole_k lengths whole cells =
+      array_by-follows r (valid_counts g.lengths kernel.lengths) (λ ps. total plus (valid_products times (λ x. x) g kernel ps)) whole lengths cells
+      ∙ (ap (λ w. valid_convolution_by plus times (λ x. x) w kernel) (one_axis-is g one_g whole_g)
+      ∙ (ap (valid_convolution_by plus times (λ x. x) (one_axis g.cells)) (one_axis-is kernel one_k whole_k)
+      ∙ filtered-valid plus times (λ x. x) g.cells kernel.cells))
+
+  -- a full convolution
+  pub full-made : (xs ys : List C) (r : Grid C) → r.lengths ≡ full_length (length xs) (length ys) ∷ [] → IsGrid r
+      → ((is : List ℕ) (z : C) → cell r is ≡ Some z → z ≡ total plus (convolution_products times (λ x. x) xs ys (slice_index is 0)))
+      → r ≡ one_axis (full_convolution plus times xs ys)
+  full-made xs ys r lengths whole cells =
+      let n = full_length (length xs) (length ys) in
+      let at = λ (s : ℕ). total plus (convolution_products times (λ x. x) xs ys s) in
+      array_by-follows r (n ∷ []) (λ is. at (slice_index is 0)) whole lengths cells ∙ array_by-one at n
 
 module _ {A : Type 0} (e : ValuedGhosts A) where
   -- the values of an array's cells, in row order

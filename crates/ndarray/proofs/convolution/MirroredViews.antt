@@ -1,9 +1,9 @@
 -- A view whose axes are turned round one after another has the cells backwards.
-use Rattle.std.proofs.Common.{◌≡◌, ℕ, zero, suc, ◌+◌, ◌-◌, ◌<◌, List, [], ◌∷◌, filter_map, length, map, reverse, Some, refl, sym, ap, ◌∙◌, arith, subst}
+use Rattle.std.proofs.Common.{◌≡◌, ℕ, zero, suc, ◌-◌, ◌<◌, List, [], ◌∷◌, filter_map, length, map, reverse, Some, refl, sym, ap, ◌∙◌, arith, subst}
 use Rattle.std.specs.Prelude.{slice_index, slice_set}
 use Rattle.std.proofs.lemmas.Simd.{map-map}
 use Rattle.ndarray.specs.Convolution.{mirrored}
-use Rattle.ndarray.specs.Grid.{Grid, IsGrid, cell, tabulate}
+use Rattle.ndarray.specs.Grid.{Grid, IsGrid, cell}
 use Rattle.ndarray.specs.Index.{InBox, row_order}
 use Rattle.ndarray.specs.Views.{axis_inversion, mirrored_index}
 use Rattle.ndarray.proofs.boxes.Orders.{row_order-is}

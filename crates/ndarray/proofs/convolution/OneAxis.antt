@@ -1,15 +1,15 @@
 -- Convolutions of arrays of one axis are those of lists.
 use Rattle.std.proofs.Common.{◌≡◌, ℕ, zero, suc, ◌+◌, ◌-◌, ◌*◌, ◌/◌, ◌≤◌, true, false, List, [], ◌∷◌, ◌++◌, map, length, reverse, replicate, take, drop, Some, refl, sym, ap, ◌∙◌, arith, subst, inl, inr, length-append, length-drop}
-use Rattle.std.specs.Prelude.{flat_map, filter_map, slice_get}
+use Rattle.std.specs.Prelude.{flat_map, filter_map, slice_get, slice_index}
 use Rattle.std.specs.List.{range_with_len}
 use Rattle.std.proofs.lemmas.Bool.{cases_lt}
 use Rattle.std.proofs.lemmas.Bool.Decides.{nat_tests}
 use Rattle.std.proofs.lemmas.List.{length-replicate, length-take-le}
 use Rattle.std.proofs.lemmas.Simd.{map-map}
 use Rattle.ndarray.specs.Algebra.{CommutativeMonoid}
-use Rattle.ndarray.specs.Convolution.{filter_products, filtered, filtered_by, full_convolution, full_convolution_by, full_length, padded, valid_convolution_by, valid_length, valid_products}
+use Rattle.ndarray.specs.Convolution.{filter_products, filtered, filtered_by, full_convolution, full_convolution_by, full_length, padded, valid_convolution_by, valid_counts, valid_length, valid_products}
 use Rattle.ndarray.specs.ConvolutionLaws.{ArrayFiltersCompose}
-use Rattle.ndarray.specs.Grid.{Grid, grid, beside, cell, cells_by, one_axis, same_index}
+use Rattle.ndarray.specs.Grid.{Grid, array_by, grid, beside, cell, cells_by, one_axis, same_index}
 use Rattle.ndarray.specs.Index.{row_order}
 use Rattle.ndarray.specs.Matrices.{values_below}
 use Rattle.ndarray.specs.Products.{products_of}
@@ -33,6 +33,12 @@ row_order-one n = singles (range_with_len 0 n)
 pub map-range-below : {C : Type 0} (f : ℕ → C) (n : ℕ) → map f (range_with_len 0 n) ≡ values_below n f
 map-range-below f zero = refl
 map-range-below f (suc n) = ap (λ l. f 0 ∷ map f l) (range-later 0 n) ∙ ap (λ l. f 0 ∷ l) (map-map f suc (range_with_len 0 n) ∙ map-range-below (λ i. f (suc i)) n)
+
+-- values along one axis
+pub array_by-one : {C : Type 0} (f : ℕ → C) (n : ℕ) → array_by (n ∷ []) (λ is. f (slice_index is 0)) ≡ one_axis (values_below n f)
+array_by-one f n =
+    ap (grid (n ∷ [])) (ap (map (λ is. f (slice_index is 0))) (row_order-one n) ∙ (map-map (λ is. f (slice_index is 0)) (λ k. k ∷ []) (range_with_len 0 n) ∙ map-range-below f n))
+    ∙ ap (λ k. grid (k ∷ []) (values_below n f)) (sym (length-below n f))
 
 same_place : (a i : ℕ) → i ≡ 0 → same_index (a ∷ []) ((a + i) ∷ []) ≡ true
 same_place a i e = grind (arith, nat_tests)
@@ -85,6 +91,18 @@ window_count-valid n m =
       | inl below ↦ (let e : window_count n m 1 ≡ 0 = grind (arith, nat_tests) in omega arith)
       | inr le ↦ (let e : window_count n m 1 ≡ (n - m) / 1 + 1 = grind (arith, nat_tests) in omega arith)
     ]
+
+-- how many positions there are, of one axis and of two
+pub valid_counts-one : (ns : List ℕ) (m : ℕ) → length ns ≡ 1 → valid_counts ns (m ∷ []) ≡ valid_length (slice_index ns 0) m ∷ []
+valid_counts-one [] m one = absurd (omega (arith, one))
+valid_counts-one (n ∷ []) m one = ap (λ k. k ∷ []) (window_count-valid n m)
+valid_counts-one (n ∷ p ∷ ns) m one = absurd (omega (arith, one))
+
+pub valid_counts-two : (ns : List ℕ) (m k : ℕ) → length ns ≡ 2 → valid_counts ns (m ∷ k ∷ []) ≡ valid_length (slice_index ns 0) m ∷ valid_length (slice_index ns 1) k ∷ []
+valid_counts-two [] m k two = absurd (omega (arith, two))
+valid_counts-two (n ∷ []) m k two = absurd (omega (arith, two))
+valid_counts-two (n ∷ p ∷ []) m k two = ap (λ c. c ∷ window_count p k 1 ∷ []) (window_count-valid n m) ∙ ap (λ c. valid_length n m ∷ c ∷ []) (window_count-valid p k)
+valid_counts-two (n ∷ p ∷ q ∷ ns) m k two = absurd (omega (arith, two))
 
 module _ {A C : Type 0} (plus times : CommutativeMonoid C) (value : A → C) where
   -- the products at a position

@@ -2,7 +2,7 @@
 use Rattle.std.proofs.Common.{◌≡◌, ℕ, ◌+◌, ◌-◌, ◌<◌, ◌≤◌, ◌++◌, List, [], ◌∷◌, length, replicate, sym, ap, ◌∙◌, arith, subst, length-append, inl, inr}
 use Rattle.std.specs.Prelude.{◌⊎◌, IfOk, IsOk, Result, slice_index}
 use Rattle.std.proofs.lemmas.List.{length-replicate}
-use Rattle.ndarray.specs.Convolution.{HasFullSumsInRange, HasValidSumsInRange, MakesFullConvolution, MakesValidConvolution, convolution_products, filter_products, full_length, padded, valid_counts, valid_length, valid_products}
+use Rattle.ndarray.specs.Convolution.{HasFullSumsInRange, HasValidSumsInRange, MakesFullConvolution, MakesValidConvolution, convolution_products, filter_products, full_length, padded, valid_counts, valid_products}
 use Rattle.ndarray.specs.Grid.{Grid, IsGrid, one_axis}
 use Rattle.ndarray.specs.Index.{InBox}
 use Rattle.ndarray.specs.Subviews.{window_count}

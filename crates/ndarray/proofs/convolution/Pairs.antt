@@ -9,9 +9,9 @@ use Rattle.std.proofs.lemmas.List.Elements.{filter_map-append}
 use Rattle.std.proofs.lemmas.Option.{slice_get_past}
 use Rattle.ndarray.specs.Algebra.{CommutativeMonoid}
 use Rattle.ndarray.specs.Convolution.{convolution_products, product_of_both}
-use Rattle.ndarray.proofs.convolution.ProductLists.{filter_map-range}
+use Rattle.ndarray.proofs.convolution.ProductLists.{filter_map-range, no_second}
 
-range-append : (a n m : ℕ) → range_with_len a (n + m) ≡ range_with_len a n ++ range_with_len (a + n) m
+pub range-append : (a n m : ℕ) → range_with_len a (n + m) ≡ range_with_len a n ++ range_with_len (a + n) m
 range-append a zero m = ap (λ k. range_with_len a k) (omega arith) ∙ ap (λ k. range_with_len k m) (omega arith)
 range-append a (suc n) m =
     ap (range_with_len a) (let e : suc n + m ≡ suc (n + m) = omega arith in e)
@@ -19,7 +19,7 @@ range-append a (suc n) m =
     ∙ ap (λ k. a ∷ (range_with_len (a + 1) n ++ range_with_len k m)) (omega arith))
 
 module _ {Y : Type 0} where
-  none-along : (f : ℕ → Option Y) (a n : ℕ) → ((i : ℕ) → a ≤ i → i < a + n → f i ≡ None) → filter_map f (range_with_len a n) ≡ []
+  pub none-along : (f : ℕ → Option Y) (a n : ℕ) → ((i : ℕ) → a ≤ i → i < a + n → f i ≡ None) → filter_map f (range_with_len a n) ≡ []
   none-along f a zero h = refl
   none-along f a (suc n) h = ap (λ o. cons_option o (filter_map f (range_with_len (a + 1) n))) (h a (omega arith) (omega arith)) ∙ none-along f (a + 1) n (λ i l m. h i (omega arith) (omega arith))
 
@@ -78,10 +78,6 @@ module _ {A C : Type 0} (times : CommutativeMonoid C) (value : A → C) where
   abbrev pub pair_products : List A → List A → ℕ → List C
   pair_products xs ys s = flat_map (λ i. filter_map (λ j. if i + j == s then product_of_both times value (slice_get xs i) (slice_get ys j) else None) (range_with_len 0 (length ys))) (range_with_len 0 (length xs))
 
-  no_second : (x : Option A) → product_of_both times value x None ≡ None
-  no_second None = refl
-  no_second (Some x) = refl
-
   -- the pairs with one place of the first list
   row : (xs ys : List A) (s i : ℕ) → filter_map (λ j. if i + j == s then product_of_both times value (slice_get xs i) (slice_get ys j) else None) (range_with_len 0 (length ys)) ≡ cons_option (if nat_lt s i then None else product_of_both times value (slice_get xs i) (slice_get ys (s - i))) []
   row xs ys s i =
@@ -95,7 +91,7 @@ module _ {A C : Type 0} (times : CommutativeMonoid C) (value : A → C) where
             let t : nat_lt s i ≡ false = grind (arith, nat_tests) in
             elim (cases_lt (s - i) (length ys)) [
               | inl within ↦ only F i s 0 (length ys) (omega arith) (omega arith) ∙ rw t refl
-              | inr past ↦ none (λ j l m e. omega arith) ∙ rw t (ap (λ o. cons_option o []) (sym (ap (product_of_both times value (slice_get xs i)) (slice_get_past ys (s - i) past) ∙ no_second (slice_get xs i))))
+              | inr past ↦ none (λ j l m e. omega arith) ∙ rw t (ap (λ o. cons_option o []) (sym (ap (product_of_both times value (slice_get xs i)) (slice_get_past ys (s - i) past) ∙ no_second times value (slice_get xs i))))
             ])
       ]
 

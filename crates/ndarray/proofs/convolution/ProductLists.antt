@@ -30,6 +30,11 @@ pub range-last : (a n : ℕ) → range_with_len a (suc n) ≡ range_with_len a n
 range-last a zero = ap (λ k. k ∷ []) (omega arith)
 range-last a (suc n) = ap (λ l. a ∷ l) (range-last (a + 1) n) ∙ ap (λ k. a ∷ (range_with_len (a + 1) n ++ k ∷ [])) (omega arith)
 
+-- there is no product where there is no second element
+pub no_second : {A C : Type 0} (times : CommutativeMonoid C) (value : A → C) (x : Option A) → product_of_both times value x None ≡ None
+no_second times value None = refl
+no_second times value (Some x) = refl
+
 module _ {A C : Type 0} (plus times : CommutativeMonoid C) (value : A → C) where
   -- the value of an element, and zero where there is none
   abbrev pub value_or_zero : Option A → C

@@ -19,7 +19,7 @@ cons_option-append : {Y : Type 0} (o : Option Y) (l : List Y) → cons_option o 
 cons_option-append None l = refl
 cons_option-append (Some y) l = refl
 
-reverse-filter_map : {X Y : Type 0} (f : X → Option Y) (xs : List X) → reverse (filter_map f xs) ≡ filter_map f (reverse xs)
+pub reverse-filter_map : {X Y : Type 0} (f : X → Option Y) (xs : List X) → reverse (filter_map f xs) ≡ filter_map f (reverse xs)
 reverse-filter_map f [] = refl
 reverse-filter_map f (x ∷ xs) =
     ap reverse (cons_option-append (f x) (filter_map f xs))

@@ -43,12 +43,16 @@ inside (n ∷ ns) (w ∷ ws) (s ∷ ss) (x ∷ ps) (j ∷ js) a p q b c =
     let below : j < w = c.0 in
     (omega (arith, fits, below), inside ns ws ss ps js a.1 (omega arith) (omega arith) b.1 c.1)
 
+-- of windows one step apart
+pub window-inside : (ns ws ps js : List ℕ) → length ws ≡ length ns → InBox (window_counts ns ws (single_steps ns)) ps → InBox ws js → InBox ns (window_index (single_steps ns) ps js)
+window-inside ns ws ps js same b c = inside ns ws (single_steps ns) ps js (ones (length ns)) same (length-replicate (length ns) 1) b c
+
 module _ {A : Type 0} (g : Grid A) (whole : IsGrid g) where
   pub window-whole : (ws ps : List ℕ) → length ws ≡ length g.lengths → InBox (window_counts g.lengths ws (single_steps g.lengths)) ps → IsGrid (window g ws (single_steps g.lengths) ps)
   unfolding cells_by
   window-whole ws ps same b =
       length-filter_map_all (λ js. cell g (window_index (single_steps g.lengths) ps js)) (row_order ws)
-      (λ k d lt. cell-Some g whole _ (inside g.lengths ws (single_steps g.lengths) ps _ (ones (length g.lengths)) same (length-replicate (length g.lengths) 1) b ((row_order-is ws).within k d lt)))
+      (λ k d lt. cell-Some g whole _ (window-inside g.lengths ws ps _ same b ((row_order-is ws).within k d lt)))
       ∙ length-row_order ws
 
   module _ {C : Type 0} (plus times : CommutativeMonoid C) (value : A → C) (kernel : Grid A) (whole_kernel : IsGrid kernel) (axes : length kernel.lengths ≡ length g.lengths) where

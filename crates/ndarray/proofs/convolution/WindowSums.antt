@@ -1,9 +1,9 @@
 -- Windows times an array of their lengths, and the kernel that it is with its axes turned round.
-use Rattle.std.proofs.Common.{◌≡◌, ℕ, List, length, reverse, Ok, Some, sym, ap, ◌∙◌, subst}
-use Rattle.std.specs.Prelude.{IfOk, Result}
+use Rattle.std.proofs.Common.{◌≡◌, ℕ, List, length, reverse, sym, ap, ◌∙◌, subst}
+use Rattle.std.specs.Prelude.{Result}
 use Rattle.ndarray.specs.Algebra.{CommutativeMonoid}
 use Rattle.ndarray.specs.Convolution.{single_steps, valid_counts, valid_products, window_products}
-use Rattle.ndarray.specs.Grid.{Grid, IsGrid, cell}
+use Rattle.ndarray.specs.Grid.{Grid, IsGrid}
 use Rattle.ndarray.specs.Index.{InBox, size}
 use Rattle.ndarray.specs.Products.{HasValues, MakesValues, products_of}
 use Rattle.ndarray.specs.Subviews.{window}

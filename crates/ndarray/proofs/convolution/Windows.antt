@@ -9,7 +9,7 @@ use Rattle.ndarray.specs.Convolution.{product_of_both, convolution_products, fil
 use Rattle.ndarray.specs.Matrices.{values_below}
 use Rattle.ndarray.specs.Products.{products_of}
 use Rattle.ndarray.specs.Sums.{total, IsSummable}
-use Rattle.ndarray.proofs.convolution.ProductLists.{filter_map-range, range-last}
+use Rattle.ndarray.proofs.convolution.ProductLists.{filter_map-range, no_second, range-last}
 use Rattle.ndarray.proofs.convolution.Full.{full_length-some, full_length-left}
 use Rattle.ndarray.proofs.convolution.NeutralValues.{WithNeutral, WithNeutral-more, WithNeutral-append, WithNeutral-total, WithNeutral-summable}
 use Rattle.ndarray.proofs.convolution.ValueSums.{below-same}
@@ -68,12 +68,8 @@ filter_map-none f [] h = refl
 filter_map-none f (x ∷ xs) h = ap (λ o. cons_option o (filter_map f xs)) (h x) ∙ filter_map-none f xs h
 
 module _ {A C : Type 0} (times : CommutativeMonoid C) (value : A → C) where
-  no_second : (x : Option A) → product_of_both times value x None ≡ None
-  no_second None = refl
-  no_second (Some x) = refl
-
   products-none : (xs : List A) (s : ℕ) → convolution_products times value xs [] s ≡ []
-  products-none xs s = filter_map-none _ (range_with_len 0 (s + 1)) (λ i. no_second (slice_get xs i))
+  products-none xs s = filter_map-none _ (range_with_len 0 (s + 1)) (λ i. no_second times value (slice_get xs i))
 
   -- the last product apart
   products-last : (xs ys : List A) (y : A) (s : ℕ) → convolution_products times value xs (y ∷ ys) (suc s) ≡ convolution_products times value xs ys s ++ cons_option (product_of_both times value (slice_get xs (suc s)) (Some y)) []

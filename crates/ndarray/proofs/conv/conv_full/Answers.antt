@@ -1,4 +1,4 @@
-use Rattle.std.proofs.Common.{◌≡◌, ◌≤◌, ◌-◌, ◌∙◌, ap, arith, inl, inr, length, refl, sym}
+use Rattle.std.proofs.Common.{◌≡◌, ◌-◌, ◌∙◌, ap, arith, inl, inr, length, refl, sym}
 use Rattle.ndarray.specs.Convolution.{padded}
 use Rattle.ndarray.specs.Grid.{one_axis}
 use Rattle.ndarray.proofs.callers.Joining.{one_axis-is}

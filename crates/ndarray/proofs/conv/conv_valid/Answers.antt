@@ -1,4 +1,4 @@
-use Rattle.std.proofs.Common.{◌≡◌, ◌∙◌, ap, length, reverse, subst, sym}
+use Rattle.std.proofs.Common.{◌≡◌, ◌∙◌, ap, reverse, subst, sym}
 use Rattle.ndarray.specs.Convolution.{valid_counts, valid_products, window_products}
 use Rattle.ndarray.specs.Grid.{IsGrid}
 use Rattle.ndarray.specs.Index.{InBox}

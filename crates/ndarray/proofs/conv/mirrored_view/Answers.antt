@@ -1,4 +1,4 @@
-use Rattle.std.proofs.Common.{◌≡◌, ◌+◌, ◌∙◌, ap, sym, subst, arith, suc, ℕ}
+use Rattle.std.proofs.Common.{◌≡◌, ◌+◌, subst, arith, suc, ℕ}
 use Rattle.ndarray.specs.Grid.{IsGrid}
 use Rattle.ndarray.proofs.convolution.MirroredViews.{IsMirroredFirst, mirrored-end, mirrored-next, mirrored-start}
 use Rattle.ndarray.proofs.conv.mirrored_view.Goals as goal

@@ -1,4 +1,4 @@
-use Rattle.std.proofs.Common.{◌∙◌, ap, arith, inl, length, subst, sym}
+use Rattle.std.proofs.Common.{◌∙◌, ap, inl, subst, sym}
 use Rattle.ndarray.proofs.sums.InnerSums.{inner-added, inner-end, inner-next, inner-product, inner-start}
 use Rattle.ndarray.proofs.conv.sum_of_products.Goals as goal
 

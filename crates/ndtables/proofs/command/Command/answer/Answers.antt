@@ -9,6 +9,18 @@ returns-in-Add-clause-text c = subst (λ command. IfOk c.add.result (λ text. Pr
 pub returns-in-Add-clause-err : goal.returns-in-Add-clause-err
 returns-in-Add-clause-err c = subst (λ command. IfErr c.add.result (Forbids command c.args.words)) (sym c.in-Add.is) c.add.ensures.err
 
+pub returns-in-Conv-clause-text : goal.returns-in-Conv-clause-text
+returns-in-Conv-clause-text c = subst (λ command. IfOk c.conv.result (λ text. Prints command c.args.words (string_bytes text))) (sym c.in-Conv.is) c.conv.ensures.text
+
+pub returns-in-Conv-clause-err : goal.returns-in-Conv-clause-err
+returns-in-Conv-clause-err c = subst (λ command. IfErr c.conv.result (Forbids command c.args.words)) (sym c.in-Conv.is) c.conv.ensures.err
+
+pub returns-in-ConvFull-clause-text : goal.returns-in-ConvFull-clause-text
+returns-in-ConvFull-clause-text c = subst (λ command. IfOk c.conv_full.result (λ text. Prints command c.args.words (string_bytes text))) (sym c.in-ConvFull.is) c.conv_full.ensures.text
+
+pub returns-in-ConvFull-clause-err : goal.returns-in-ConvFull-clause-err
+returns-in-ConvFull-clause-err c = subst (λ command. IfErr c.conv_full.result (Forbids command c.args.words)) (sym c.in-ConvFull.is) c.conv_full.ensures.err
+
 pub returns-in-Cumprod-clause-text : goal.returns-in-Cumprod-clause-text
 returns-in-Cumprod-clause-text c = subst (λ command. IfOk c.cumprod.result (λ text. Prints command c.args.words (string_bytes text))) (sym c.in-Cumprod.is) c.cumprod.ensures.text
 
