@@ -3,8 +3,10 @@ pub mod Boxes
 pub mod Cuts
 pub mod Orders
 pub mod ProductShapes
+pub mod Rows
 pub mod ShapeErrors
 pub mod ShiftedBoxes
+pub mod ShiftedRows
 pub mod Sizes
 pub mod UniqueOrder
 pub mod Walks

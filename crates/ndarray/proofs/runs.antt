@@ -5,5 +5,6 @@ pub mod OneAxisProducers
 pub mod OverwrittenParts
 pub mod Parts
 pub mod Producers
+pub mod Rows
 pub mod RunsThrough
 pub mod Turns

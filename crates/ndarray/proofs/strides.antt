@@ -15,5 +15,6 @@ pub mod OrderedCells
 pub mod OtherElements
 pub mod Reach
 pub mod Rows
+pub mod SideBySide
 pub mod Strides
 pub mod SumsOverAxes

@@ -10,6 +10,8 @@ ghost use Rattle.ndarray.specs.order.Cuts.{IsCut};
 ghost use Rattle.ndarray.specs.base.Ranks.{rank_in};
 ghost use Rattle.ndarray.specs.order.Walks.{walk_rest, TakesRow, WalksFrom};
 
+pub(crate) mod rows;
+
 use crate::base::axis::Axis;
 use crate::base::dimension::{Dim, Ix1, Lengths};
 use crate::base::layout::{Layout, default_strides};
