@@ -1,6 +1,5 @@
 -- Shapes and their boxes of index lists, and the orders in which these come.
 pub mod Boxes
-pub mod Cuts
 pub mod Orders
 pub mod ProductShapes
 pub mod Rows

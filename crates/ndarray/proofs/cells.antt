@@ -12,7 +12,6 @@ pub mod IndexedCells
 pub mod LaneCells
 pub mod LaneSums
 pub mod Matrices
-pub mod Overwriting
 pub mod Products
 pub mod RunningProducts
 pub mod Scans

@@ -11,7 +11,6 @@ pub mod NestedMoves
 pub mod NestedPlaces
 pub mod Nesting
 pub mod OneAxisSlices
-pub mod OrderedCells
 pub mod OtherElements
 pub mod Reach
 pub mod Rows

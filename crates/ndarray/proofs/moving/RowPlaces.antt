@@ -21,14 +21,15 @@ use Rattle.ndarray.proofs.strides.ContiguousCells.{filter_map-map}
 use Rattle.ndarray.proofs.strides.Reach.{cell-at}
 use Rattle.ndarray.proofs.strides.Rows.{row-first, row-places}
 
+-- the index lists of all rows of a box have as many indices as it has axes
+pub rows-as_many : (ns bs : List ℕ) (o : Order) → length bs ≡ length ns → All (λ row. (0 < length row) × All (λ is. length bs ≡ length is) row) (rows_in o ns)
+rows-as_many ns bs o l = λ k d lt. let w = rows-within o ns k d lt in (w.0, λ j e lj. l ∙ sym (InBox-length ns _ (w.1 j e lj)))
+
 -- all rows of an array, and their cells
 module _ {A : Type 0} (at : ℕ → Option A) (ns : List ℕ) (start : ℕ) (bs : List ℕ) (o : Order) where
-  pub rows-as_many : length bs ≡ length ns → All (λ row. (0 < length row) × All (λ is. length bs ≡ length is) row) (rows_in o ns)
-  rows-as_many l = λ k d lt. let w = rows-within o ns k d lt in (w.0, λ j e lj. l ∙ sym (InBox-length ns _ (w.1 j e lj)))
-
   pub HaveRows-all : Reaches ⊤ at ns start bs → HaveRows at start bs (rows_in o ns)
   HaveRows-all h = record {
-    each = rows-as_many h.as_many;
+    each = rows-as_many ns bs o h.as_many;
     distinct = subst (λ l. AreDistinctPlaces at (places_along start bs l)) (sym (rows-joined o ns)) (AreDistinctPlaces-all at ns start bs h o);
   }
 

@@ -11,14 +11,13 @@ use Rattle.std.specs.declared.slice.IterMut.{IterMut}
 use Rattle.ndarray.specs.Grid.{Grid, IsGrid, HasCells, cell}
 use Rattle.ndarray.specs.Index.{InBox}
 use Rattle.ndarray.specs.Orders.{box_in}
-use Rattle.ndarray.specs.Producers.{YieldsInTurn, YieldsInTurnFrom, IsRefinedBy, steps_of_both}
+use Rattle.ndarray.specs.Producers.{YieldsInTurn, YieldsInTurnFrom, steps_of_both}
 use Rattle.ndarray.specs.Rows.{rows_in, joined, some_unless_none, HasRows, RowsInTurn, RowsInTurnFrom, GivesMany, AsLong}
 use Rattle.ndarray.specs.Runs.{MayTurnAt, TurnAt, TakesAt, StopsAt, EndsOrStops}
 use Rattle.ndarray.specs.declared.base.shape.Order.{Order}
 use Rattle.ndarray.proofs.boxes.Rows.{rows-joined, rows-within, rows_in-none, rows_in-one}
-use Rattle.ndarray.proofs.runs.Parts.{FoldsTo-append}
+use Rattle.ndarray.proofs.runs.Turns.{FoldsTo-append}
 use Rattle.ndarray.proofs.runs.Producers.{MayBeYielded, YieldsInTurn-list, YieldsInTurn-steps, cells-stand, iter_first, iter_mut_first}
-use Rattle.ndarray.proofs.runs.RunsThrough.{folds_via}
 
 -- what may be done at all places may be done at some in their midst
 pub may-midst : {P X : Type 0} (turn : P → X → P → Type 0) (takes : P → X → Type 0) (p q : P) (before is after whole : List X) → before ++ (is ++ after) ≡ whole
@@ -116,13 +115,6 @@ module _ {S R A P : Type 0} (rows : S → Option R → S → Type 0) (is_row : L
 
     pub rows-ended : {whole : List (List ℕ)} {s t : S} {p q : P} → RowsReached whole s p q → rows s None t → EndsOrStops (TurnAt yields_at turn) (StopsAt yields_at stops) p whole (Ok q)
     rows-ended {whole} {q = q} b st = (whole, q, rows-end b st, inl (refl, refl))
-
--- turns over a producer that shows no more than another are turns over the other
-pub turns-less : {P A : Type 0} (goes : P → A → P → Type 0) (o : Order) {ns ms : List ℕ} {yields_at shown : List ℕ → A → Type 0} → IsRefinedBy ns yields_at ms shown
-    → (p q : P) → FoldsTo (TurnAt shown goes) p (box_in o ms) q → FoldsTo (TurnAt yields_at goes) p (box_in o ns) q
-turns-less goes o {ns} {ms} {yields_at} {shown} less p q f =
-    subst (λ l. FoldsTo (TurnAt yields_at goes) p (box_in o l) q) less.lengths
-    (folds_via (TurnAt shown goes) (TurnAt yields_at goes) (λ r. r) (λ r i s t. (t.0, less.items i t.0 t.1, t.2)) (box_in o ms) p q f)
 
 -- the rows of an array, each of which reads as a list of its cells
 module _ {B : Type 0} (g : Grid B) where

@@ -1,7 +1,7 @@
 //! The places of cells, row by row: on a row each is a stride after the one before.
 
 ghost use Rattle.std.specs.Prelude.{◌≡◌, ◌+◌, ◌<◌, ◌^◌, length, IfSome};
-ghost use Rattle.std.specs.Iterator.{YieldsFirst, YieldsLast};
+ghost use Rattle.std.specs.Iterator.{YieldsFirst, YieldsLast, item_count};
 ghost use Rattle.ndarray.specs.Limits.{IsWithinLimit};
 ghost use Rattle.ndarray.specs.Orders.{box_in};
 ghost use Rattle.ndarray.specs.base.Strided.{places_from};
@@ -74,6 +74,19 @@ impl PlaceRow {
     }
 }
 
+impl Iterator for PlaceRow {
+    type Item = usize;
+
+    ghost next_gives = { YieldsFirst (λ rest. rest) };
+
+    ghost remaining = { item_count (λ rest. rest) };
+
+    #[inline(always)]
+    fn next(&mut self) -> Option<usize> {
+        PlaceRow::next(self)
+    }
+}
+
 /// The places of cells that are still to come: those of a row, and those of the index lists behind it.
 #[derive(Drop)]
 pub(crate) struct StridedPlaces<D: Lengths> {
@@ -139,6 +152,19 @@ impl<D: Lengths> StridedPlaces<D> {
             unreachable!()
         };
         Some(place)
+    }
+}
+
+impl<D: Lengths> Iterator for StridedPlaces<D> {
+    type Item = usize;
+
+    ghost next_gives = { YieldsFirst (λ rest. rest) };
+
+    ghost remaining = { item_count (λ rest. rest) };
+
+    #[inline(always)]
+    fn next(&mut self) -> Option<usize> {
+        StridedPlaces::next(self)
     }
 }
 

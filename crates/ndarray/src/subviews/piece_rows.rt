@@ -154,7 +154,7 @@ impl<'a, A, P: Lengths, D: Lengths> Model for PieceRowsMut<'a, A, P, D> {
 
 impl<'a, A, P: Lengths, D: Lengths> PiecesMut<'a, A, P, D> {
     /// The pieces row by row, in an order of their positions.
-    pub(crate) fn rows(self, order: Order) -> PieceRowsMut<'a, A, P, D>
+    pub(crate) fn into_rows(self, order: Order) -> PieceRowsMut<'a, A, P, D>
         ensures rows { result ≡ map (filter_map (cell self.entry)) (rows_in order self.entry.lengths) }
         ensures whole { IsGrid self.entry }
     {

@@ -101,7 +101,7 @@ impl<D: Dimension> NdProducer for Indices<D> {
 
     ghost is_flat = { λ _. ⊤ };
 
-    fn rows(self, order: Order) -> PatternRows<D> {
+    fn into_rows(self, order: Order) -> PatternRows<D> {
         let rows = BoxRows::new(self.raw_dim(), order);
         PatternRows { lists: self, rows }
     }

@@ -112,11 +112,11 @@ impl<P: NdProducer, Q: NdProducer> NdProducer for Pair<P, Q> {
 
     ghost is_flat = { λ r. P.is_flat r.0 × Q.is_flat r.1 };
 
-    fn rows(self, order: Order) -> PairRun<P::Rows, Q::Rows> {
+    fn into_rows(self, order: Order) -> PairRun<P::Rows, Q::Rows> {
         let Pair { first, second } = self;
         PairRun {
-            first: first.rows(order),
-            second: second.rows(order),
+            first: first.into_rows(order),
+            second: second.into_rows(order),
         }
     }
 

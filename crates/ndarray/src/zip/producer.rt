@@ -112,7 +112,7 @@ pub trait NdProducer: Shaped + Drop + Sized {
     ghost is_flat: { Self.Row → Type 0 };
 
     /// The rows, in the order.
-    fn rows(self, order: Order) -> Self::Rows
+    fn into_rows(self, order: Order) -> Self::Rows
         ensures can { Self.Rows.can_next result }
         ensures finite { IsFinite (Self.Rows.remaining result) }
         ensures gives { RowsInTurn Self.Rows.next_gives (row_form self) result (rows_in order (Self.lengths self)) };

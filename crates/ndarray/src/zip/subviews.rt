@@ -71,7 +71,7 @@ impl<'a, A, P: Lengths, D: Lengths> NdProducer for Pieces<'a, A, P, D> {
 
     ghost is_flat = { λ _. ⊤ };
 
-    fn rows(self, order: Order) -> PieceRows<'a, A, P, D> {
+    fn into_rows(self, order: Order) -> PieceRows<'a, A, P, D> {
         let rows = BoxRows::new(self.raw_dim(), order);
         PieceRows { pieces: self, rows }
     }
@@ -188,7 +188,7 @@ impl<'a, A, D: Lengths> NdProducer for AxisWindows<'a, A, D> {
 
     ghost is_flat = { λ _. ⊤ };
 
-    fn rows(self, order: Order) -> Once<WindowsIter<'a, A, D>> {
+    fn into_rows(self, order: Order) -> Once<WindowsIter<'a, A, D>> {
         let len = self.pieces.raw_dim().size();
         one_row(self.run(order), len)
     }
@@ -259,7 +259,7 @@ impl<'a, A, D: Lengths> NdProducer for AxisIter<'a, A, D> {
 
     ghost is_flat = { λ _. ⊤ };
 
-    fn rows(self, order: Order) -> Once<AxisIter<'a, A, D>> {
+    fn into_rows(self, order: Order) -> Once<AxisIter<'a, A, D>> {
         let len = self.raw_dim().size();
         one_row(self.run(order), len)
     }

@@ -88,7 +88,7 @@ impl<D: Lengths> NdProducer for Units<D> {
 
     ghost is_flat = { λ _. ⊤ };
 
-    fn rows(self, order: Order) -> UnitRows<D> {
+    fn into_rows(self, order: Order) -> UnitRows<D> {
         UnitRows {
             rows: BoxRows::new(self.raw_dim(), order),
         }

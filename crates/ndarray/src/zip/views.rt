@@ -83,7 +83,7 @@ impl<'a, A, D: Lengths> NdProducer for ArrayView<'a, A, D> {
 
     ghost is_flat = { IsSlice };
 
-    fn rows(self, order: Order) -> ViewRows<'a, A, D> {
+    fn into_rows(self, order: Order) -> ViewRows<'a, A, D> {
         let rows = BoxRows::new(self.raw_dim(), order);
         ViewRows { view: self, rows }
     }

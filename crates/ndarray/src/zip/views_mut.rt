@@ -88,7 +88,7 @@ impl<'a, A: 'a, D: Lengths> NdProducer for ArrayViewMut<'a, A, D> {
 
     ghost is_flat = { IsSliceMut };
 
-    fn rows(self, order: Order) -> ViewRowsMut<'a, A, D> {
+    fn into_rows(self, order: Order) -> ViewRowsMut<'a, A, D> {
         let rows = BoxRows::new(self.raw_dim(), order);
         let ArrayBase { storage, layout } = self;
         ViewRowsMut {
@@ -256,7 +256,7 @@ impl<'a, A, D: Lengths> NdProducer for AxisIterMut<'a, A, D> {
 
     ghost is_flat = { λ _. ⊤ };
 
-    fn rows(self, order: Order) -> Once<AxisIterMut<'a, A, D>> {
+    fn into_rows(self, order: Order) -> Once<AxisIterMut<'a, A, D>> {
         let len = self.raw_dim().size();
         one_row(self.run(order), len)
     }
@@ -327,8 +327,8 @@ impl<'a, A, P: Lengths, D: Lengths> NdProducer for PiecesMut<'a, A, P, D> {
 
     ghost is_flat = { λ _. ⊤ };
 
-    fn rows(self, order: Order) -> PieceRowsMut<'a, A, P, D> {
-        self.rows(order)
+    fn into_rows(self, order: Order) -> PieceRowsMut<'a, A, P, D> {
+        self.into_rows(order)
     }
 
     fn is_flat_row(_row: &PieceRowMut<'a, A, D>) -> bool {
