@@ -14,7 +14,6 @@ pub mod LanePairs
 pub mod LaneSums
 pub mod LaneTests
 pub mod Matrices
-pub mod Overwriting
 pub mod Products
 pub mod RunningProducts
 pub mod Scans

@@ -4,3 +4,5 @@ pub mod Deeds
 pub mod BorrowedCells
 pub mod MovedOut
 pub mod PartlyMoved
+pub mod SomePlaces
+pub mod RowPlaces

@@ -6,3 +6,4 @@ pub mod OneAxisWindows
 pub mod Pieces
 pub mod SomePieces
 pub mod Windows
+pub mod PieceRows

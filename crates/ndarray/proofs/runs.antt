@@ -1,9 +1,9 @@
 -- Runs of closures over the items of producers.
 pub mod Answers
 pub mod Collecting
+pub mod FoldWhiles
 pub mod OneAxisProducers
-pub mod OverwrittenParts
-pub mod Parts
 pub mod Producers
+pub mod Rows
 pub mod RunsThrough
 pub mod Turns

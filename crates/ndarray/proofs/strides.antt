@@ -11,9 +11,9 @@ pub mod NestedMoves
 pub mod NestedPlaces
 pub mod Nesting
 pub mod OneAxisSlices
-pub mod OrderedCells
 pub mod OtherElements
 pub mod Reach
 pub mod Rows
+pub mod SideBySide
 pub mod Strides
 pub mod SumsOverAxes

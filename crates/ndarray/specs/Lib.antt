@@ -28,6 +28,8 @@ pub mod MatrixLaws
 pub mod Orders
 pub mod Producers
 pub mod Products
+pub mod RowCells
+pub mod Rows
 pub mod Runs
 pub mod Scans
 pub mod Slices

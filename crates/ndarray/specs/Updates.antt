@@ -15,10 +15,6 @@ is_cell g i x = cell g i ≡ Some x
 abbrev pub is_cell_beside : {A X : Type 0} → Grid A → (List ℕ → X → Type 0) → List ℕ → A × X → Type 0
 is_cell_beside g yields_at = both (is_cell g) yields_at
 
--- x is the value at the index list, and an item that may be yielded there
-abbrev pub is_beside : {A X : Type 0} → (List ℕ → Option A) → (List ℕ → X → Type 0) → List ℕ → A × X → Type 0
-is_beside at yields_at = both (λ i x. at i ≡ Some x) yields_at
-
 -- the cells at an index list of an array and of another that is broadcast to its lengths
 abbrev pub is_pair_of_cells : {A B : Type 0} → Grid A → Grid B → List ℕ → A × B → Type 0
 is_pair_of_cells g h = both (is_cell g) (is_cell (broadcast_to h g.lengths))
@@ -33,13 +29,6 @@ module _ {F X A E : Type 0} (yields_at : List ℕ → X → Type 0) (call_gives 
   OverwritesUntil is f xs r ys = RunsUntil {P = F × List A} (TurnAt yields_at (GatherTurn (answers call_gives)))
       (λ q i. (x : X) × yields_at i x × ((e : E) × (h : F) × (r ≡ Err e) × call_gives q.0 x (Err e) h × (ys ≡ q.1 ++ drop (length q.1) xs)))
       (λ q. (r ≡ Ok tt) × (ys ≡ q.1)) (f, []) is
-
-  -- the same of a run whose outcome holds the closure after the last call
-  abbrev pub OverwritesTo : List (List ℕ) → F → List A → Result F E → List A → Type 0
-  OverwritesTo is f xs r ys =
-      let ends : Result (F × List A) E → Type 0 = EndsOrStops {P = F × List A} (TurnAt yields_at (GatherTurn (answers call_gives)))
-      (StopsAt yields_at (λ q x e. (h : F) × (call_gives q.0 x (Err e) h × (ys ≡ q.1 ++ drop (length q.1) xs)))) (f, []) is in
-      MatchResult r (λ h. ends (Ok (h, ys))) (λ e. ends (Err e))
 
   -- the same of the cells of an array, along its box in the order
   pub record UpdatesUntil (order : Order) (f : F) (old : Grid A) (r : Result (Unit {0}) E) (new : Grid A) : Type 0 where

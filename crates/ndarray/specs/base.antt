@@ -6,6 +6,7 @@ pub mod IndexLists
 pub mod Laws
 pub mod Nested
 pub mod Reborrow
+pub mod Overwrites
 pub mod Parts
 pub mod RegionParts
 pub mod PlaceMap

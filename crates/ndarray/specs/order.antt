@@ -1,3 +1,2 @@
--- Where a walk is in its box, and along which axis a box is cut.
-pub mod Cuts
+-- Where a walk is in its box.
 pub mod Walks

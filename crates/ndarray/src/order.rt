@@ -6,11 +6,11 @@ ghost use Rattle.std.specs.Iterator.SizeHint.{IsExactHint, IsWithinCount};
 ghost use Rattle.ndarray.specs.Index.{InBox, size, IsRowOrder};
 ghost use Rattle.ndarray.specs.Limits.{IsWithinLimit};
 ghost use Rattle.ndarray.specs.Orders.{box_in, IsBoxIn};
-ghost use Rattle.ndarray.specs.order.Cuts.{IsCut};
 ghost use Rattle.ndarray.specs.base.Ranks.{rank_in};
 ghost use Rattle.ndarray.specs.order.Walks.{walk_rest, TakesRow, WalksFrom};
 
-use crate::base::axis::Axis;
+pub(crate) mod rows;
+
 use crate::base::dimension::{Dim, Ix1, Lengths};
 use crate::base::layout::{Layout, default_strides};
 pub use crate::base::shape::Order;
@@ -40,35 +40,6 @@ impl<D: Lengths> Model for Walk<D> {
     ghost view = { λ w. walk_rest w.order (D.numbers w.dim) (D.numbers w.index) w.left };
 
     ghost invariant = { λ w. WalksFrom w.order (D.numbers w.dim) (D.numbers w.index) w.left };
-}
-
-/// The axis along which a box is cut into parts that come one after another in an order, and its length.
-#[derive(Clone, Copy)]
-pub(crate) struct Cut {
-    pub(crate) axis: Axis,
-    pub(crate) len: usize,
-}
-
-/// The cut of a box along the slowest axis that is longer than 1. There is none where each index of that axis has but a few
-/// index lists, since a step of a walk costs less than a cut.
-#[inline(always)]
-pub(crate) fn slowest_axis<D: Lengths>(order: Order, dim: &D) -> Option<Cut>
-    requires { IsWithinLimit (D.numbers dim.now) }
-    ensures { IfSome result (λ cut. IsCut order (D.numbers dim.now) cut.axis.0 cut.len) }
-{
-    let ndim = dim.ndim();
-    for turn in 0..ndim {
-        let axis = axis_at(order, ndim, ndim - 1 - turn);
-        let len = dim.axis(axis);
-        if len > 1 {
-            if dim.size() < len.saturating_mul(16) {
-                return None;
-            }
-            let axis = Axis(axis);
-            return Some(Cut { axis, len });
-        }
-    }
-    None
 }
 
 /// How many index lists make a row, of those that are left on an axis. Where the axis is short it is one, since

@@ -6,3 +6,4 @@ pub mod move_out;
 pub mod partly_moved;
 pub mod region_places;
 pub mod strided;
+pub mod strided_cells;

@@ -10,6 +10,7 @@ pub mod exact_chunks_mut;
 pub mod lanes;
 pub mod lanes_mut;
 pub(crate) mod piece_layouts;
+pub(crate) mod piece_rows;
 pub(crate) mod pieces;
 pub(crate) mod pieces_mut;
 pub(crate) mod positions;

@@ -14,6 +14,7 @@ pub(crate) mod collecting;
 pub mod fold_while;
 mod indices;
 mod joining;
+mod layout_places;
 pub mod pair;
 pub mod producer;
 mod subviews;
@@ -22,7 +23,7 @@ pub(crate) mod units;
 pub(crate) mod updating;
 mod views;
 mod views_mut;
-mod walks;
+mod walk;
 
 use crate::base::array::ArrayView;
 use crate::base::dimension::{Dimension, Lengths};

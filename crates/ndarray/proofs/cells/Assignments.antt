@@ -1,15 +1,12 @@
 -- The index lists at which cells are written one after another: each lies in the box, and none comes twice.
 use Rattle.std.proofs.Common.{◌≡◌, ◌≢◌, ℕ, ◌<◌, List, [], ◌∷◌, ◌++◌, length, get_or, sym, subst, ap, ◌∙◌, arith, length-append}
 use Rattle.std.specs.Prelude.{All}
-use Rattle.std.specs.Iterator.{YieldsFirstBy}
 use Rattle.std.proofs.Math.Seq.{get_or-append_seam}
 use Rattle.std.proofs.lemmas.List.{get_or_append_left, get_or_default}
 use Rattle.ndarray.specs.Index.{InBox}
 use Rattle.ndarray.specs.Orders.{box_in}
-use Rattle.ndarray.specs.Producers.{YieldsInTurn}
 use Rattle.ndarray.specs.declared.base.shape.Order.{Order}
 use Rattle.ndarray.proofs.boxes.Orders.{box_in-within, box_in-back, length-box_in}
-use Rattle.ndarray.proofs.runs.Producers.{YieldsInTurn-list, MayBeYielded}
 
 -- an index list of a box in an order is in the box, and none before it is the same
 module _ (o : Order) (ns : List ℕ) (done : List (List ℕ)) (i : List ℕ) (rest : List (List ℕ)) (parts : done ++ (i ∷ rest) ≡ box_in o ns) where
@@ -32,12 +29,3 @@ module _ (o : Order) (ns : List ℕ) (done : List (List ℕ)) (i : List ℕ) (re
       let same : get_or (box_in o ns) k [] ≡ get_or (box_in o ns) (length done) [] = a ∙ (e ∙ sym here-is) in
       let z : k ≡ length done = cc in
       omega arith
-
--- a walk gives the index lists themselves
-module _ {D S : Type 0} (numbers : D → List ℕ) (rest : S → List (List ℕ)) where
-  own-yielded : (is : List (List ℕ)) → MayBeYielded numbers (λ i d. numbers d ≡ i) is is
-  own-yielded [] = tt
-  own-yielded (i ∷ is) = ((λ d e. e), own-yielded is)
-
-  pub YieldsInTurn-own : {is : List (List ℕ)} {s : S} → rest s ≡ is → YieldsInTurn (YieldsFirstBy numbers rest) (λ i d. numbers d ≡ i) s is
-  YieldsInTurn-own {is} e = YieldsInTurn-list numbers rest (λ i d. numbers d ≡ i) is e (own-yielded is)

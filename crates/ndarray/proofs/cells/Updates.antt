@@ -1,23 +1,27 @@
 -- Answers that are written over the cells that they were computed from.
 use Rattle.std.proofs.Common.{◌≡◌, ◌≢◌, ℕ, List, [], ◌∷◌, ◌++◌, length, map, drop, Option, Some, None, Result, Ok, Err, inl, inr, refl, sym, subst, ap, ◌∙◌, arith, append-nil, append_assoc, length-append}
-use Rattle.std.specs.Prelude.{All, filter_map}
+use Rattle.std.specs.Prelude.{All, IsTrue, filter_map, ⊤}
+use Rattle.std.specs.Option.{is_some}
 use Rattle.std.specs.List.{FoldsTo}
-use Rattle.std.proofs.lemmas.Fn.{FoldsTo-push}
 use Rattle.std.proofs.Math.Seq.{get_or-append_seam, drop-append_seam}
 use Rattle.std.proofs.lemmas.List.{get_or_append_left, map-append, drop-map, length-map}
 use Rattle.ndarray.specs.Index.{InBox}
 use Rattle.ndarray.specs.Grid.{Grid, IsGrid, cell}
 use Rattle.ndarray.specs.Orders.{box_in, cells_in}
-use Rattle.ndarray.specs.Producers.{YieldsInTurn, YieldsInTurnFrom}
-use Rattle.ndarray.specs.Runs.{TurnAt, GatherTurn, MayGather}
-use Rattle.ndarray.specs.Updates.{answers, UpdatesUntil}
+use Rattle.ndarray.specs.Producers.{both}
+use Rattle.ndarray.specs.Runs.{MayTurnAt, TurnAt, TakesAt, StopsAt, EndsOrStops, GatherTurn, MayGather}
+use Rattle.ndarray.specs.Updates.{answers, is_cell_beside, UpdatesUntil}
 use Rattle.ndarray.specs.Writes.{with_cell}
+use Rattle.ndarray.specs.base.Places.{place, Reaches, grid_at}
+use Rattle.ndarray.specs.base.Overwrites.{IsWritten, WriteTurn, WriteStop, MayWrite, WritesUntil}
 use Rattle.ndarray.specs.declared.base.shape.Order.{Order}
 use Rattle.ndarray.proofs.cells.Assignments.{here-within, here-first}
 use Rattle.ndarray.proofs.cells.Cells.{cells_in-HasInOrder}
 use Rattle.ndarray.proofs.boxes.Orders.{box_in-is}
 use Rattle.ndarray.proofs.lists.Elements.{filter_map-from_map, map-same}
-use Rattle.ndarray.proofs.cells.Writes.{with_cell-whole, with_cell-here, with_cell-elsewhere, with_cell-own}
+use Rattle.ndarray.proofs.cells.Writes.{with_cell-here, with_cell-elsewhere, grid-written, Reaches-written}
+use Rattle.ndarray.proofs.runs.Turns.{ran-Ok}
+use Rattle.ndarray.proofs.strides.Reach.{cell-at, length-cells_at}
 
 front-of : (done : List (List ℕ)) (js ls : List ℕ) → All (λ ks. ks ≢ ls) (done ++ (js ∷ [])) → All (λ ks. ks ≢ ls) done
 front-of done js ls apart = λ k d lt e. apart k d (omega (arith, length-append done (js ∷ []))) (get_or_append_left done (js ∷ []) d k lt ∙ e)
@@ -49,103 +53,144 @@ module _ {A : Type 0} (o : Order) (old g : Grid A) where
       ap (map (cell g)) (sym parts) ∙ (map-append (cell g) done rest ∙ (ap (λ l. l ++ map (cell g) rest) cells ∙ (ap (λ l. map Some answers ++ l) (kept-behind done rest parts kept ∙ behind) ∙ sym (map-append Some answers (drop (length answers) xs))))) in
       ap (λ ns. filter_map (cell g) (box_in o ns)) lengths ∙ filter_map-from_map (cell g) box (answers ++ drop (length answers) xs) along
 
--- A run gives an entry at each index list, which names that index list. The closure is called at the old cell, joined to the entry.
-module _ {S Z X A E F : Type 0} (next : S → Option Z → S → Type 0) (stands : List ℕ → Z → Type 0) (at : Z → List ℕ) (own : (i : List ℕ) (z : Z) → stands i z → at z ≡ i)
-    (old : Grid A) (join : A → Z → X) (yields_at : List ℕ → X → Type 0) (joined : (i : List ℕ) (x : A) (z : Z) → cell old i ≡ Some x → stands i z → yields_at i (join x z))
-    (call_gives : F → X → Result A E → F → Type 0) (first : F) where
-  -- The index lists done have their answers as cells, and all others have the old ones. t gives the entries of the others.
-  pub record Updated (is : List (List ℕ)) (t : S) (f : F) (g : Grid A) : Type 0 where
-    pub done : List (List ℕ)
-    pub rest : List (List ℕ)
-    pub given : List A
-    pub parts : done ++ rest ≡ is
-    pub turns : FoldsTo {P = F × List A} (TurnAt yields_at (GatherTurn (answers call_gives))) (first, []) done (f, given)
-    pub gives : YieldsInTurnFrom next stands t rest
-    pub cells : map (cell g) done ≡ map Some given
-    pub kept : (js : List ℕ) → All (λ ks. ks ≢ js) done → cell g js ≡ cell old js
-    pub lengths : g.lengths ≡ old.lengths
-    pub whole : IsGrid g
+-- Turns that call at the element at a place and an item there, and write the answer. The state is the storage and the closure.
+module _ {S F A X E : Type 0} (at : S → ℕ → Option A) (call_gives : F → A × X → Result A E → F → Type 0)
+    (yields_at : List ℕ → X → Type 0) (o : Order) (ns : List ℕ) (start : ℕ) (bs : List ℕ) (storage : S) (closure : F) (reaches : Reaches ⊤ (at storage) ns start bs) where
+  abbrev first : S × F
+  first = (storage, closure)
 
-  pub Updated-start : {is : List (List ℕ)} {s : S} → YieldsInTurn next stands s is → IsGrid old → Updated is s first old
-  Updated-start {is} w whole = record { done = []; rest = is; given = []; parts = refl; turns = refl; gives = w.from; cells = refl; kept = λ js a. refl; lengths = refl; whole = whole }
+  abbrev Turn : S × F → X × ℕ → S × F → Type 0
+  Turn = WriteTurn {E = E} at call_gives
 
-  -- what an entry that came tells
-  record Found (is : List (List ℕ)) (u : S) (b : List (List ℕ)) (z : Z) : Type 0 where
-    place : List ℕ
-    rest : List (List ℕ)
-    parts : b ++ (place ∷ rest) ≡ is
-    stand : stands place z
-    gives : YieldsInTurnFrom next stands u rest
+  abbrev Stop : S × F → X × ℕ → S × E → Type 0
+  Stop = WriteStop at call_gives
 
-  found : {is : List (List ℕ)} {t u : S} {f : F} {g : Grid A} {z : Z} → (b : Updated is t f g) → next t (Some z) u → Found is u b.done z
-  found {is} {t} {u} {z = z} b st = go b.rest b.parts b.gives
-    where
-      go : (rest : List (List ℕ)) → b.done ++ rest ≡ is → YieldsInTurnFrom next stands t rest → Found is u b.done z
-      go [] e v = absurd (v z u st)
-      go (i ∷ rest) e v = let h = v.1 z u st in record { place = i; rest = rest; parts = e; stand = h.0; gives = h.1 }
+  abbrev item_at : List ℕ → X × ℕ → Type 0
+  item_at = both yields_at (λ i p. p ≡ place start bs i)
 
-  module _ (o : Order) {t u : S} {f : F} {g : Grid A} {z : Z} (b : Updated (box_in o old.lengths) t f g) (st : next t (Some z) u) where
-    within : InBox old.lengths (at z)
-    within = let k = found b st in subst (InBox old.lengths) (sym (own k.place z k.stand)) (here-within o old.lengths b.done k.place k.rest k.parts)
+  abbrev array : S → Grid A
+  array s = grid_at (at s) ns start bs
 
-    -- the array has a cell at its index list
-    pub Updated-within : InBox g.lengths (at z)
-    Updated-within = subst (λ ms. InBox ms (at z)) (sym b.lengths) within
+  abbrev Gather : F × List A → A × X → F × List A → Type 0
+  Gather = GatherTurn (answers call_gives)
 
-    -- which is the old one, so that the closure shows there what it is joined to
-    other_yields_at : {x : A} → cell g (at z) ≡ Some x → yields_at (found b st).place (join x z)
-    other_yields_at {x} e =
-        let k = found b st in
-        let here : cell g k.place ≡ Some x = ap (cell g) (sym (own k.place z k.stand)) ∙ e in
-        joined k.place x z (sym (b.kept k.place (here-first o old.lengths b.done k.place k.rest k.parts)) ∙ here) k.stand
+  -- The index lists done have their answers as cells, and all others have the old ones.
+  record Updated (done : List (List ℕ)) (s : S × F) (given : List A) : Type 0 where
+    reach : Reaches ⊤ (at s.0) ns start bs
+    cells : map (cell (array s.0)) done ≡ map Some given
+    kept : (js : List ℕ) → All (λ ks. ks ≢ js) done → cell (array s.0) js ≡ cell (array storage) js
 
-    -- the closure may be called at it
-    pub Updated-asks : {x : A} (can_call : F → X → Type 0) → MayGather yields_at (answers call_gives) can_call (box_in o old.lengths) first → cell g (at z) ≡ Some x → can_call f (join x z)
-    Updated-asks {x} can_call m e = let k = found b st in m.at b.done k.place k.rest _ k.parts b.turns (join x z) (other_yields_at e)
+  begun : Updated [] first []
+  begun = record { reach = reaches; cells = refl; kept = λ js a. refl }
 
-    -- and the array may take its answer
-    pub Updated-next : {h : F} {x r : A} {new : Grid A} → cell g (at z) ≡ Some x → call_gives f (join x z) (Ok r) h → new ≡ with_cell g (at z) r → Updated (box_in o old.lengths) u h new
-    Updated-next {h} {x} {r} {new} there call e =
-        let k = found b st in
-        let js = k.place in
-        let is-new : new ≡ with_cell g js r = e ∙ ap (λ l. with_cell g l r) (own js z k.stand) in
-        let box : InBox g.lengths js = subst (InBox g.lengths) (own js z k.stand) Updated-within in
-        let here : cell new js ≡ Some r = ap (λ v. cell v js) is-new ∙ with_cell-here g js r b.whole box in
-        let others : (l : List ℕ) → l ≢ js → cell new l ≡ cell g l = λ l ne. ap (λ v. cell v l) is-new ∙ with_cell-elsewhere g js l r ne in
-        let before : map (cell new) b.done ≡ map (cell g) b.done = map-same (cell new) (cell g) (λ l. l ≢ js) b.done others (here-first o old.lengths b.done js k.rest k.parts) in
+  -- the element at the place of an index list to come is the old cell
+  module _ (done : List (List ℕ)) (i : List ℕ) (rest : List (List ℕ)) (parts : done ++ (i ∷ rest) ≡ box_in o ns) (s : S × F) (given : List A) (u : Updated done s given) (z : X × ℕ) (stands : item_at i z) where
+    within : InBox ns i
+    within = here-within o ns done i rest parts
+
+    there : IsTrue (is_some (at s.0 z.1))
+    there = subst (λ p. IsTrue (is_some (at s.0 p))) (sym stands.1) (u.reach.inside i within)
+
+    old-cell : (a : A) → at s.0 z.1 ≡ Some a → is_cell_beside (array storage) yields_at i (a, z.0)
+    old-cell a e = (sym (u.kept i (here-first o ns done i rest parts)) ∙ (cell-at (at s.0) ns start bs u.reach i within ∙ (ap (at s.0) (sym stands.1) ∙ e)), stands.0)
+
+    next-updated : (t : S × F) (r : A) → IsWritten (at s.0) (at t.0) z.1 r → Updated (done ++ (i ∷ [])) t (given ++ (r ∷ []))
+    next-updated t r w =
+        let here : at t.0 (place start bs i) ≡ Some r = subst (λ p. at t.0 p ≡ Some r) stands.1 w.0 in
+        let others : (p : ℕ) → p ≢ place start bs i → at t.0 p ≡ at s.0 p = λ p ne. w.1 p (λ e. ne (e ∙ stands.1)) in
+        let new : array t.0 ≡ with_cell (array s.0) i r = grid-written (at s.0) (at t.0) ns start bs u.reach tt i within r here others (array s.0) refl in
+        let whole = length-cells_at (at s.0) ns start bs u.reach in
+        let own : cell (array t.0) i ≡ Some r = ap (λ v. cell v i) new ∙ with_cell-here (array s.0) i r whole within in
+        let apart : (l : List ℕ) → l ≢ i → cell (array t.0) l ≡ cell (array s.0) l = λ l ne. ap (λ v. cell v l) new ∙ with_cell-elsewhere (array s.0) i l r ne in
+        let before : map (cell (array t.0)) done ≡ map (cell (array s.0)) done = map-same (cell (array t.0)) (cell (array s.0)) (λ l. l ≢ i) done apart (here-first o ns done i rest parts) in
         record {
-          done = b.done ++ (js ∷ []);
-          rest = k.rest;
-          given = b.given ++ (r ∷ []);
-          parts = append_assoc b.done (js ∷ []) k.rest ∙ k.parts;
-          turns = FoldsTo-push (TurnAt yields_at (GatherTurn (answers call_gives))) _ b.done _ js _ b.turns (join x z, other_yields_at there, (r, refl, call));
-          gives = k.gives;
-          cells = map-append (cell new) b.done (js ∷ []) ∙ (ap (λ l. l ++ map (cell new) (js ∷ [])) (before ∙ b.cells) ∙ (ap (λ c. map Some b.given ++ (c ∷ [])) here ∙ sym (map-append Some b.given (r ∷ []))));
-          kept = λ ls apart. others ls (λ q. last-of b.done js ls apart (sym q)) ∙ b.kept ls (front-of b.done js ls apart);
-          lengths = ap (λ v. v.lengths) is-new ∙ b.lengths;
-          whole = subst IsGrid (sym is-new) (with_cell-whole g js r b.whole);
+          reach = Reaches-written (at s.0) (at t.0) ns start bs u.reach tt i within r here others;
+          cells = map-append (cell (array t.0)) done (i ∷ []) ∙ (ap (λ l. l ++ map (cell (array t.0)) (i ∷ [])) (before ∙ u.cells) ∙ (ap (λ c. map Some given ++ (c ∷ [])) own ∙ sym (map-append Some given (r ∷ []))));
+          kept = λ ls ne. apart ls (λ q. last-of done i ls ne (sym q)) ∙ u.kept ls (front-of done i ls ne);
         }
 
-    -- or stays as it is where the call was refused
-    pub Updated-refused : {h : F} {x : A} {e : E} {new : Grid A} {r : Result (Unit {0}) E} → IsGrid old → cell g (at z) ≡ Some x → call_gives f (join x z) (Err e) h → r ≡ Err e → new ≡ with_cell g (at z) x → UpdatesUntil yields_at call_gives o first old r new
-    Updated-refused {h} {x} {e} {new} whole there call is back =
-        let k = found b st in
-        let same : new ≡ g = back ∙ with_cell-own g (at z) x there in
-        record {
-          lengths = ap (λ v. v.lengths) same ∙ b.lengths;
-          ran = (b.done, (f, b.given), b.turns, inr (k.place, k.rest, k.parts, (join x z, other_yields_at there, (e, h, is, call, ap (cells_in o) same ∙ overwritten o old g b.done b.rest b.given b.parts whole b.lengths b.kept b.cells))));
-        }
+  -- turns at some index lists gave some more answers
+  record Gone (done is : List (List ℕ)) (s t : S × F) (given : List A) : Type 0 where
+    more : List A
+    turns : FoldsTo {P = F × List A} (TurnAt (is_cell_beside (array storage) yields_at) Gather) (s.1, given) is (t.1, more)
+    updated : Updated (done ++ is) t more
 
-  -- at the end the cells are the answers
-  pub Updated-end : (o : Order) {t u : S} {f : F} {g : Grid A} {r : Result (Unit {0}) E} → r ≡ Ok tt → Updated (box_in o old.lengths) t f g → next t None u → UpdatesUntil yields_at call_gives o first old r g
-  Updated-end o {t} {u} {f} {g} {r} is b st = go b.rest b.parts b.gives
-    where
-      go : (rest : List (List ℕ)) → b.done ++ rest ≡ box_in o old.lengths → YieldsInTurnFrom next stands t rest → UpdatesUntil yields_at call_gives o first old r g
-      go (i ∷ rest) e v = absurd (v.0 u st)
-      go [] e v =
-          let all : b.done ≡ box_in o old.lengths = sym (append-nil b.done) ∙ e in
-          let along : map (cell g) (box_in o g.lengths) ≡ map Some b.given = ap (λ ms. map (cell g) (box_in o ms)) b.lengths ∙ (ap (map (cell g)) (sym all) ∙ b.cells) in
-          record {
-            lengths = b.lengths;
-            ran = (b.done, (f, b.given), b.turns, inl (all, (is, filter_map-from_map (cell g) (box_in o g.lengths) b.given along)));
-          }
+  gone : (is done rest : List (List ℕ)) → done ++ (is ++ rest) ≡ box_in o ns → (s t : S × F) (given : List A) → Updated done s given → FoldsTo (TurnAt item_at Turn) s is t → Gone done is s t given
+  gone [] done rest parts s t given u f = record {
+    more = given;
+    turns = ap (λ q. (q.1, given)) f;
+    updated = subst (λ l. Updated l t given) (sym (append-nil done)) (subst (λ q. Updated done q given) f u);
+  }
+  gone (i ∷ is) done rest parts s t given u f =
+      let (m, (z, stands, (a, r, there, called, written)), g) = f in
+      let v = next-updated done i (is ++ rest) parts s given u z stands m r written in
+      let k = gone is (done ++ (i ∷ [])) rest (append_assoc done (i ∷ []) (is ++ rest) ∙ parts) m t (given ++ (r ∷ [])) v g in
+      record {
+        more = k.more;
+        turns = ((m.1, given ++ (r ∷ [])), ((a, z.0), old-cell done i (is ++ rest) parts s given u z stands a there, (r, refl, called)), k.turns);
+        updated = subst (λ l. Updated l t k.more) (append_assoc done (i ∷ []) is) k.updated;
+      }
+
+  from-start : (is rest : List (List ℕ)) → is ++ rest ≡ box_in o ns → (t : S × F) → FoldsTo (TurnAt item_at Turn) first is t → Gone [] is first t []
+  from-start is rest parts t f = gone is [] rest parts first t [] begun f
+
+  -- where the closure may be called at each old cell, each turn may be taken
+  pub may-update : (can_call : F → A × X → Type 0) → MayGather (is_cell_beside (array storage) yields_at) (answers call_gives) can_call (box_in o ns) closure
+      → MayTurnAt (TurnAt item_at Turn) (TakesAt item_at (MayWrite at can_call)) first (box_in o ns)
+  may-update can_call m = record {
+    at = λ done i rest s parts f z stands.
+        let k = from-start done (i ∷ rest) parts s f in
+        (there done i rest parts s k.more k.updated z stands, λ a e. m.at done i rest (s.1, k.more) parts k.turns (a, z.0) (old-cell done i rest parts s k.more k.updated z stands a e));
+  }
+
+  -- and then the cells are updated
+  pub updated-cells : (t : S) (r : Result (Unit {0}) E) → WritesUntil at call_gives item_at (box_in o ns) closure storage t r
+      → UpdatesUntil (is_cell_beside (array storage) yields_at) call_gives o closure (array storage) r (array t) × Reaches ⊤ (at t) ns start bs
+  updated-cells t (Ok u) (h, ran) =
+      let k = from-start (box_in o ns) [] (append-nil (box_in o ns)) (t, h) (ran-Ok (TurnAt item_at Turn) (StopsAt item_at Stop) first (t, h) (box_in o ns) ran) in (
+        record {
+          lengths = refl;
+          ran = (box_in o ns, (h, k.more), k.turns, inl (refl, (refl, filter_map-from_map (cell (array t)) (box_in o ns) k.more k.updated.cells)));
+        },
+        k.updated.reach,
+      )
+  updated-cells t (Err err) ran =
+      let (done, s, f, how) = ran in
+      elim how [
+        | inl h ↦ (let never = h.1 in cc)
+        | inr h ↦
+            (let (i, rest, parts, stop) = h in
+            let (q, same, (z, stands, (a, h', there', called, left))) = stop in
+            let here : t ≡ q.0 = cc in
+            let one : err ≡ q.1 = cc in
+            let k = from-start done (i ∷ rest) parts s f in
+            let same_elements : at t ≡ at s.0 = ap at here ∙ left in
+            let new : array t ≡ array s.0 = ap (λ e. grid_at e ns start bs) same_elements in (
+              record {
+                lengths = refl;
+                ran = (
+                  done,
+                  (s.1, k.more),
+                  k.turns,
+                  inr (
+                    i,
+                    rest,
+                    parts,
+                    (
+                      (a, z.0),
+                      old-cell done i rest parts s k.more k.updated z stands a there',
+                      (
+                        err,
+                        h',
+                        refl,
+                        subst (λ e. call_gives s.1 (a, z.0) (Err e) h') (sym one) called,
+                        ap (cells_in o) new
+                            ∙ overwritten o (array storage) (array s.0) done (i ∷ rest) k.more parts (length-cells_at (at storage) ns start bs reaches) refl k.updated.kept k.updated.cells,
+                      ),
+                    ),
+                  ),
+                );
+              },
+              subst (λ e. Reaches ⊤ e ns start bs) (sym same_elements) k.updated.reach,
+            ))
+      ]

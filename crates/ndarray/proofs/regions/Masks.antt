@@ -24,7 +24,7 @@ module _ {X : Type 0} where
   nowhere b c true eb ec = sym eb
   nowhere b c false eb ec = sym ec
 
-  kept_from : (f : ℕ → Bool) (k n : ℕ) (cs : List (Option X)) (i : ℕ) → n ≡ length cs → held_at (slots_in (mask_from f k n) cs) i ≡ cond (f (k + i)) (held_at cs i) None
+  pub kept_from : (f : ℕ → Bool) (k n : ℕ) (cs : List (Option X)) (i : ℕ) → n ≡ length cs → held_at (slots_in (mask_from f k n) cs) i ≡ cond (f (k + i)) (held_at cs i) None
   kept_from f k n [] i e = nowhere None None (f (k + i)) refl refl
   kept_from f k zero (c ∷ cs) i e = absurd (omega (arith, e))
   kept_from f k (suc n) (c ∷ cs) zero e = here (f k) ∙ ap (λ (j : ℕ). cond (f j) c None) (omega arith)
@@ -38,7 +38,7 @@ module _ {X : Type 0} where
       there true = refl
       there false = refl
 
-  others_from : (f : ℕ → Bool) (k n : ℕ) (cs : List (Option X)) (i : ℕ) → n ≡ length cs → held_at (slots_outside (mask_from f k n) cs) i ≡ cond (f (k + i)) None (held_at cs i)
+  pub others_from : (f : ℕ → Bool) (k n : ℕ) (cs : List (Option X)) (i : ℕ) → n ≡ length cs → held_at (slots_outside (mask_from f k n) cs) i ≡ cond (f (k + i)) None (held_at cs i)
   others_from f k n [] i e = nowhere None None (f (k + i)) refl refl
   others_from f k zero (c ∷ cs) i e = absurd (omega (arith, e))
   others_from f k (suc n) (c ∷ cs) zero e = here (f k) ∙ ap (λ (j : ℕ). cond (f j) None c) (omega arith)
@@ -218,6 +218,9 @@ first-alone P x p (suc i) d lt = absurd (omega arith)
 
 pub Shares-none : {A : Type 0} (at : ℕ → Option A) → Shares at []
 Shares-none at = record { each = λ i d lt. absurd (omega arith); apart = λ i j d lt lj. absurd (omega arith) }
+
+pub SharesBoth-none : {A : Type 0} (at : ℕ → Option A) (xs : List CellLayout) → Shares at xs → SharesBoth at xs []
+SharesBoth-none at xs h = record { first = h; second = Shares-none at; between = λ i d li j e lj. absurd (omega arith) }
 
 pub Shares-one : {A : Type 0} (at : ℕ → Option A) (s : CellLayout) → Reaches ⊤ at s.lengths s.start s.strides → Shares at (s ∷ [])
 Shares-one at s h = record {

@@ -65,7 +65,7 @@ module _ {S A B : Type 0} (view : A → B) (rest : S → List B) (yields_at : Li
   YieldsInTurn-list bs e m = record { from = from_list _ bs _ e m }
 
 module _ {A B : Type 0} (view : A → B) (g : Grid B) where
-  cells-stand : (ys : List (List ℕ)) → HasCells g ys → MayBeYielded view (λ i x. cell g i ≡ Some (view x)) ys (filter_map (cell g) ys)
+  pub cells-stand : (ys : List (List ℕ)) → HasCells g ys → MayBeYielded view (λ i x. cell g i ≡ Some (view x)) ys (filter_map (cell g) ys)
   cells-stand [] h = tt
   cells-stand (i ∷ ys) h =
       let f = HasCells-first g (i ∷ ys) ys i refl h in
@@ -99,25 +99,26 @@ module _ {S A : Type 0} (next other : S → Option A → S → Type 0) (yields_a
   pub YieldsInTurn-steps : {is : List (List ℕ)} {s : S} → YieldsInTurn other yields_at s is → YieldsInTurn next yields_at s is
   YieldsInTurn-steps {is} {s} w = record { from = steps_as is s w.from }
 
+-- the steps of an iterator over a slice take the first of what is left
+pub iter_first : {A : Type 0} (t : Iter A) (r : Option (Bor A)) (u : Iter A) → iter_steps t r u → YieldsFirstBy (λ x. x.now) (λ w. w.rest.now) t r u
+iter_first t None u st = let e = nil_from_length t.rest.now st.0 in (e, ap (λ w. w.rest.now) st.1 ∙ e)
+iter_first t (Some x) u st = st
+
+pub iter_mut_first : {A : Type 0} (t : IterMut A) (r : Option (MutBor A)) (u : IterMut A) → iter_mut_steps t r u → YieldsFirstBy (λ x. x.now) iter_mut_rest t r u
+iter_mut_first t None u st = (nil_from_length (iter_mut_rest t) st.0, nil_from_length (iter_mut_rest u) st.1)
+iter_mut_first t (Some x) u st = st
+
 -- the elements of a slice stand beside the index lists of an array whose cells they are
 pub YieldsInTurn-slice : {A : Type 0} (g : Grid A) (o : Order) (s : Iter A) → IsGrid g → s.rest.now ≡ cells_in o g
     → YieldsInTurn iter_steps (λ i x. cell g i ≡ Some x.now) s (box_in o g.lengths)
 YieldsInTurn-slice {A} g o s whole e =
-    YieldsInTurn-steps iter_steps (YieldsFirstBy (λ x. x.now) (λ t. t.rest.now)) (λ i x. cell g i ≡ Some x.now) (λ t r u st. first t r u st) (YieldsInTurn-cells (λ x. x.now) g (λ t. t.rest.now) o whole e)
-  where
-    first : (t : Iter A) (r : Option (Bor A)) (u : Iter A) → iter_steps t r u → YieldsFirstBy (λ x. x.now) (λ w. w.rest.now) t r u
-    first t None u st = let e = nil_from_length t.rest.now st.0 in (e, ap (λ w. w.rest.now) st.1 ∙ e)
-    first t (Some x) u st = st
+    YieldsInTurn-steps iter_steps (YieldsFirstBy (λ x. x.now) (λ t. t.rest.now)) (λ i x. cell g i ≡ Some x.now) (λ t r u st. iter_first t r u st) (YieldsInTurn-cells (λ x. x.now) g (λ t. t.rest.now) o whole e)
 
 -- the same of references to write to
 pub YieldsInTurn-slice_mut : {A : Type 0} (g : Grid A) (o : Order) (s : IterMut A) → IsGrid g → iter_mut_rest s ≡ cells_in o g
     → YieldsInTurn iter_mut_steps (λ i x. cell g i ≡ Some x.now) s (box_in o g.lengths)
 YieldsInTurn-slice_mut {A} g o s whole e =
-    YieldsInTurn-steps iter_mut_steps (YieldsFirstBy (λ x. x.now) iter_mut_rest) (λ i x. cell g i ≡ Some x.now) (λ t r u st. first t r u st) (YieldsInTurn-cells (λ x. x.now) g iter_mut_rest o whole e)
-  where
-    first : (t : IterMut A) (r : Option (MutBor A)) (u : IterMut A) → iter_mut_steps t r u → YieldsFirstBy (λ x. x.now) iter_mut_rest t r u
-    first t None u st = (nil_from_length (iter_mut_rest t) st.0, nil_from_length (iter_mut_rest u) st.1)
-    first t (Some x) u st = st
+    YieldsInTurn-steps iter_mut_steps (YieldsFirstBy (λ x. x.now) iter_mut_rest) (λ i x. cell g i ≡ Some x.now) (λ t r u st. iter_mut_first t r u st) (YieldsInTurn-cells (λ x. x.now) g iter_mut_rest o whole e)
 
 -- a run that counts down gives an item at as many index lists, where any item may stand at any of them
 module _ {S A : Type 0} (next : S → Option A → S → Type 0) (yields_at : List ℕ → A → Type 0) (count : S → ℕ)

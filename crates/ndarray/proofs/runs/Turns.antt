@@ -1,11 +1,12 @@
 -- Turns over the items that a run gives, seen as turns over the index lists at which they stand.
-use Rattle.std.proofs.Common.{◌≡◌, ℕ, List, [], ◌∷◌, ◌++◌, Option, Some, None, Ok, Err, refl, sym, subst, ◌∙◌, append-nil, inl, inr, append_assoc}
+use Rattle.std.proofs.Common.{◌≡◌, ℕ, List, [], ◌∷◌, ◌++◌, Option, Some, None, Result, Ok, Err, refl, sym, subst, ◌∙◌, append-nil, inl, inr, append_assoc}
 use Rattle.std.proofs.lemmas.Fn.{FoldsTo-push}
 use Rattle.std.specs.List.{FoldsTo}
 use Rattle.ndarray.specs.Orders.{box_in}
 use Rattle.ndarray.specs.Producers.{YieldsInTurn, YieldsInTurnFrom, IsRefinedBy}
 use Rattle.ndarray.specs.declared.base.shape.Order.{Order}
-use Rattle.ndarray.specs.Runs.{RunsUntil, MayTurnAt, TurnAt, TakesAt, StopsAt, EndsOrStops}
+use Rattle.ndarray.specs.Runs.{MayTurnAt, TurnAt, TakesAt, StopsAt, EndsOrStops}
+use Rattle.ndarray.proofs.runs.RunsThrough.{may_via, runs_via}
 
 module _ {S A P : Type 0} (next : S → Option A → S → Type 0) (yields_at : List ℕ → A → Type 0) (turn : P → A → P → Type 0) where
   -- turns at the items so far led from p to q, and t gives those of the other index lists
@@ -41,11 +42,6 @@ module _ {S A P : Type 0} (next : S → Option A → S → Type 0) (yields_at : 
       → MayTurnAt (TurnAt yields_at turn) (TakesAt yields_at takes) p is → Reached is t p q → next t (Some x) u → takes q x
   may_take {takes} {x = x} m b st = let k = found b st in m.at k.done k.place k.rest _ k.parts k.turns x k.stands
 
-  -- and so it may at each item to come next
-  pub goes_on : {takes : P → A → Type 0} {is : List (List ℕ)} {t : S} {p q : P}
-      → MayTurnAt (TurnAt yields_at turn) (TakesAt yields_at takes) p is → Reached is t p q → Reached is t p q × ((x : A) (u : S) → next t (Some x) u → takes q x)
-  goes_on m b = (b, λ x u st. may_take m b st)
-
   pub next_turn : {is : List (List ℕ)} {t u : S} {p q r : P} {x : A} → Reached is t p q → next t (Some x) u → turn q x r → Reached is u p r
   next_turn {is} {x = x} b st h =
       let k = found b st in
@@ -64,16 +60,7 @@ module _ {S A P : Type 0} (next : S → Option A → S → Type 0) (yields_at : 
       go [] e v = subst (λ l. FoldsTo (TurnAt yields_at turn) p l q) (sym (append-nil b.done) ∙ e) b.turns
       go (i ∷ rest) e v = absurd (v.0 u st)
 
-  -- a run with stop, that came to the end
-  pub ran_out : {is : List (List ℕ)} {t u : S} {p q : P} (stops : P → List ℕ → Type 0) (ended : P → Type 0) → Reached is t p q → next t None u → ended q → RunsUntil (TurnAt yields_at turn) stops ended p is
-  ran_out {is} {q = q} stops ended b st h = (is, q, at_end b st, inl (refl, h))
-
-  -- a run with stop, that stopped
-  pub stopped_at : {is : List (List ℕ)} {t u : S} {p q : P} {x : A} (Stop : P → A → Type 0) (ended : P → Type 0) → Reached is t p q → next t (Some x) u → Stop q x
-      → RunsUntil (TurnAt yields_at turn) (λ r i. (y : A) × yields_at i y × Stop r y) ended p is
-  stopped_at {q = q} {x = x} Stop ended b st h = let k = found b st in (k.done, q, k.turns, inr (k.place, k.rest, k.parts, (x, k.stands, h)))
-
-  -- the same of turns that stop with a value
+  -- turns that stop with a value
   module _ {E : Type 0} (stops : P → A → E → Type 0) where
     pub ends_at : {is : List (List ℕ)} {t u : S} {p q : P} → Reached is t p q → next t None u → EndsOrStops (TurnAt yields_at turn) (StopsAt yields_at stops) p is (Ok q)
     ends_at {is} {q = q} b st = (is, q, at_end b st, inl (refl, refl))
@@ -81,13 +68,30 @@ module _ {S A P : Type 0} (next : S → Option A → S → Type 0) (yields_at : 
     pub stops_at : {is : List (List ℕ)} {t u : S} {p q : P} {x : A} (e : E) → Reached is t p q → next t (Some x) u → stops q x e → EndsOrStops (TurnAt yields_at turn) (StopsAt yields_at stops) p is (Err e)
     stops_at {q = q} {x = x} e b st h = let k = found b st in (k.done, q, k.turns, inr (k.place, k.rest, k.parts, (e, refl, (x, k.stands, h))))
 
--- what a run of a producer gives at index lists, one that shows no less gives
-gives_as : {S A : Type 0} (next : S → Option A → S → Type 0) (yields_at other_yields_at : List ℕ → A → Type 0) → ((i : List ℕ) (x : A) → other_yields_at i x → yields_at i x)
-    → (is : List (List ℕ)) (s : S) → YieldsInTurnFrom next other_yields_at s is → YieldsInTurnFrom next yields_at s is
-gives_as next yields_at other_yields_at less [] s v = v
-gives_as next yields_at other_yields_at less (i ∷ is) s v = (v.0, λ x t st. let w = v.1 x t st in (less i x w.0, gives_as next yields_at other_yields_at less is t w.1))
+-- turns over places and then over more
+pub FoldsTo-append : {P X : Type 0} (turn : P → X → P → Type 0) (is js : List X) (p q r : P) → FoldsTo turn p is q → FoldsTo turn q js r → FoldsTo turn p (is ++ js) r
+FoldsTo-append turn [] js p q r f g = subst (λ s. FoldsTo turn s js r) (sym f) g
+FoldsTo-append turn (i ∷ is) js p q r f g = let (m, t, h) = f in (m, t, FoldsTo-append turn is js m q r h g)
 
-pub YieldsInTurn-less : {S A : Type 0} {next : S → Option A → S → Type 0} {s : S} {ns ms : List ℕ} {yields_at other_yields_at : List ℕ → A → Type 0} (o : Order)
-    → IsRefinedBy ns yields_at ms other_yields_at → YieldsInTurn next other_yields_at s (box_in o ms) → YieldsInTurn next yields_at s (box_in o ns)
-YieldsInTurn-less {next = next} {s = s} {ns = ns} {yields_at = yields_at} {other_yields_at = other_yields_at} o less w =
-    record { from = gives_as next yields_at other_yields_at less.items (box_in o ns) s (subst (λ l. YieldsInTurnFrom next other_yields_at s (box_in o l)) less.lengths w.from) }
+-- a run that did not stop came to the end
+pub ran-Ok : {P X E : Type 0} (turn : P → X → P → Type 0) (stops : P → X → E → Type 0) (p q : P) (is : List X) → EndsOrStops turn stops p is (Ok q) → FoldsTo turn p is q
+ran-Ok turn stops p q is r =
+    let (done, last, g, how) = r in
+    elim how [
+      | inl h ↦ (let e : q ≡ last = cc in subst (λ l. FoldsTo turn p l q) h.0 (subst (λ s. FoldsTo turn p done s) (sym e) g))
+      | inr h ↦ (let (i, rest, e, s) = h in let (x, same, stopped) = s in cc)
+    ]
+
+-- a producer that shows no more than another may be walked where the other may, and its turns are turns over the other
+module _ {P A : Type 0} (goes : P → A → P → Type 0) (o : Order) {ns ms : List ℕ} {yields_at shown : List ℕ → A → Type 0} (less : IsRefinedBy ns yields_at ms shown) (p : P) where
+  pub may-less : (can_take : P → A → Type 0) → MayTurnAt (TurnAt yields_at goes) (TakesAt yields_at can_take) p (box_in o ns) → MayTurnAt (TurnAt shown goes) (TakesAt shown can_take) p (box_in o ms)
+  may-less can_take m =
+      may_via (TurnAt shown goes) (TurnAt yields_at goes) (λ q. q) (λ q i r t. (t.0, less.items i t.0 t.1, t.2)) (TakesAt shown can_take) (TakesAt yields_at can_take) (λ q i h x s. h x (less.items i x s)) (box_in o ms) p
+      (subst (λ l. MayTurnAt (TurnAt yields_at goes) (TakesAt yields_at can_take) p (box_in o l)) (sym less.lengths) m)
+
+  pub ran-less : {E : Type 0} (stops : P → A → E → Type 0) (r : Result P E) → EndsOrStops (TurnAt shown goes) (StopsAt shown stops) p (box_in o ms) r → EndsOrStops (TurnAt yields_at goes) (StopsAt yields_at stops) p (box_in o ns) r
+  ran-less {E} stops r w =
+      subst (λ l. EndsOrStops (TurnAt yields_at goes) (StopsAt yields_at stops) p (box_in o l) r) less.lengths
+      (runs_via (TurnAt shown goes) (TurnAt yields_at goes) (λ q. q) (λ q i s t. (t.0, less.items i t.0 t.1, t.2))
+      (λ q i. (e : E) × (r ≡ Err e) × StopsAt shown stops q i e) (λ q i. (e : E) × (r ≡ Err e) × StopsAt yields_at stops q i e) (λ q. r ≡ Ok q) (λ q. r ≡ Ok q)
+      (λ q i v. let (e, same, (x, stands, stop)) = v in (e, same, (x, less.items i x stands, stop))) (λ q h. h) (box_in o ms) p w)

@@ -85,15 +85,6 @@ unfolding column_order cells_by
 transpose_of-cells g = sym (filter_map-map (cell g) reverse (row_order (reverse g.lengths)))
 
 module _ {X : Type 0} where
-  slice_get-drop : (n : ℕ) (xs : List X) (k : ℕ) → slice_get (drop n xs) k ≡ slice_get xs (n + k)
-  slice_get-drop zero xs k = ap (slice_get xs) (let e : k ≡ 0 + k = omega arith in e)
-  slice_get-drop (suc n) [] k = refl
-  slice_get-drop (suc n) (x ∷ xs) k = slice_get-drop n xs k ∙ ap (slice_get (x ∷ xs)) (let e : suc (n + k) ≡ suc n + k = omega arith in e)
-
-  -- the elements of a part of a slice
-  pub slice-part : (xs : List X) (from len k : ℕ) → from + len ≤ length xs → k < len → slice_get (take len (drop from xs)) k ≡ slice_get xs (from + k)
-  slice-part xs from len k w lt = slice_get-take len (drop from xs) k lt ∙ slice_get-drop from xs k
-
   -- the elements of a run of held places
   pub held-part : (cs : List (Option X)) (from len : ℕ) (xs : List X) → from + len ≤ length cs → take len (drop from cs) ≡ map Some xs
       → (length xs ≡ len) × ((k : ℕ) → k < len → slice_get xs k ≡ held_at cs (from + k))

@@ -114,7 +114,7 @@ module _ {A : Type 0} (at : ℕ → Option A) (p s left : ℕ) (fits : p < 2 ^ 6
   pub step_index-back : (x : A) → at ((p + ((left - 1) * s) % 2 ^ 64) % 2 ^ 64) ≡ Some x → filter_map at (places_from p s left) ≡ filter_map at (places_from p s (left - 1)) ++ x ∷ []
   step_index-back x e = ap (filter_map at) (places_from-last p s left fits some) ∙ (filter_map-append at (places_from p s (left - 1)) (((p + ((left - 1) * s) % 2 ^ 64) % 2 ^ 64) ∷ []) ∙ rw e refl)
 
-length-row_from : (is : List ℕ) (axis n : ℕ) → length (row_from is axis n) ≡ n
+pub length-row_from : (is : List ℕ) (axis n : ℕ) → length (row_from is axis n) ≡ n
 length-row_from is axis zero = refl
 length-row_from is axis (suc n) = let ih = length-row_from (set is axis (get_or is axis 0 + 1)) axis n in omega arith
 
@@ -154,7 +154,7 @@ taken-parts ys zs is axis count t = sym (take-append-drop count ys) ∙ (ap (λ 
 
 -- the places of a row, and those behind it
 module _ (start : ℕ) (bs : List ℕ) where
-  row-places : (axis n : ℕ) (is : List ℕ) → length bs ≡ length is → places_along start bs (row_from is axis n) ≡ places_from (place start bs is) (get_or bs axis 0) n
+  pub row-places : (axis n : ℕ) (is : List ℕ) → length bs ≡ length is → places_along start bs (row_from is axis n) ≡ places_from (place start bs is) (get_or bs axis 0) n
   row-places axis zero is l = refl
   row-places axis (suc n) is l =
       let js : List ℕ = set is axis (get_or is axis 0 + 1) in

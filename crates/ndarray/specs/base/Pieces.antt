@@ -2,6 +2,7 @@
 use Rattle.std.specs.Prelude.{◌≡◌, ℕ, ◌*◌, ◌%◌, ◌^◌, ◌<◌, ◌⊎◌, List, length, map, replicate, slice_index, slice_set, Option, All}
 use Rattle.ndarray.specs.Index.{InBox, row_order}
 use Rattle.ndarray.specs.Limits.{IsWithinLimit}
+use Rattle.ndarray.specs.Rows.{joined}
 use Rattle.ndarray.specs.Grid.{Grid, IsGrid, array_by}
 use Rattle.ndarray.specs.base.Places.{place, Reaches, grid_at}
 use Rattle.ndarray.specs.base.Masks.{Shares}
@@ -51,3 +52,9 @@ pub record AreAlong {B : Type 0} (axis : ℕ) (g : Grid B) : Type 0 where
   pub whole : IsGrid g
   pub below : axis < length g.lengths
   pub alone : g.lengths ≡ slice_set (replicate (length g.lengths) 1) axis (slice_index g.lengths axis)
+
+-- the rows of positions are not empty and of the box, and the pieces at all of their positions share out the storage
+pub record ShareRows {A : Type 0} (at : ℕ → Option A) (ps : List ℕ) (start : ℕ) (steps ns bs : List ℕ) (rows : List (List (List ℕ))) : Type 0 where
+  pub as_many : length steps ≡ length ps
+  pub each : All (λ row. (0 < length row) × All (InBox ps) row) rows
+  pub shares : Shares at (piece_layouts start steps ns bs (joined rows))

@@ -1,6 +1,9 @@
 -- Cells that are borrowed one after another, along a list of index lists.
-use Rattle.std.specs.Prelude.{◌≡◌, ℕ, List, map, zip, filter_map, Option, All, AllPairs, IsTrue}
+use Rattle.std.specs.Prelude.{◌≡◌, ℕ, ◌<◌, List, length, map, zip, filter_map, Option, All, AllPairs, IsTrue, Bool, nat_eq}
+use Rattle.std.specs.List.{list_any}
 use Rattle.std.specs.Option.{is_some}
+use Rattle.ndarray.specs.Rows.{joined}
+use Rattle.ndarray.specs.base.Masks.{mask_from}
 use Rattle.ndarray.specs.base.Places.{place}
 
 -- the places of the index lists
@@ -23,3 +26,12 @@ with_elements at items = zip (map (λ item. item.0) items) (filter_map at (place
 pub record AreDistinctPlaces {A : Type 0} (at : ℕ → Option A) (ps : List ℕ) : Type 0 where
   pub held : All (λ p. IsTrue (is_some (at p))) ps
   pub once : AllPairs (λ p q. p ≡ q → ⊥) ps
+
+-- the rows are not empty, their index lists have as many indices as there are strides, and the places of all of them are distinct
+pub record HaveRows {A : Type 0} (at : ℕ → Option A) (start : ℕ) (bs : List ℕ) (rows : List (List (List ℕ))) : Type 0 where
+  pub each : All (λ row. (0 < length row) × All (λ is. length bs ≡ length is) row) rows
+  pub distinct : AreDistinctPlaces at (places_along start bs (joined rows))
+
+-- of n places, those in the list
+unfoldable pub mask_at : List ℕ → ℕ → List Bool
+mask_at ps n = mask_from (λ k. list_any (λ p. nat_eq p k) ps) 0 n

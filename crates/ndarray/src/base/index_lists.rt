@@ -1,11 +1,13 @@
 //! The index lists of a box, as an array of them.
 
-ghost use Rattle.std.specs.Prelude.{◌≡◌, ◌+◌, ◌≤◌, ◌<◌, ◌^◌, ℕ, length, slice_index, Some, ⊤};
+ghost use Rattle.std.specs.Prelude.{◌≡◌, ◌+◌, ◌≤◌, ◌<◌, ◌^◌, ℕ, All, length, filter_map, slice_index, Some, ⊤};
+ghost use Rattle.std.specs.Iterator.{YieldsFirstBy};
 ghost use Rattle.ndarray.specs.Grid.{IsGrid, array_by, cell};
 ghost use Rattle.ndarray.specs.Index.{InBox};
 ghost use Rattle.ndarray.specs.Limits.{IsWithinLimit};
 ghost use Rattle.ndarray.specs.Views.{axis_part};
 ghost use Rattle.ndarray.specs.base.IndexLists.{shifted_index};
+ghost use Rattle.ndarray.specs.base.Ranks.{row_from};
 
 use crate::base::axis::Axis;
 use crate::base::dimension::Lengths;
@@ -120,5 +122,57 @@ impl<D: Lengths> Clone for Indices<D> {
             start: self.start.copied(),
             dim: self.dim.copied(),
         })
+    }
+}
+
+/// Index lists of a row that are still to come: each has an index on the axis that is one larger than that of the one before.
+#[derive(Drop)]
+pub struct IndexRow<D: Lengths> {
+    list: D,
+    axis: usize,
+    left: usize,
+}
+
+impl<D: Lengths> Model for IndexRow<D> {
+    ghost use Rattle.std.specs.Prelude.{List, ℕ, ◌+◌, ◌≤◌, ◌^◌, slice_index};
+    ghost use Rattle.ndarray.specs.base.Ranks.{row_from};
+
+    ghost Value = { List (List ℕ) };
+
+    ghost view = { λ s. row_from (D.numbers s.list) s.axis s.left };
+
+    ghost invariant = { λ s. slice_index (D.numbers s.list) s.axis + s.left ≤ 2 ^ 64 };
+}
+
+impl<D: Lengths> IndexRow<D> {
+    /// The next index list.
+    #[inline(always)]
+    pub(crate) fn next_list(&mut self) -> Option<D>
+        ensures { YieldsFirstBy D.numbers (λ rest. rest) self.old result self.new }
+    {
+        if self.left == 0 {
+            return None;
+        }
+        let list = self.list.copied();
+        self.left -= 1;
+        if self.left > 0 && self.axis < list.ndim() {
+            self.list.set_axis(self.axis, list.axis(self.axis) + 1);
+        }
+        Some(list)
+    }
+}
+
+impl<D: Lengths> Indices<D> {
+    /// The lists from an index list of the box on along an axis.
+    pub(crate) fn lists_along(&self, first: &D, axis: usize, count: usize) -> IndexRow<D>
+        requires some { 0 < count }
+        requires within { All (InBox self.now.lengths) (row_from (D.numbers first.now) axis count) }
+        ensures { result ≡ filter_map (cell self.now) (row_from (D.numbers first.now) axis count) }
+    {
+        IndexRow {
+            list: counted_from(&self.start, first),
+            axis,
+            left: count,
+        }
     }
 }

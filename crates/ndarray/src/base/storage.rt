@@ -73,19 +73,6 @@ pub trait DataMut: Data {
         ensures reaches { HasElements D.numbers result }
         ensures same { array_in D.numbers result ≡ array.old };
 
-    /// Has a writer write all cells of an array as one slice, where they are one in row order; else the
-    /// writer comes back.
-    fn write_cells<D: Lengths, R, W: CellWriter<Self::Elem, R>>(
-        array: &mut ArrayBase<Self, D>,
-        writer: W,
-    ) -> Result<R, W>
-        requires { W.can_write writer array.old.cells }
-        ensures done { IfOk result (λ r. (array.new.lengths ≡ array.old.lengths) × W.writes writer array.old.cells r array.new.cells × IsGrid array.new) }
-        ensures back { IfErr result (λ w. (w ≡ writer) × (array.new ≡ array.old)) }
-    {
-        Err(writer)
-    }
-
     // What is written at a place is the element there.
     ghost written_here: { (s : Self) (k : ℕ) (w : Self.Elem) → IsTrue (is_some (Self.at s k)) → Self.at (with_element s k w) k ≡ Some w };
 
@@ -94,20 +81,6 @@ pub trait DataMut: Data {
 
     // No two index lists reach one element.
     ghost is_apart: { (s : Self) → Self.apart s };
-}
-
-/// What writes the elements of a slice, and answers an `R`.
-pub trait CellWriter<A, R>: Drop {
-    // Whether it may write to a slice of these elements.
-    ghost can_write: { Self → List A → Type 0 };
-
-    // Whether it may give this answer and leave the second elements where the first were.
-    ghost writes: { Self → List A → R → List A → Type 0 };
-
-    /// Writes them.
-    fn write(self, slice: &mut [A]) -> R
-        requires { can_write self slice.old }
-        ensures { writes self slice.old result slice.new };
 }
 
 /// What owns its elements.
@@ -239,13 +212,6 @@ impl<A: Drop> DataMut for OwnedRepr<A> {
 
     fn region_parts<D: Lengths>(array: &mut ArrayBase<Self, D>) -> RegionParts<'_, A, D> {
         array.owned_region_parts()
-    }
-
-    fn write_cells<D: Lengths, R, W: CellWriter<A, R>>(
-        array: &mut ArrayBase<Self, D>,
-        writer: W,
-    ) -> Result<R, W> {
-        array.write_slice(writer)
     }
 
     ghost written_here = { λ s k w h. slice_set-here s.items.items k w h };

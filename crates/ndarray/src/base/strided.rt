@@ -1,7 +1,7 @@
 //! Elements that lie a step apart, one after another: for `base`, `iter` and `linalg`.
 
-ghost use Rattle.std.specs.Prelude.{◌≡◌, [], ◌<◌, All, length, filter_map};
-ghost use Rattle.std.specs.Iterator.{YieldsFirstRef, YieldsLastRef};
+ghost use Rattle.std.specs.Prelude.{◌≡◌, [], ◌<◌, All, length, filter_map, IfSome};
+ghost use Rattle.std.specs.Iterator.{YieldsFirstRef, YieldsLastRef, item_count};
 ghost use Rattle.ndarray.specs.Grid.{cell};
 ghost use Rattle.ndarray.specs.Index.{InBox};
 ghost use Rattle.ndarray.specs.base.Ranks.{row_from};
@@ -34,6 +34,19 @@ impl<'a, A> Model for Strided<'a, A> {
 }
 
 impl<'a, A> Strided<'a, A> {
+    /// The elements of a slice.
+    #[inline(always)]
+    pub(crate) fn over(slice: &'a [A]) -> Self
+        ensures { result ≡ slice.now }
+    {
+        Strided {
+            storage: ViewRepr::Slice(slice),
+            place: 0,
+            step: 1,
+            left: slice.len(),
+        }
+    }
+
     /// How many are still to come.
     pub(crate) fn len(&self) -> usize
         ensures { result ≡ length self.now }
@@ -67,6 +80,20 @@ impl<'a, A> Strided<'a, A> {
         Some(self.storage.get(place))
     }
 
+    /// The elements as a slice, where they are known to lie side by side.
+    #[inline(always)]
+    pub(crate) fn side_by_side(&self) -> Option<&'a [A]>
+        ensures { IfSome result (λ s. s.now ≡ self.now) }
+    {
+        if self.step != 1 || self.left == 0 {
+            return None;
+        }
+        if self.left > usize::MAX - self.place {
+            return None;
+        }
+        Some(self.storage.elements_from(self.place, self.left))
+    }
+
     /// The same once more.
     pub(crate) fn again(&self) -> Self
         ensures { result ≡ self.now }
@@ -77,6 +104,19 @@ impl<'a, A> Strided<'a, A> {
             step: self.step,
             left: self.left,
         }
+    }
+}
+
+impl<'a, A> Iterator for Strided<'a, A> {
+    type Item = &'a A;
+
+    ghost next_gives = { YieldsFirstRef (λ rest. rest) };
+
+    ghost remaining = { item_count (λ rest. rest) };
+
+    #[inline(always)]
+    fn next(&mut self) -> Option<&'a A> {
+        Strided::next(self)
     }
 }
 

@@ -14,8 +14,7 @@ use crate::base::array::{Array, ArrayBase, ArrayViewMut};
 use crate::base::dimension::Lengths;
 use crate::base::layout::Layout;
 use crate::base::region::{Life, RegionRepr};
-use crate::base::shape::Order;
-use crate::base::storage::{CellWriter, DataMut};
+use crate::base::storage::DataMut;
 
 /// A view to write in before it is one: the elements, and how the cells lie among them.
 #[derive(Drop)]
@@ -57,64 +56,6 @@ impl<A: Drop, D: Lengths> Array<A, D> {
             layout,
             slice: self.storage.items.as_mut_slice(),
         }
-    }
-
-    /// Has a writer write all cells as one slice, where they lie side by side in row order; else the writer
-    /// comes back.
-    pub(crate) fn write_slice<R, W: CellWriter<A, R>>(&mut self, writer: W) -> Result<R, W>
-        requires { W.can_write writer self.old.cells }
-        ensures done { IfOk result (λ r. (self.new.lengths ≡ self.old.lengths) × W.writes writer self.old.cells r self.new.cells × IsGrid self.new) }
-        ensures back { IfErr result (λ w. (w ≡ writer) × (self.new ≡ self.old)) }
-    {
-        let len = self.layout.dim.size();
-        if len == 0 || !self.layout.is_row_major() {
-            return Err(writer);
-        }
-        let items = self.storage.items.as_mut_slice();
-        Ok(write_part(items, self.layout.start, len, writer))
-    }
-}
-
-/// Has a writer write the `len` elements from `from` on.
-fn write_part<A, R, W: CellWriter<A, R>>(slice: &mut [A], from: usize, len: usize, writer: W) -> R
-    requires within { from + len ≤ length slice.old }
-    requires can { W.can_write writer (take len (drop from slice.old)) }
-    ensures { W.writes writer (take len (drop from slice.old)) result (take len (drop from slice.new)) }
-{
-    let end = from + len;
-    writer.write(&mut slice[from..end])
-}
-
-impl<S: DataMut, D: Lengths> ArrayBase<S, D> {
-    /// Has a writer write all cells in an order as one slice, where they are one; else the writer comes back.
-    #[tactic(auto, using(crate::proofs::strides::OrderedCells::cells_in_rows, crate::proofs::strides::OrderedCells::cells_in_columns))]
-    pub(crate) fn write_cells_in<R, W: CellWriter<S::Elem, R>>(
-        &mut self,
-        order: Order,
-        writer: W,
-    ) -> Result<R, W>
-        requires whole { IsGrid self.old }
-        requires can { W.can_write writer (cells_in order self.old) }
-        ensures done { IfOk result (λ r. (self.new.lengths ≡ self.old.lengths) × W.writes writer (cells_in order self.old) r (cells_in order self.new) × IsGrid self.new) }
-        ensures back { IfErr result (λ w. (w ≡ writer) × (self.new ≡ self.old)) }
-    {
-        match order {
-            Order::RowMajor => S::write_cells(self, writer),
-            Order::ColumnMajor => {
-                self.reverse_axes();
-                let written = S::write_cells(self, writer);
-                self.reverse_axes();
-                written
-            }
-        }
-    }
-
-    /// Puts the axes from the last to the first.
-    fn reverse_axes(&mut self)
-        ensures value { self.new ≡ transpose_of self.old }
-        ensures whole { IsGrid self.new }
-    {
-        self.layout = self.layout.reversed_axes();
     }
 }
 

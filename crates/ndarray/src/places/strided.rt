@@ -1,9 +1,10 @@
 //! The places of cells, row by row: on a row each is a stride after the one before.
 
-ghost use Rattle.std.specs.Prelude.{◌≡◌, ◌<◌, ◌^◌, length};
-ghost use Rattle.std.specs.Iterator.{YieldsFirst, YieldsLast};
+ghost use Rattle.std.specs.Prelude.{◌≡◌, ◌+◌, ◌<◌, ◌^◌, length, IfSome};
+ghost use Rattle.std.specs.Iterator.{YieldsFirst, YieldsLast, item_count};
 ghost use Rattle.ndarray.specs.Limits.{IsWithinLimit};
 ghost use Rattle.ndarray.specs.Orders.{box_in};
+ghost use Rattle.ndarray.specs.base.Strided.{places_from};
 ghost use Rattle.ndarray.specs.places.ElementPlaces.{places_along};
 
 use crate::base::dimension::{Ix1, Lengths};
@@ -13,10 +14,10 @@ use std::marker::Model;
 
 /// The places of one row that are still to come: `left` of them, each a stride after the one before.
 #[derive(Drop)]
-struct PlaceRow {
-    place: usize,
-    stride: usize,
-    left: usize,
+pub struct PlaceRow {
+    pub(crate) place: usize,
+    pub(crate) stride: usize,
+    pub(crate) left: usize,
 }
 
 impl Model for PlaceRow {
@@ -30,15 +31,26 @@ impl Model for PlaceRow {
 
 impl PlaceRow {
     /// How many are still to come.
-    fn len(&self) -> usize
+    pub(crate) fn len(&self) -> usize
         ensures { result ≡ length self.now }
     {
         self.left
     }
 
+    /// The first place, where there is one and the places are known to follow one another.
+    #[inline(always)]
+    pub(crate) fn run_start(&self) -> Option<usize>
+        ensures { IfSome result (λ p. (self.now ≡ places_from p 1 (length self.now)) × (0 < length self.now) × (p + length self.now < 2 ^ 64)) }
+    {
+        if self.stride != 1 || self.left == 0 || self.left > usize::MAX - self.place {
+            return None;
+        }
+        Some(self.place)
+    }
+
     /// The next place.
     #[inline(always)]
-    fn next(&mut self) -> Option<usize>
+    pub(crate) fn next(&mut self) -> Option<usize>
         ensures { YieldsFirst (λ rest. rest) self.old result self.new }
     {
         if self.left == 0 {
@@ -59,6 +71,19 @@ impl PlaceRow {
         }
         self.left -= 1;
         Some(self.place.wrapping_add(self.left.wrapping_mul(self.stride)))
+    }
+}
+
+impl Iterator for PlaceRow {
+    type Item = usize;
+
+    ghost next_gives = { YieldsFirst (λ rest. rest) };
+
+    ghost remaining = { item_count (λ rest. rest) };
+
+    #[inline(always)]
+    fn next(&mut self) -> Option<usize> {
+        PlaceRow::next(self)
     }
 }
 
@@ -127,6 +152,19 @@ impl<D: Lengths> StridedPlaces<D> {
             unreachable!()
         };
         Some(place)
+    }
+}
+
+impl<D: Lengths> Iterator for StridedPlaces<D> {
+    type Item = usize;
+
+    ghost next_gives = { YieldsFirst (λ rest. rest) };
+
+    ghost remaining = { item_count (λ rest. rest) };
+
+    #[inline(always)]
+    fn next(&mut self) -> Option<usize> {
+        StridedPlaces::next(self)
     }
 }
 

@@ -128,6 +128,25 @@ impl<'a, A, T: PieceLayoutsFromEnds> DoubleEndedIterator for PiecesIterMut<'a, A
     }
 }
 
+impl<'a, A: 'a, T: PieceLayouts> PiecesIterMut<'a, A, T> {
+    /// Takes the sub-views that lie there out of a region: others, apart from them, stay as they are.
+    #[inline(always)]
+    pub(super) fn taken_from(region: &mut RegionRepr<Life<'a>, A>, layouts: T) -> Self
+        requires { Shares (held_at region.old.slots) (T.layouts layouts) }
+        ensures value { result ≡ grids_at (held_at region.old.slots) (T.layouts layouts) }
+        ensures others { (rest : List CellLayout) → SharesBoth (held_at region.old.slots) (T.layouts layouts) rest → Shares (held_at region.new.slots) rest × (grids_at (held_at region.new.slots) rest ≡ grids_at (held_at region.old.slots) rest) }
+    {
+        let whole = replace(region, RegionRepr::of(&mut []));
+        let (here, others) = whole.split(&layouts);
+        *region = others;
+        PiecesIterMut {
+            region: here,
+            layouts,
+            lifetime: PhantomData,
+        }
+    }
+}
+
 impl<'a, A, T: PieceLayoutsFromEnds> PiecesIterMut<'a, A, T> {
     /// The first `index` sub-views still to come, and the rest. O(1).
     ///

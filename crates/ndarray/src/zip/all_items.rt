@@ -15,7 +15,7 @@ use crate::zip::calls::{FoldCall, ItemCall};
 use crate::zip::collecting::collect_items;
 use crate::zip::fold_while::FoldWhile;
 use crate::zip::producer::{NdProducer, preferred_order};
-use crate::zip::walks::{all_items, any_items, fold_items, fold_items_while, visit_items};
+use crate::zip::turns::{all_items, any_items, fold_items, fold_items_while, visit_items};
 use crate::zip::{Parts, Zip};
 use std::alloc::{AllocError, Global};
 

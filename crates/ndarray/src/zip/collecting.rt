@@ -18,7 +18,7 @@ use crate::order::Order;
 use crate::zip::calls::ItemCall;
 use crate::zip::pair::Pair;
 use crate::zip::producer::{NdProducer, preferred_order};
-use crate::zip::turns::{Turn, take_items};
+use crate::zip::walk::{Turn, take_items};
 use std::alloc::{AllocError, Global};
 use std::marker::Model;
 

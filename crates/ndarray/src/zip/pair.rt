@@ -2,6 +2,7 @@
 
 ghost use Rattle.std.specs.Prelude.{◌≡◌};
 ghost use Rattle.ndarray.specs.Producers.{both, steps_of_both};
+ghost use Rattle.ndarray.specs.Rows.{AsLong};
 
 use crate::base::axis::Axis;
 use crate::order::Order;
@@ -98,6 +99,49 @@ impl<P: NdProducer, Q: NdProducer> NdProducer for Pair<P, Q> {
         let (first, second) = flat;
         P::run_flat(first).zip(Q::run_flat(second))
     }
+
+    type Row = (P::Row, Q::Row);
+
+    type Rows = PairRun<P::Rows, Q::Rows>;
+
+    type RowRun = PairRow<P::RowRun, Q::RowRun>;
+
+    type FlatRow = PairRow<P::FlatRow, Q::FlatRow>;
+
+    ghost row_form = { λ s is r. P.row_form s.first is r.0 × Q.row_form s.second is r.1 };
+
+    ghost is_flat = { λ r. P.is_flat r.0 × Q.is_flat r.1 };
+
+    fn into_rows(self, order: Order) -> PairRun<P::Rows, Q::Rows> {
+        let Pair { first, second } = self;
+        PairRun {
+            first: first.into_rows(order),
+            second: second.into_rows(order),
+        }
+    }
+
+    #[inline(always)]
+    fn is_flat_row(row: &(P::Row, Q::Row)) -> bool {
+        P::is_flat_row(&row.0) && Q::is_flat_row(&row.1)
+    }
+
+    #[inline(always)]
+    fn flat_row(row: (P::Row, Q::Row)) -> PairRow<P::FlatRow, Q::FlatRow> {
+        let (first, second) = row;
+        PairRow {
+            first: P::flat_row(first),
+            second: Q::flat_row(second),
+        }
+    }
+
+    #[inline(always)]
+    fn run_row(row: (P::Row, Q::Row)) -> PairRow<P::RowRun, Q::RowRun> {
+        let (first, second) = row;
+        PairRow {
+            first: P::run_row(first),
+            second: Q::run_row(second),
+        }
+    }
 }
 
 /// The items of two runs, side by side. Its step is inlined, where that of the standard library's is a call.
@@ -126,6 +170,37 @@ where
         };
         let Some(y) = self.second.next() else {
             return None;
+        };
+        Some((x, y))
+    }
+}
+
+/// The items of two rows of one length, side by side: the second cannot end before the first.
+#[derive(Drop)]
+pub struct PairRow<R, S> {
+    first: R,
+    second: S,
+}
+
+impl<R: Iterator, S: Iterator> Iterator for PairRow<R, S>
+where
+    R::Item: Drop,
+{
+    type Item = (R::Item, S::Item);
+
+    ghost can_next = { λ s. R.can_next s.first × (S.can_next s.second × AsLong R.next_gives S.next_gives s.first s.second) };
+
+    ghost next_gives = { steps_of_both (λ s. s.first) (λ s. s.second) R.next_gives S.next_gives };
+
+    ghost remaining = { λ s. R.remaining s.first };
+
+    #[inline(always)]
+    fn next(&mut self) -> Option<(R::Item, S::Item)> {
+        let Some(x) = self.first.next() else {
+            return None;
+        };
+        let Some(y) = self.second.next() else {
+            unreachable!()
         };
         Some((x, y))
     }

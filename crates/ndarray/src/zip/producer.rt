@@ -1,16 +1,19 @@
 //! What can be walked together: producers, and what becomes one.
 
-ghost use Rattle.std.specs.Prelude.{◌≡◌, ℕ, ◌<◌, ◌≤◌, List, length, slice_index, IfOk, IfErr};
+ghost use Rattle.std.specs.Prelude.{◌≡◌, ℕ, ◌<◌, ◌≤◌, List, length, slice_index, IfOk, IfErr, IsTrue};
 ghost use Rattle.std.specs.Iterator.{IsFinite};
+ghost use Rattle.std.specs.Iterator.Adapters.{once_item};
 ghost use Rattle.ndarray.specs.Broadcast.{BroadcastsTo};
 ghost use Rattle.ndarray.specs.Limits.{IsWithinLimit};
 ghost use Rattle.ndarray.specs.Orders.{box_in};
 ghost use Rattle.ndarray.specs.Producers.{YieldsInTurn, IsPart, IsRefinedBy};
+ghost use Rattle.ndarray.specs.Rows.{rows_in, RowsInTurn, some_unless_none};
 ghost use Rattle.ndarray.specs.declared.base.shape.Order.{Order};
 
 use crate::base::axis::Axis;
 use crate::base::dimension::Lengths;
 use crate::order::Order;
+use std::iter::Once;
 
 /// What has lengths.
 pub trait Shaped {
@@ -89,6 +92,49 @@ pub trait NdProducer: Shaped + Drop + Sized {
         ensures can { Self.FlatRun.can_next result }
         ensures finite { IsFinite (Self.FlatRun.remaining result) }
         ensures gives { (p : Self) (o : Order) → flat_form p o flat → YieldsInTurn Self.FlatRun.next_gives (yields_at p) result (box_in o (Self.lengths p)) };
+
+    /// A row: the items at some index lists, one after another along the axis that varies fastest in an order.
+    type Row: Drop;
+
+    /// The rows, one after another.
+    type Rows: Iterator<Item = Self::Row>;
+
+    /// The items of a row, one after another.
+    type RowRun: Iterator<Item = Self::Item>;
+
+    /// The items of a row that lie side by side, so that a run over them takes no strides.
+    type FlatRow: Iterator<Item = Self::Item>;
+
+    // Whether a row is that of a producer at these index lists.
+    ghost row_form: { Self → List (List ℕ) → Self.Row → Type 0 };
+
+    // Whether the items of a row lie side by side.
+    ghost is_flat: { Self.Row → Type 0 };
+
+    /// The rows, in the order.
+    fn into_rows(self, order: Order) -> Self::Rows
+        ensures can { Self.Rows.can_next result }
+        ensures finite { IsFinite (Self.Rows.remaining result) }
+        ensures gives { RowsInTurn Self.Rows.next_gives (row_form self) result (rows_in order (Self.lengths self)) };
+
+    /// Whether the items of a row are known to lie side by side.
+    fn is_flat_row(row: &Self::Row) -> bool
+        ensures { IsTrue result → is_flat row.now };
+
+    /// The items of a row that lie side by side.
+    fn flat_row(row: Self::Row) -> Self::FlatRow
+        requires flat { is_flat row }
+        requires form { (p : Self) × ((is : List (List ℕ)) × row_form p is row) }
+        ensures can { Self.FlatRow.can_next result }
+        ensures finite { IsFinite (Self.FlatRow.remaining result) }
+        ensures gives { (p : Self) (is : List (List ℕ)) → row_form p is row → YieldsInTurn Self.FlatRow.next_gives (yields_at p) result is };
+
+    /// The items of a row, however they lie.
+    fn run_row(row: Self::Row) -> Self::RowRun
+        requires { (p : Self) × ((is : List (List ℕ)) × row_form p is row) }
+        ensures can { Self.RowRun.can_next result }
+        ensures finite { IsFinite (Self.RowRun.remaining result) }
+        ensures gives { (p : Self) (is : List (List ℕ)) → row_form p is row → YieldsInTurn Self.RowRun.next_gives (yields_at p) result is };
 }
 
 /// A producer whose clones have its lengths.
@@ -151,4 +197,15 @@ impl<P: NdProducer> IntoNdProducer for P {
 /// The order in which a producer is walked.
 pub(crate) fn preferred_order<P: NdProducer>(p: &P) -> Order {
     Order::by_tendency(p.tendency())
+}
+
+/// The one row of a producer of one axis. Where that is empty there is none.
+pub(crate) fn one_row<R: Drop>(row: R, len: usize) -> Once<R>
+    ensures { once_item result ≡ some_unless_none len row }
+{
+    if len == 0 {
+        None.into_iter()
+    } else {
+        Some(row).into_iter()
+    }
 }

@@ -1,18 +1,24 @@
 //! Subviews as producers.
 
-ghost use Rattle.std.specs.Prelude.{◌≡◌, ◌∷◌, [], length, Some};
+ghost use Rattle.std.specs.Prelude.{◌≡◌, ◌∷◌, [], length, Some, filter_map, ⊤};
+ghost use Rattle.std.specs.Iterator.{YieldsFirst, item_count};
 ghost use Rattle.std.proofs.Common.{ap};
-ghost use Rattle.ndarray.specs.Grid.{cell, one_axis};
+ghost use Rattle.ndarray.specs.Grid.{cell, one_axis, HasCells};
+ghost use Rattle.ndarray.specs.Producers.{YieldsInTurn};
 ghost use Rattle.ndarray.specs.declared.base.shape.Order.TheVariants.{RowMajor};
 
 use crate::base::array::ArrayView;
 use crate::base::axis::Axis;
 use crate::base::dimension::{Ix1, Lengths};
 use crate::order::Order;
+use crate::order::rows::BoxRows;
 use crate::subviews::axis::AxisIter;
+use crate::subviews::piece_rows::PieceRow;
 use crate::subviews::pieces::{Pieces, PiecesIter};
 use crate::subviews::windows::{AxisWindows, WindowsIter};
-use crate::zip::producer::{KeepsLengths, NdProducer, Shaped};
+use crate::zip::producer::{KeepsLengths, NdProducer, Shaped, one_row};
+use std::iter::Once;
+use std::marker::Model;
 
 impl<'a, A, P: Lengths, D: Lengths> Shaped for Pieces<'a, A, P, D> {
     ghost lengths = { λ s. s.lengths };
@@ -51,6 +57,72 @@ impl<'a, A, P: Lengths, D: Lengths> NdProducer for Pieces<'a, A, P, D> {
 
     fn run_flat(flat: Self) -> PiecesIter<'a, A, P, D> {
         flat.run(Order::RowMajor)
+    }
+
+    type Row = PieceRow<'a, A, D>;
+
+    type Rows = PieceRows<'a, A, P, D>;
+
+    type RowRun = PieceRow<'a, A, D>;
+
+    type FlatRow = PieceRow<'a, A, D>;
+
+    ghost row_form = { λ s is r. (r ≡ filter_map (cell s) is) × HasCells s is };
+
+    ghost is_flat = { λ _. ⊤ };
+
+    fn into_rows(self, order: Order) -> PieceRows<'a, A, P, D> {
+        let rows = BoxRows::new(self.raw_dim(), order);
+        PieceRows { pieces: self, rows }
+    }
+
+    fn is_flat_row(_row: &PieceRow<'a, A, D>) -> bool {
+        true
+    }
+
+    #[inline(always)]
+    fn flat_row(row: PieceRow<'a, A, D>) -> PieceRow<'a, A, D> {
+        row
+    }
+
+    #[inline(always)]
+    fn run_row(row: PieceRow<'a, A, D>) -> PieceRow<'a, A, D> {
+        row
+    }
+}
+
+/// The rows of pieces that are still to come.
+#[derive(Drop)]
+pub struct PieceRows<'a, A, P: Lengths, D: Lengths> {
+    pieces: Pieces<'a, A, P, D>,
+    rows: BoxRows<P>,
+}
+
+impl<'a, A, P: Lengths, D: Lengths> Model for PieceRows<'a, A, P, D> {
+    ghost use Rattle.std.specs.Prelude.{List, map, filter_map};
+    ghost use Rattle.ndarray.specs.Grid.{Grid, cell};
+    ghost use Rattle.ndarray.specs.Rows.{HasRows};
+
+    ghost Value = { List (List (Grid A)) };
+
+    ghost view = { λ s. map (filter_map (cell s.pieces)) s.rows };
+
+    ghost invariant = { λ s. HasRows s.pieces s.rows };
+}
+
+impl<'a, A, P: Lengths, D: Lengths> Iterator for PieceRows<'a, A, P, D> {
+    type Item = PieceRow<'a, A, D>;
+
+    ghost next_gives = { YieldsFirst (λ rest. rest) };
+
+    ghost remaining = { item_count (λ rest. rest) };
+
+    #[inline(always)]
+    fn next(&mut self) -> Option<PieceRow<'a, A, D>> {
+        let Some(row) = self.rows.next() else {
+            return None;
+        };
+        Some(self.pieces.pieces_along(&row.first, row.axis, row.count))
     }
 }
 
@@ -103,6 +175,37 @@ impl<'a, A, D: Lengths> NdProducer for AxisWindows<'a, A, D> {
     fn run_flat(flat: Self) -> WindowsIter<'a, A, D> {
         flat.run(Order::RowMajor)
     }
+
+    type Row = WindowsIter<'a, A, D>;
+
+    type Rows = Once<WindowsIter<'a, A, D>>;
+
+    type RowRun = WindowsIter<'a, A, D>;
+
+    type FlatRow = WindowsIter<'a, A, D>;
+
+    ghost row_form = { λ s is r. YieldsInTurn (YieldsFirst (λ rest. rest)) (λ i x. cell s i ≡ Some x) r is };
+
+    ghost is_flat = { λ _. ⊤ };
+
+    fn into_rows(self, order: Order) -> Once<WindowsIter<'a, A, D>> {
+        let len = self.pieces.raw_dim().size();
+        one_row(self.run(order), len)
+    }
+
+    fn is_flat_row(_row: &WindowsIter<'a, A, D>) -> bool {
+        true
+    }
+
+    #[inline(always)]
+    fn flat_row(row: WindowsIter<'a, A, D>) -> WindowsIter<'a, A, D> {
+        row
+    }
+
+    #[inline(always)]
+    fn run_row(row: WindowsIter<'a, A, D>) -> WindowsIter<'a, A, D> {
+        row
+    }
 }
 
 impl<'a, A, D: Lengths> Shaped for AxisIter<'a, A, D> {
@@ -142,6 +245,37 @@ impl<'a, A, D: Lengths> NdProducer for AxisIter<'a, A, D> {
 
     fn run_flat(flat: Self) -> AxisIter<'a, A, D> {
         flat.run(Order::RowMajor)
+    }
+
+    type Row = AxisIter<'a, A, D>;
+
+    type Rows = Once<AxisIter<'a, A, D>>;
+
+    type RowRun = AxisIter<'a, A, D>;
+
+    type FlatRow = AxisIter<'a, A, D>;
+
+    ghost row_form = { λ s is r. YieldsInTurn (YieldsFirst (λ rest. rest)) (λ i x. cell (one_axis s) i ≡ Some x) r is };
+
+    ghost is_flat = { λ _. ⊤ };
+
+    fn into_rows(self, order: Order) -> Once<AxisIter<'a, A, D>> {
+        let len = self.raw_dim().size();
+        one_row(self.run(order), len)
+    }
+
+    fn is_flat_row(_row: &AxisIter<'a, A, D>) -> bool {
+        true
+    }
+
+    #[inline(always)]
+    fn flat_row(row: AxisIter<'a, A, D>) -> AxisIter<'a, A, D> {
+        row
+    }
+
+    #[inline(always)]
+    fn run_row(row: AxisIter<'a, A, D>) -> AxisIter<'a, A, D> {
+        row
     }
 }
 

@@ -1,142 +1,231 @@
-//! The walk over all items of a producer: whole where they lie side by side, else in parts that do.
+//! What is done with the items of a producer: one small type for each kind of turn, and the walk with it.
 
-ghost use Rattle.std.specs.Prelude.{◌≡◌, IfOk, IfErr, MatchResult, Ok, Err};
-ghost use Rattle.std.specs.Iterator.{IsFinite};
+ghost use Rattle.std.specs.Prelude.{◌≡◌, true, false};
 ghost use Rattle.ndarray.specs.Orders.{box_in};
-ghost use Rattle.ndarray.specs.Producers.{YieldsInTurn, IsRefinedBy};
-ghost use Rattle.ndarray.specs.Runs.{MayTurnAt, TurnAt, TakesAt, StopsAt, EndsOrStops};
-ghost use Rattle.ndarray.specs.declared.base.shape.Order.{Order};
+ghost use Rattle.ndarray.specs.Runs.{MayFold, Folds, FoldTurn, MayVisit, Visits, AnswerTurn, MayTest, TestsUntil, MayFoldWhile, FoldsWhile, GoTurn};
+ghost use Rattle.ndarray.specs.declared.zip.fold_while.FoldWhile.TheVariants.{Done};
 
-use crate::base::dimension::Lengths;
-use crate::order::{Order, slowest_axis};
+use crate::order::Order;
+use crate::zip::calls::{FoldCall, ItemCall};
+use crate::zip::fold_while::FoldWhile;
 use crate::zip::producer::NdProducer;
+use crate::zip::walk::{Turn, take_items};
+use std::convert::Infallible;
+use std::marker::Model;
 
-/// What takes items one after another, up to one at which it stops.
-pub(crate) trait Turn<X>: Drop + Sized {
-    /// What it stops with.
-    type Stop;
-
-    // Whether it may take an item.
-    ghost can_take: { Self → X → Type 0 };
-
-    // Whether it may go on from an item as this.
-    ghost goes: { Self → X → Self → Type 0 };
-
-    // Whether it may stop at an item with this.
-    ghost stops: { Self → X → Self.Stop → Type 0 };
-
-    /// Takes an item.
-    fn take(self, item: X) -> Result<Self, Self::Stop>
-        requires { can_take self item }
-        ensures { MatchResult result (goes self item) (stops self item) };
+/// A closure, and the total of its calls so far.
+struct Folding<C, B> {
+    f: C,
+    total: B,
 }
 
-/// What has taken all items of a producer, and whether these lay side by side, all or in parts.
+impl<C, B> Model for Folding<C, B> {
+    ghost Value = { C × B };
+
+    ghost view = { λ s. (s.f, s.total) };
+}
+
+impl<X, B, C: FoldCall<B, X, Out = B>> Turn<X> for Folding<C, B> {
+    type Stop = Infallible;
+
+    ghost can_take = { λ s x. C.can_call s.0 s.1 x };
+
+    ghost goes = { FoldTurn C.call_gives };
+
+    ghost stops = { λ _ _ _. ⊥ };
+
+    #[inline(always)]
+    fn take(self, item: X) -> Result<Folding<C, B>, Infallible> {
+        let Folding { mut f, total } = self;
+        let total = f.call(total, item);
+        Ok(Folding { f, total })
+    }
+}
+
+/// Calls a closure at the total and each item in turn; each answer is the next total.
+pub(crate) fn fold_items<P: NdProducer, B, C: FoldCall<B, P::Item, Out = B>>(
+    p: P,
+    order: Order,
+    init: B,
+    f: C,
+) -> B
+    requires callable { MayFold (P.yields_at p) C.call_gives C.can_call (box_in order (P.lengths p)) f init }
+    ensures ran { Folds (P.yields_at p) C.call_gives (box_in order (P.lengths p)) f init result }
+{
+    match take_items(p, order, Folding { f, total: init }) {
+        Ok(Folding { f: _f, total }) => total,
+        Err(_) => unreachable!(),
+    }
+}
+
+/// A closure to be called at items, whose answers say nothing.
 #[derive(Drop)]
-pub(crate) struct Taken<T> {
-    pub(crate) turn: T,
-    pub(crate) flat: bool,
+struct Visiting<C>(C);
+
+impl<C> Model for Visiting<C> {
+    ghost Value = { C };
+
+    ghost view = { λ s. s.0 };
 }
 
-/// Has all items of a producer taken in an order, one after another.
-///
-/// Where they do not lie side by side the producer is cut along the slowest axis, index by index, down to parts whose
-/// items do, as the rows of a table beside a row that is broadcast.
-pub(crate) fn take_items<P: NdProducer, T: Turn<P::Item>>(
-    p: P,
-    order: Order,
-    turn: T,
-) -> Result<T, T::Stop>
-    requires can { MayTurnAt (TurnAt (P.yields_at p) T.goes) (TakesAt (P.yields_at p) T.can_take) turn (box_in order (P.lengths p)) }
-    ensures ran { EndsOrStops (TurnAt (P.yields_at p) T.goes) (StopsAt (P.yields_at p) T.stops) turn (box_in order (P.lengths p)) result }
-{
-    match take_parts(p, order, turn) {
-        Ok(taken) => Ok(taken.turn),
-        Err(stop) => Err(stop),
+impl<X, C: ItemCall<X, Out = ()>> Turn<X> for Visiting<C> {
+    type Stop = Infallible;
+
+    ghost can_take = { C.can_call };
+
+    ghost goes = { AnswerTurn C.call_gives tt };
+
+    ghost stops = { λ _ _ _. ⊥ };
+
+    #[inline(always)]
+    fn take(self, item: X) -> Result<Visiting<C>, Infallible> {
+        let Visiting(mut f) = self;
+        f.call(item);
+        Ok(Visiting(f))
     }
 }
 
-/// The same, noting whether they lay side by side, all or in parts.
-#[cycle(parts)]
-#[inline(always)]
-fn take_parts<P: NdProducer, T: Turn<P::Item>>(
-    p: P,
-    order: Order,
-    turn: T,
-) -> Result<Taken<T>, T::Stop>
-    requires can { MayTurnAt (TurnAt (P.yields_at p) T.goes) (TakesAt (P.yields_at p) T.can_take) turn (box_in order (P.lengths p)) }
-    ensures ran { MatchResult result (λ taken. EndsOrStops (TurnAt (P.yields_at p) T.goes) (StopsAt (P.yields_at p) T.stops) turn (box_in order (P.lengths p)) (Ok taken.turn)) (λ stop. EndsOrStops (TurnAt (P.yields_at p) T.goes) (StopsAt (P.yields_at p) T.stops) turn (box_in order (P.lengths p)) (Err stop)) }
+/// Calls a closure at each item in turn.
+pub(crate) fn visit_items<P: NdProducer, C: ItemCall<P::Item, Out = ()>>(p: P, order: Order, f: C)
+    requires callable { MayVisit (P.yields_at p) C.call_gives C.can_call (box_in order (P.lengths p)) f }
+    ensures ran { Visits (P.yields_at p) C.call_gives (box_in order (P.lengths p)) f }
 {
-    match p.try_flat(order) {
-        Ok(flat) => note_flat(take_run::<P, _, _>(P::run_flat(flat), turn), true),
-        Err(p) => take_cut(p, order, turn),
+    match take_items(p, order, Visiting(f)) {
+        Ok(_) => {}
+        Err(_) => unreachable!(),
     }
 }
 
-/// The same of a producer that is cut, since its items do not lie side by side.
-#[cycle(parts)]
-fn take_cut<P: NdProducer, T: Turn<P::Item>>(
-    p: P,
-    order: Order,
-    turn: T,
-) -> Result<Taken<T>, T::Stop>
-    requires can { MayTurnAt (TurnAt (P.yields_at p) T.goes) (TakesAt (P.yields_at p) T.can_take) turn (box_in order (P.lengths p)) }
-    ensures ran { MatchResult result (λ taken. EndsOrStops (TurnAt (P.yields_at p) T.goes) (StopsAt (P.yields_at p) T.stops) turn (box_in order (P.lengths p)) (Ok taken.turn)) (λ stop. EndsOrStops (TurnAt (P.yields_at p) T.goes) (StopsAt (P.yields_at p) T.stops) turn (box_in order (P.lengths p)) (Err stop)) }
-{
-    let Some(cut) = slowest_axis(order, &p.raw_dim()) else {
-        return note_flat(take_run::<P, _, _>(p.run(order), turn), false);
-    };
-    // One index of the axis after another, and no halves: a part that is flat then costs no further call of this function.
-    let mut p = p;
-    let mut turn = turn;
-    for done in 1..cut.len {
-        let (first, rest) = p.split_at(cut.axis, 1);
-        p = rest;
-        match take_parts(first, order, turn) {
-            Err(stop) => return Err(stop),
-            Ok(Taken { turn: next, flat }) => {
-                turn = next;
-                if !flat {
-                    // Where the first part has no flat parts, the rest is not cut again.
-                    return note_flat(take_run::<P, _, _>(p.run(order), turn), false);
-                }
-            }
+/// A closure that has answered `true` at each item.
+#[derive(Drop)]
+struct WhileTrue<C>(C);
+
+impl<C> Model for WhileTrue<C> {
+    ghost Value = { C };
+
+    ghost view = { λ s. s.0 };
+}
+
+impl<X, C: ItemCall<X, Out = bool>> Turn<X> for WhileTrue<C> {
+    type Stop = ();
+
+    ghost can_take = { C.can_call };
+
+    ghost goes = { AnswerTurn C.call_gives true };
+
+    ghost stops = { λ f x _. (h : C) × C.call_gives f x false h };
+
+    #[inline(always)]
+    fn take(self, item: X) -> Result<WhileTrue<C>, ()> {
+        let WhileTrue(mut f) = self;
+        if f.call(item) {
+            Ok(WhileTrue(f))
+        } else {
+            Err(())
         }
     }
-    take_parts(p, order, turn)
 }
 
-/// What has taken the items of a run, which are flat or not.
-#[inline(always)]
-pub(crate) fn note_flat<T, E>(ran: Result<T, E>, flat: bool) -> Result<Taken<T>, E>
-    ensures { MatchResult result (λ taken. ran ≡ Ok taken.turn) (λ stop. ran ≡ Err stop) }
+/// Whether a closure answers `true` at each item; it stops at the first `false`.
+pub(crate) fn all_items<P: NdProducer, C: ItemCall<P::Item, Out = bool>>(
+    p: P,
+    order: Order,
+    f: C,
+) -> bool
+    requires callable { MayTest (P.yields_at p) C.call_gives C.can_call (box_in order (P.lengths p)) f true }
+    ensures ran { TestsUntil (P.yields_at p) C.call_gives (box_in order (P.lengths p)) f true false result }
 {
-    match ran {
-        Ok(turn) => Ok(Taken { turn, flat }),
-        Err(stop) => Err(stop),
-    }
+    take_items(p, order, WhileTrue(f)).is_ok()
 }
 
-/// Has the items of a run over a producer taken, one after another.
-///
-/// It is a function of its own, so that what takes them stays in registers: one that is passed on as well, as in
-/// [`take_cut`], is kept in memory.
-#[inline(never)]
-fn take_run<P: NdProducer, R: Iterator<Item = P::Item>, T: Turn<P::Item>>(
-    mut run: R,
-    turn: T,
-) -> Result<T, T::Stop>
-    requires can_next { R.can_next run }
-    requires finite { IsFinite (R.remaining run) }
-    requires can { (p : P) × ((o : Order) × (YieldsInTurn R.next_gives (P.yields_at p) run (box_in o (P.lengths p)) × MayTurnAt (TurnAt (P.yields_at p) T.goes) (TakesAt (P.yields_at p) T.can_take) turn (box_in o (P.lengths p)))) }
-    ensures ran { (p : P) (o : Order) → YieldsInTurn R.next_gives (P.yields_at p) run (box_in o (P.lengths p)) → EndsOrStops (TurnAt (P.yields_at p) T.goes) (StopsAt (P.yields_at p) T.stops) turn (box_in o (P.lengths p)) result }
-{
-    let mut turn = turn;
-    while let Some(item) = run.next() {
-        match turn.take(item) {
-            Ok(next) => turn = next,
-            Err(stop) => return Err(stop),
+/// A closure that has answered `false` at each item.
+#[derive(Drop)]
+struct WhileFalse<C>(C);
+
+impl<C> Model for WhileFalse<C> {
+    ghost Value = { C };
+
+    ghost view = { λ s. s.0 };
+}
+
+impl<X, C: ItemCall<X, Out = bool>> Turn<X> for WhileFalse<C> {
+    type Stop = ();
+
+    ghost can_take = { C.can_call };
+
+    ghost goes = { AnswerTurn C.call_gives false };
+
+    ghost stops = { λ f x _. (h : C) × C.call_gives f x true h };
+
+    #[inline(always)]
+    fn take(self, item: X) -> Result<WhileFalse<C>, ()> {
+        let WhileFalse(mut f) = self;
+        if f.call(item) {
+            Err(())
+        } else {
+            Ok(WhileFalse(f))
         }
     }
-    Ok(turn)
+}
+
+/// Whether a closure answers `true` at some item; it stops at the first `true`.
+pub(crate) fn any_items<P: NdProducer, C: ItemCall<P::Item, Out = bool>>(
+    p: P,
+    order: Order,
+    f: C,
+) -> bool
+    requires callable { MayTest (P.yields_at p) C.call_gives C.can_call (box_in order (P.lengths p)) f false }
+    ensures ran { TestsUntil (P.yields_at p) C.call_gives (box_in order (P.lengths p)) f false true result }
+{
+    take_items(p, order, WhileFalse(f)).is_err()
+}
+
+/// A closure that has gone on at each item, and the total of its calls.
+struct FoldingWhile<C, B> {
+    f: C,
+    total: B,
+}
+
+impl<C, B> Model for FoldingWhile<C, B> {
+    ghost Value = { C × B };
+
+    ghost view = { λ s. (s.f, s.total) };
+}
+
+impl<X, B, C: FoldCall<B, X, Out = FoldWhile<B>>> Turn<X> for FoldingWhile<C, B> {
+    type Stop = B;
+
+    ghost can_take = { λ s x. C.can_call s.0 s.1 x };
+
+    ghost goes = { GoTurn C.call_gives };
+
+    ghost stops = { λ s x v. (h : C) × C.call_gives s.0 s.1 x (Done v) h };
+
+    #[inline(always)]
+    fn take(self, item: X) -> Result<FoldingWhile<C, B>, B> {
+        let FoldingWhile { mut f, total } = self;
+        match f.call(total, item) {
+            FoldWhile::Continue(total) => Ok(FoldingWhile { f, total }),
+            FoldWhile::Done(last) => Err(last),
+        }
+    }
+}
+
+/// Calls a closure at the total and each item in turn, up to the first answer that is done.
+pub(crate) fn fold_items_while<P: NdProducer, B, C: FoldCall<B, P::Item, Out = FoldWhile<B>>>(
+    p: P,
+    order: Order,
+    init: B,
+    f: C,
+) -> FoldWhile<B>
+    requires callable { MayFoldWhile (P.yields_at p) C.call_gives C.can_call (box_in order (P.lengths p)) f init }
+    ensures ran { FoldsWhile (P.yields_at p) C.call_gives (box_in order (P.lengths p)) f init result }
+{
+    match take_items(p, order, FoldingWhile { f, total: init }) {
+        Ok(folded) => {
+            let FoldingWhile { f: _f, total } = folded;
+            FoldWhile::Continue(total)
+        }
+        Err(last) => FoldWhile::Done(last),
+    }
 }

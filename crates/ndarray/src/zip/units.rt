@@ -1,14 +1,18 @@
 //! A producer of nothing: `()` at each index list of a box.
 
-ghost use Rattle.std.specs.Prelude.{◌≡◌, ⊤};
+ghost use Rattle.std.specs.Prelude.{◌≡◌, ⊤, length};
+ghost use Rattle.std.specs.Iterator.{YieldsFirstBy, item_count};
+ghost use Rattle.std.specs.Iterator.Adapters.{repeat_n_count};
 ghost use Rattle.ndarray.specs.Limits.{IsWithinLimit};
 
 use crate::base::axis::Axis;
 use crate::base::dimension::Lengths;
 use crate::base::index_lists::Indices;
 use crate::order::Order;
+use crate::order::rows::BoxRows;
 use crate::zip::producer::{NdProducer, Shaped};
 use std::iter::{RepeatN, repeat_n};
+use std::marker::Model;
 
 /// A producer of `()` at each index list of a box. Beside it an operation sees the cells of an array alone.
 #[derive(Drop)]
@@ -70,5 +74,67 @@ impl<D: Lengths> NdProducer for Units<D> {
 
     fn run_flat(flat: Self) -> RepeatN<()> {
         repeat_n((), flat.raw_dim().size())
+    }
+
+    type Row = RepeatN<()>;
+
+    type Rows = UnitRows<D>;
+
+    type RowRun = RepeatN<()>;
+
+    type FlatRow = RepeatN<()>;
+
+    ghost row_form = { λ _ is r. repeat_n_count r ≡ length is };
+
+    ghost is_flat = { λ _. ⊤ };
+
+    fn into_rows(self, order: Order) -> UnitRows<D> {
+        UnitRows {
+            rows: BoxRows::new(self.raw_dim(), order),
+        }
+    }
+
+    fn is_flat_row(_row: &RepeatN<()>) -> bool {
+        true
+    }
+
+    #[inline(always)]
+    fn flat_row(row: RepeatN<()>) -> RepeatN<()> {
+        row
+    }
+
+    #[inline(always)]
+    fn run_row(row: RepeatN<()>) -> RepeatN<()> {
+        row
+    }
+}
+
+/// As many `()` as each row of a box has index lists.
+#[derive(Drop)]
+pub struct UnitRows<D: Lengths> {
+    rows: BoxRows<D>,
+}
+
+impl<D: Lengths> Model for UnitRows<D> {
+    ghost use Rattle.std.specs.Prelude.{List, ℕ, map, length};
+
+    ghost Value = { List ℕ };
+
+    ghost view = { λ s. map length s.rows };
+}
+
+impl<D: Lengths> Iterator for UnitRows<D> {
+    type Item = RepeatN<()>;
+
+    ghost next_gives = { YieldsFirstBy repeat_n_count (λ rest. rest) };
+
+    ghost remaining = { item_count (λ rest. rest) };
+
+    #[inline(always)]
+    fn next(&mut self) -> Option<RepeatN<()>> {
+        let Some(row) = self.rows.next() else {
+            return None;
+        };
+        Some(repeat_n((), row.count))
     }
 }

@@ -1,18 +1,23 @@
 //! Views and references to arrays as producers of their cells.
 
-ghost use Rattle.std.specs.Prelude.{◌≡◌, Some};
+ghost use Rattle.std.specs.Prelude.{◌≡◌, Some, filter_map};
+ghost use Rattle.std.specs.Iterator.{YieldsFirstBy, item_count};
 ghost use Rattle.std.proofs.Common.{ap};
-ghost use Rattle.ndarray.specs.Grid.{cell, IsGrid};
+ghost use Rattle.ndarray.specs.Grid.{cell, IsGrid, HasCells};
 ghost use Rattle.ndarray.specs.Orders.{cells_in};
+ghost use Rattle.ndarray.specs.RowCells.{row_cells, IsSlice};
 ghost use Rattle.ndarray.specs.Views.{broadcast_to};
 
 use crate::base::array::{ArrayBase, ArrayView};
 use crate::base::axis::Axis;
 use crate::base::dimension::Lengths;
 use crate::base::storage::{Data, ViewRepr};
+use crate::base::strided::Strided;
 use crate::iter::elements::ElementsBase;
 use crate::order::Order;
+use crate::order::rows::BoxRows;
 use crate::zip::producer::{IntoBroadcast, IntoNdProducer, KeepsLengths, NdProducer, Shaped};
+use std::marker::Model;
 
 impl<S: Data, D: Lengths> Shaped for ArrayBase<S, D> {
     ghost lengths = { λ v. v.lengths };
@@ -64,6 +69,95 @@ impl<'a, A, D: Lengths> NdProducer for ArrayView<'a, A, D> {
 
     fn run_flat(flat: (Self, &'a [A])) -> std::slice::Iter<'a, A> {
         flat.1.iter()
+    }
+
+    type Row = ViewRow<'a, A>;
+
+    type Rows = ViewRows<'a, A, D>;
+
+    type RowRun = Strided<'a, A>;
+
+    type FlatRow = std::slice::Iter<'a, A>;
+
+    ghost row_form = { λ v is r. (row_cells r ≡ filter_map (cell v) is) × HasCells v is };
+
+    ghost is_flat = { IsSlice };
+
+    fn into_rows(self, order: Order) -> ViewRows<'a, A, D> {
+        let rows = BoxRows::new(self.raw_dim(), order);
+        ViewRows { view: self, rows }
+    }
+
+    #[inline(always)]
+    fn is_flat_row(row: &ViewRow<'a, A>) -> bool {
+        match row {
+            ViewRow::Slice(_slice) => true,
+            ViewRow::Stepped(_cells) => false,
+        }
+    }
+
+    #[inline(always)]
+    fn flat_row(row: ViewRow<'a, A>) -> std::slice::Iter<'a, A> {
+        match row {
+            ViewRow::Slice(slice) => slice.iter(),
+            ViewRow::Stepped(_cells) => unreachable!(),
+        }
+    }
+
+    #[inline(always)]
+    fn run_row(row: ViewRow<'a, A>) -> Strided<'a, A> {
+        match row {
+            ViewRow::Slice(slice) => Strided::over(slice),
+            ViewRow::Stepped(cells) => cells,
+        }
+    }
+}
+
+/// A row of cells of a view.
+#[derive(Drop)]
+pub enum ViewRow<'a, A> {
+    /// Cells that lie side by side.
+    Slice(&'a [A]),
+    /// Cells that lie a step apart.
+    Stepped(Strided<'a, A>),
+}
+
+/// The rows of cells of a view that are still to come.
+#[derive(Drop)]
+pub struct ViewRows<'a, A, D: Lengths> {
+    view: ArrayView<'a, A, D>,
+    rows: BoxRows<D>,
+}
+
+impl<'a, A, D: Lengths> Model for ViewRows<'a, A, D> {
+    ghost use Rattle.std.specs.Prelude.{List, map, filter_map};
+    ghost use Rattle.ndarray.specs.Grid.{cell};
+    ghost use Rattle.ndarray.specs.Rows.{HasRows};
+
+    ghost Value = { List (List A) };
+
+    ghost view = { λ s. map (filter_map (cell s.view)) s.rows };
+
+    ghost invariant = { λ s. HasRows s.view s.rows };
+}
+
+impl<'a, A, D: Lengths> Iterator for ViewRows<'a, A, D> {
+    type Item = ViewRow<'a, A>;
+
+    ghost next_gives = { YieldsFirstBy row_cells (λ rest. rest) };
+
+    ghost remaining = { item_count (λ rest. rest) };
+
+    #[inline(always)]
+    fn next(&mut self) -> Option<ViewRow<'a, A>> {
+        let Some(row) = self.rows.next() else {
+            return None;
+        };
+        let cells = self.view.cells_along(&row.first, row.axis, row.count);
+        match cells.side_by_side() {
+            Some(slice) => Some(ViewRow::Slice(slice)),
+            None => Some(ViewRow::Stepped(cells)),
+        }
     }
 }
 

@@ -1,20 +1,31 @@
 //! Views to write in, and what is yielded to write in, as producers.
 
-ghost use Rattle.std.specs.Prelude.{◌≡◌, [], ◌∷◌, length, Some};
-ghost use Rattle.ndarray.specs.Grid.{cell, one_axis, IsGrid};
+ghost use Rattle.std.specs.Prelude.{◌≡◌, [], ◌∷◌, length, Some, filter_map, ⊤};
+ghost use Rattle.std.specs.Iterator.{YieldsFirst, YieldsFirstBy, item_count};
+ghost use Rattle.ndarray.specs.Grid.{cell, one_axis, IsGrid, HasCells};
 ghost use Rattle.ndarray.specs.Limits.{IsWithinLimit};
 ghost use Rattle.ndarray.specs.Orders.{cells_in};
+ghost use Rattle.ndarray.specs.Producers.{YieldsInTurn};
+ghost use Rattle.ndarray.specs.RowCells.{row_cells_mut, IsSliceMut};
 ghost use Rattle.ndarray.specs.declared.base.shape.Order.TheVariants.{RowMajor};
 
 use crate::base::array::{ArrayBase, ArrayViewMut};
 use crate::base::axis::Axis;
 use crate::base::dimension::{Ix1, Lengths};
+use crate::base::layout::Layout;
+use crate::base::region::{Life, RegionRepr};
 use crate::base::storage::DataMut;
 use crate::iter::elements_mut::ElementsBaseMut;
 use crate::order::Order;
+use crate::order::rows::BoxRows;
+use crate::places::strided::PlaceRow;
+use crate::places::strided_cells::StridedMut;
 use crate::subviews::axis_mut::AxisIterMut;
+use crate::subviews::piece_rows::{PieceRowMut, PieceRowsMut};
 use crate::subviews::pieces_mut::{EqualPiecesIterMut, PiecesMut};
-use crate::zip::producer::{IntoNdProducer, NdProducer, Shaped};
+use crate::zip::producer::{IntoNdProducer, NdProducer, Shaped, one_row};
+use std::iter::Once;
+use std::marker::{Model, PhantomData};
 use std::slice::IterMut;
 
 impl<'a, A: 'a, D: Lengths> NdProducer for ArrayViewMut<'a, A, D> {
@@ -63,6 +74,109 @@ impl<'a, A: 'a, D: Lengths> NdProducer for ArrayViewMut<'a, A, D> {
 
     fn run_flat(flat: FlatCells<'a, A, D>) -> IterMut<'a, A> {
         flat.slice.iter_mut()
+    }
+
+    type Row = ViewRowMut<'a, A>;
+
+    type Rows = ViewRowsMut<'a, A, D>;
+
+    type RowRun = StridedMut<'a, A>;
+
+    type FlatRow = IterMut<'a, A>;
+
+    ghost row_form = { λ v is r. (row_cells_mut r ≡ filter_map (cell v) is) × HasCells v is };
+
+    ghost is_flat = { IsSliceMut };
+
+    fn into_rows(self, order: Order) -> ViewRowsMut<'a, A, D> {
+        let rows = BoxRows::new(self.raw_dim(), order);
+        let ArrayBase { storage, layout } = self;
+        ViewRowsMut {
+            region: storage,
+            layout,
+            rows,
+            lifetime: PhantomData,
+        }
+    }
+
+    #[inline(always)]
+    fn is_flat_row(row: &ViewRowMut<'a, A>) -> bool {
+        match row {
+            ViewRowMut::Slice(_slice) => true,
+            ViewRowMut::Stepped(_cells) => false,
+        }
+    }
+
+    #[inline(always)]
+    fn flat_row(row: ViewRowMut<'a, A>) -> IterMut<'a, A> {
+        match row {
+            ViewRowMut::Slice(slice) => slice.iter_mut(),
+            ViewRowMut::Stepped(_cells) => unreachable!(),
+        }
+    }
+
+    #[inline(always)]
+    fn run_row(row: ViewRowMut<'a, A>) -> StridedMut<'a, A> {
+        match row {
+            ViewRowMut::Slice(slice) => StridedMut::over(slice),
+            ViewRowMut::Stepped(cells) => cells,
+        }
+    }
+}
+
+/// A row of cells of a view to write in.
+#[derive(Drop)]
+pub enum ViewRowMut<'a, A> {
+    /// Cells that lie side by side.
+    Slice(&'a mut [A]),
+    /// Cells that lie a step apart.
+    Stepped(StridedMut<'a, A>),
+}
+
+/// The rows of cells of a view to write in that are still to come.
+#[derive(Drop)]
+pub struct ViewRowsMut<'a, A, D: Lengths> {
+    region: RegionRepr<Life<'a>, A>,
+    layout: Layout<D>,
+    rows: BoxRows<D>,
+    // the lifetime of what it yields, so that `A: 'a` follows from the type
+    lifetime: PhantomData<&'a mut A>,
+}
+
+impl<'a, A, D: Lengths> Model for ViewRowsMut<'a, A, D> {
+    ghost use Rattle.std.specs.Prelude.{List, map, filter_map};
+    ghost use Rattle.ndarray.specs.base.Slots.{held_at};
+    ghost use Rattle.ndarray.specs.places.ElementPlaces.{places_along, HaveRows};
+
+    ghost Value = { List (List A) };
+
+    ghost view = { λ s. map (λ row. filter_map (held_at s.region.slots) (places_along s.layout.start (D.numbers s.layout.strides) row)) s.rows };
+
+    ghost invariant = { λ s. HaveRows (held_at s.region.slots) s.layout.start (D.numbers s.layout.strides) s.rows };
+}
+
+impl<'a, A, D: Lengths> Iterator for ViewRowsMut<'a, A, D> {
+    type Item = ViewRowMut<'a, A>;
+
+    ghost next_gives = { YieldsFirstBy row_cells_mut (λ rest. rest) };
+
+    ghost remaining = { item_count (λ rest. rest) };
+
+    #[inline(always)]
+    fn next(&mut self) -> Option<ViewRowMut<'a, A>> {
+        let Some(row) = self.rows.next() else {
+            return None;
+        };
+        let places = PlaceRow {
+            place: self.layout.place(&row.first),
+            stride: self.layout.stride(row.axis),
+            left: row.count,
+        };
+        let cells = StridedMut::taken_from(&mut self.region, places);
+        match cells.side_by_side() {
+            Ok(slice) => Some(ViewRowMut::Slice(slice)),
+            Err(cells) => Some(ViewRowMut::Stepped(cells)),
+        }
     }
 }
 
@@ -129,6 +243,37 @@ impl<'a, A, D: Lengths> NdProducer for AxisIterMut<'a, A, D> {
     fn run_flat(flat: Self) -> AxisIterMut<'a, A, D> {
         flat.run(Order::RowMajor)
     }
+
+    type Row = AxisIterMut<'a, A, D>;
+
+    type Rows = Once<AxisIterMut<'a, A, D>>;
+
+    type RowRun = AxisIterMut<'a, A, D>;
+
+    type FlatRow = AxisIterMut<'a, A, D>;
+
+    ghost row_form = { λ s is r. YieldsInTurn (YieldsFirst (λ rest. rest)) (λ i x. cell (one_axis s) i ≡ Some x) r is };
+
+    ghost is_flat = { λ _. ⊤ };
+
+    fn into_rows(self, order: Order) -> Once<AxisIterMut<'a, A, D>> {
+        let len = self.raw_dim().size();
+        one_row(self.run(order), len)
+    }
+
+    fn is_flat_row(_row: &AxisIterMut<'a, A, D>) -> bool {
+        true
+    }
+
+    #[inline(always)]
+    fn flat_row(row: AxisIterMut<'a, A, D>) -> AxisIterMut<'a, A, D> {
+        row
+    }
+
+    #[inline(always)]
+    fn run_row(row: AxisIterMut<'a, A, D>) -> AxisIterMut<'a, A, D> {
+        row
+    }
 }
 
 impl<'a, A, P: Lengths, D: Lengths> Shaped for PiecesMut<'a, A, P, D> {
@@ -168,5 +313,35 @@ impl<'a, A, P: Lengths, D: Lengths> NdProducer for PiecesMut<'a, A, P, D> {
 
     fn run_flat(flat: Self) -> EqualPiecesIterMut<'a, A, P, D> {
         flat.run(Order::RowMajor)
+    }
+
+    type Row = PieceRowMut<'a, A, D>;
+
+    type Rows = PieceRowsMut<'a, A, P, D>;
+
+    type RowRun = PieceRowMut<'a, A, D>;
+
+    type FlatRow = PieceRowMut<'a, A, D>;
+
+    ghost row_form = { λ s is r. (r ≡ filter_map (cell s) is) × HasCells s is };
+
+    ghost is_flat = { λ _. ⊤ };
+
+    fn into_rows(self, order: Order) -> PieceRowsMut<'a, A, P, D> {
+        self.into_rows(order)
+    }
+
+    fn is_flat_row(_row: &PieceRowMut<'a, A, D>) -> bool {
+        true
+    }
+
+    #[inline(always)]
+    fn flat_row(row: PieceRowMut<'a, A, D>) -> PieceRowMut<'a, A, D> {
+        row
+    }
+
+    #[inline(always)]
+    fn run_row(row: PieceRowMut<'a, A, D>) -> PieceRowMut<'a, A, D> {
+        row
     }
 }

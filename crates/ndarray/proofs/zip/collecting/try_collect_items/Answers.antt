@@ -3,7 +3,7 @@ use Rattle.ndarray.specs.Index.{size}
 use Rattle.ndarray.proofs.boxes.Orders.{length-box_in}
 use Rattle.ndarray.proofs.runs.Answers.{gathered-length}
 use Rattle.ndarray.proofs.runs.Collecting.{gathered-run, may-collect, stopped-some}
-use Rattle.ndarray.proofs.runs.Parts.{ran-Ok}
+use Rattle.ndarray.proofs.runs.Turns.{ran-Ok}
 use Rattle.ndarray.proofs.zip.collecting.try_collect_items.Goals as goal
 
 pub take_items-requires : goal.take_items-requires

@@ -1,50 +1,82 @@
-use Rattle.std.proofs.Common.{◌≡◌, ◌∙◌, Some, ap, map, subst, sym, rules}
-use Rattle.ndarray.specs.Grid.{cell}
-use Rattle.ndarray.specs.Orders.{box_in, cells_in}
-use Rattle.ndarray.specs.Runs.{MayGather}
-use Rattle.ndarray.specs.Updates.{answers, is_cell_beside, OverwritesUntil, UpdatesUntil}
-use Rattle.ndarray.proofs.boxes.Orders.{box_in-is}
-use Rattle.ndarray.proofs.cells.Cells.{cells_in-HasInOrder}
+use Rattle.std.proofs.Common.{◌≡◌, ◌∙◌, ap, subst, sym}
+use Rattle.std.specs.Prelude.{⊤}
+use Rattle.ndarray.specs.Orders.{box_in}
+use Rattle.ndarray.specs.Producers.{both}
+use Rattle.ndarray.specs.Runs.{MayGather, MayTurnAt, TurnAt, TakesAt}
+use Rattle.ndarray.specs.Updates.{answers, is_cell_beside, UpdatesUntil}
+use Rattle.ndarray.specs.base.Overwrites.{MayWrite, WriteTurn, WritesUntil}
+use Rattle.ndarray.specs.base.Places.{Reaches, grid_at, place}
+use Rattle.ndarray.proofs.cells.Updates.{may-update, updated-cells}
+use Rattle.ndarray.proofs.strides.Reach.{length-cells_at}
 use Rattle.ndarray.proofs.zip.updating.try_update.Goals as goal
 
-pub write_cells_in-requires-clause-can : goal.write_cells_in-requires-clause-can
-write_cells_in-requires-clause-can g c =
+pub replace_with-requires : goal.replace_with-requires
+replace_with-requires g c =
+    let a = c.array.inside in
+    let at = g.S.Data.at in
+    let gives = g.C.CellCall.call_gives in
+    let yields = g.P.NdProducer.yields_at c.args.other in
     let o = c.assigning_order-order.result in
-    let v = c.args.array.now in (
-      cell v,
-      (
-        ap (λ ms. map (cell v) (box_in o ms)) c.requires.same ∙ cells_in-HasInOrder o v c.assigning_order-order.ensures (box_in o v.lengths) (box_in-is o v.lengths),
-        subst (λ ms. MayGather (is_cell_beside v (g.P.NdProducer.yields_at c.args.other)) (answers g.C.CellCall.call_gives) g.C.CellCall.can_call (box_in o ms) c.args.f) (sym c.requires.same) (c.requires.callable o),
-      ),
-    )
+    let ns = g.P.Dim.Lengths.numbers a.layout.dim in
+    let start = a.layout.start in
+    let bs = g.P.Dim.Lengths.numbers a.layout.strides in
+    let h = c.array.invariant in
+    let reach : Reaches ⊤ (at a.storage) ns start bs = record { as_many = h.as_many; limit = h.limit; inside = h.inside; nested = λ _. h.nested (g.met.S.DataMut.is_apart a.storage) } in
+    let lengths : g.P.Shaped.lengths c.args.other ≡ ns = c.requires.same ∙ sym (ap (λ v. v.lengths) c.array.view_is) in
+    let may = subst (λ v. MayGather (is_cell_beside v yields) (answers gives) g.C.CellCall.can_call (box_in o v.lengths) c.args.f) (sym c.array.view_is) (c.requires.callable o) in
+    rw (c.of-places.ensures, c.copied.ensures.start, c.copied.ensures.strides)
+    (subst (λ ms. MayTurnAt (TurnAt (both yields (λ i p. p ≡ place start bs i)) (WriteTurn at gives)) (TakesAt (both yields (λ i p. p ≡ place start bs i)) (MayWrite at g.C.CellCall.can_call)) (a.storage, c.args.f) (box_in o ms)) (sym lengths)
+    (may-update at gives yields o ns start bs a.storage c.args.f reach g.C.CellCall.can_call may))
 
-pub returns-in-Ok-clause-ran : goal.returns-in-Ok-clause-ran
-returns-in-Ok-clause-ran g c =
+pub returns-clause-ran : goal.returns-clause-ran
+returns-clause-ran g c =
+    let a = c.array.inside in
+    let at = g.S.Data.at in
+    let gives = g.C.CellCall.call_gives in
+    let yields = g.P.NdProducer.yields_at c.args.other in
     let o = c.assigning_order-order.result in
-    let v = c.args.array.now in
-    let new = c.write_cells_in.new.self in
-    let done = c.in-Ok.ensures.done in
-    let here : map (cell v) (box_in o (g.P.Shaped.lengths c.args.other)) ≡ map Some (cells_in o v) = ap (λ ms. map (cell v) (box_in o ms)) c.requires.same ∙ cells_in-HasInOrder o v c.assigning_order-order.ensures (box_in o v.lengths) (box_in-is o v.lengths) in (
-      o,
-      record {
-        lengths = done.0;
-        ran = subst (λ ms. OverwritesUntil (is_cell_beside v (g.P.NdProducer.yields_at c.args.other)) g.C.CellCall.call_gives (box_in o ms) c.args.f (cells_in o v) c.in-Ok.updated (cells_in o new)) c.requires.same (done.1 (cell v) here);
-      },
-    )
+    let ns = g.P.Dim.Lengths.numbers a.layout.dim in
+    let start = a.layout.start in
+    let bs = g.P.Dim.Lengths.numbers a.layout.strides in
+    let h = c.array.invariant in
+    let reach : Reaches ⊤ (at a.storage) ns start bs = record { as_many = h.as_many; limit = h.limit; inside = h.inside; nested = λ _. h.nested (g.met.S.DataMut.is_apart a.storage) } in
+    let lengths : g.P.Shaped.lengths c.args.other ≡ ns = c.requires.same ∙ sym (ap (λ v. v.lengths) c.array.view_is) in
+    let ran = subst (λ ms. WritesUntil at gives (both yields (λ i p. p ≡ place start bs i)) (box_in o ms) c.args.f a.storage c.replace_with.new.dest c.replace_with.result) lengths
+    (rw (← c.copied.ensures.start, ← c.copied.ensures.strides, ← c.of-places.ensures) c.replace_with.ensures) in
+    let u = (updated-cells at gives yields o ns start bs a.storage c.args.f reach c.replace_with.new.dest c.replace_with.result ran).0 in
+    (o, subst (λ v. UpdatesUntil (is_cell_beside v yields) gives o c.args.f v c.replace_with.result (grid_at (at c.replace_with.new.dest) ns start bs)) c.array.view_is u)
 
-pub returns-in-Err-clause-ran : goal.returns-in-Err-clause-ran
-returns-in-Err-clause-ran g c =
+pub invariant_of-array : goal.invariant_of-array
+invariant_of-array g c =
+    let a = c.array.inside in
+    let at = g.S.Data.at in
+    let gives = g.C.CellCall.call_gives in
+    let yields = g.P.NdProducer.yields_at c.args.other in
     let o = c.assigning_order-order.result in
-    let v = c.args.array.now in
-    let new = c.try_update_each.new.array in
-    let r = c.try_update_each.result in
-    let call_gives = g.C.CellCall.call_gives in
-    let back = c.in-Err.ensures.back in
-    let given = c.in-Err.updates in (
-      o,
-      subst (λ w. UpdatesUntil (is_cell_beside v (g.P.NdProducer.yields_at w.other)) call_gives o w.f v r new) back.0
-          (subst (λ w. UpdatesUntil (is_cell_beside w (g.P.NdProducer.yields_at given.other)) call_gives o given.f w r new) back.1 c.try_update_each.ensures.ran),
-    )
+    let ns = g.P.Dim.Lengths.numbers a.layout.dim in
+    let start = a.layout.start in
+    let bs = g.P.Dim.Lengths.numbers a.layout.strides in
+    let h = c.array.invariant in
+    let reach : Reaches ⊤ (at a.storage) ns start bs = record { as_many = h.as_many; limit = h.limit; inside = h.inside; nested = λ _. h.nested (g.met.S.DataMut.is_apart a.storage) } in
+    let lengths : g.P.Shaped.lengths c.args.other ≡ ns = c.requires.same ∙ sym (ap (λ v. v.lengths) c.array.view_is) in
+    let ran = subst (λ ms. WritesUntil at gives (both yields (λ i p. p ≡ place start bs i)) (box_in o ms) c.args.f a.storage c.replace_with.new.dest c.replace_with.result) lengths
+    (rw (← c.copied.ensures.start, ← c.copied.ensures.strides, ← c.of-places.ensures) c.replace_with.ensures) in
+    let r = (updated-cells at gives yields o ns start bs a.storage c.args.f reach c.replace_with.new.dest c.replace_with.result ran).1 in
+    record { as_many = r.as_many; limit = r.limit; inside = r.inside; nested = λ _. r.nested tt }
 
-pub try_update_each-requires-clause-callable : goal.try_update_each-requires-clause-callable
-try_update_each-requires-clause-callable g c = search rules
+pub returns-clause-whole : goal.returns-clause-whole
+returns-clause-whole g c =
+    let a = c.array.inside in
+    let at = g.S.Data.at in
+    let gives = g.C.CellCall.call_gives in
+    let yields = g.P.NdProducer.yields_at c.args.other in
+    let o = c.assigning_order-order.result in
+    let ns = g.P.Dim.Lengths.numbers a.layout.dim in
+    let start = a.layout.start in
+    let bs = g.P.Dim.Lengths.numbers a.layout.strides in
+    let h = c.array.invariant in
+    let reach : Reaches ⊤ (at a.storage) ns start bs = record { as_many = h.as_many; limit = h.limit; inside = h.inside; nested = λ _. h.nested (g.met.S.DataMut.is_apart a.storage) } in
+    let lengths : g.P.Shaped.lengths c.args.other ≡ ns = c.requires.same ∙ sym (ap (λ v. v.lengths) c.array.view_is) in
+    let ran = subst (λ ms. WritesUntil at gives (both yields (λ i p. p ≡ place start bs i)) (box_in o ms) c.args.f a.storage c.replace_with.new.dest c.replace_with.result) lengths
+    (rw (← c.copied.ensures.start, ← c.copied.ensures.strides, ← c.of-places.ensures) c.replace_with.ensures) in
+    length-cells_at _ _ _ _ (updated-cells at gives yields o ns start bs a.storage c.args.f reach c.replace_with.new.dest c.replace_with.result ran).1

@@ -1,0 +1,76 @@
+//! The rows of a box.
+
+ghost use Rattle.std.specs.Prelude.{◌≡◌, [], ◌∷◌, MatchOption};
+ghost use Rattle.ndarray.specs.Limits.{IsWithinLimit};
+ghost use Rattle.ndarray.specs.Rows.{rows_in, one_if_some};
+ghost use Rattle.ndarray.specs.base.Ranks.{row_from};
+
+use crate::base::dimension::Lengths;
+use crate::base::shape::axis_at;
+use crate::order::{Order, Row, Walk};
+use std::marker::Model;
+
+/// The rows of a box that are still to come.
+#[derive(Drop)]
+pub struct BoxRows<D: Lengths> {
+    firsts: Walk<D>,
+    axis: usize,
+    count: usize,
+}
+
+impl<D: Lengths> Model for BoxRows<D> {
+    ghost use Rattle.std.specs.Prelude.{List, ℕ, map};
+    ghost use Rattle.ndarray.specs.base.Ranks.{row_from};
+
+    ghost Value = { List (List (List ℕ)) };
+
+    ghost view = { λ s. map (λ is. row_from is s.axis s.count) s.firsts };
+}
+
+/// 1 for a number that is not 0.
+fn one_if_some(n: usize) -> usize
+    ensures { result ≡ one_if_some n }
+{
+    if n == 0 { 0 } else { 1 }
+}
+
+impl<D: Lengths> BoxRows<D> {
+    /// All rows of the box of the lengths, in the order: each along the axis that varies fastest.
+    pub(crate) fn new(dim: D, order: Order) -> Self
+        requires { IsWithinLimit (D.numbers dim) }
+        ensures { result ≡ rows_in order (D.numbers dim) }
+    {
+        let ndim = dim.ndim();
+        if ndim == 0 {
+            return BoxRows {
+                firsts: Walk::new(dim, order),
+                axis: 0,
+                count: 1,
+            };
+        }
+        let axis = axis_at(order, ndim, 0);
+        let count = dim.axis(axis);
+        let mut firsts = dim;
+        firsts.set_axis(axis, one_if_some(count));
+        BoxRows {
+            firsts: Walk::new(firsts, order),
+            axis,
+            count,
+        }
+    }
+
+    /// The next row.
+    #[inline(always)]
+    pub(crate) fn next(&mut self) -> Option<Row<D>>
+        ensures { MatchOption result ((self.old ≡ []) × (self.new ≡ [])) (λ row. self.old ≡ row_from (D.numbers row.first) row.axis row.count ∷ self.new) }
+    {
+        let Some(first) = self.firsts.next() else {
+            return None;
+        };
+        Some(Row {
+            first,
+            axis: self.axis,
+            count: self.count,
+        })
+    }
+}

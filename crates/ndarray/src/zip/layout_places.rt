@@ -1,0 +1,153 @@
+//! The places of an array's cells as a producer: what updates an array walks them beside the items that it takes.
+
+ghost use Rattle.std.specs.Prelude.{◌≡◌, ◌<◌, length, map, ⊤};
+ghost use Rattle.std.specs.Iterator.{YieldsFirst, item_count};
+ghost use Rattle.ndarray.specs.Limits.{IsWithinLimit};
+ghost use Rattle.ndarray.specs.base.Places.{place};
+ghost use Rattle.ndarray.specs.places.ElementPlaces.{places_along};
+ghost use Rattle.ndarray.specs.declared.base.shape.Order.TheVariants.{RowMajor};
+
+use crate::base::axis::Axis;
+use crate::base::dimension::Lengths;
+use crate::base::layout::Layout;
+use crate::order::Order;
+use crate::order::rows::BoxRows;
+use crate::places::strided::{PlaceRow, StridedPlaces};
+use crate::zip::producer::{NdProducer, Shaped};
+use std::marker::Model;
+
+/// Where the cells of an array lie: at each index list the place of the cell there.
+#[derive(Drop)]
+pub(crate) struct LayoutPlaces<D: Lengths> {
+    pub(crate) layout: Layout<D>,
+    ghost as_many: { length (D.numbers layout.strides) ≡ length (D.numbers layout.dim) },
+    ghost limit: { IsWithinLimit (D.numbers layout.dim) },
+}
+
+impl<D: Lengths> LayoutPlaces<D> {
+    /// Those of a layout.
+    pub(crate) fn of(layout: Layout<D>) -> Self
+        requires as_many { length (D.numbers layout.strides) ≡ length (D.numbers layout.dim) }
+        requires limit { IsWithinLimit (D.numbers layout.dim) }
+        ensures { result.layout ≡ layout }
+    {
+        LayoutPlaces { layout }
+    }
+}
+
+impl<D: Lengths> Shaped for LayoutPlaces<D> {
+    ghost lengths = { λ s. D.numbers s.layout.dim };
+}
+
+impl<D: Lengths> NdProducer for LayoutPlaces<D> {
+    type Item = usize;
+
+    type Dim = D;
+
+    type Run = StridedPlaces<D>;
+
+    ghost yields_at = { λ s i p. p ≡ place s.layout.start (D.numbers s.layout.strides) i };
+
+    fn raw_dim(&self) -> D {
+        self.layout.dim.copied()
+    }
+
+    fn split_at(self, axis: Axis, index: usize) -> (Self, Self) {
+        let len = self.layout.dim.axis(axis.0);
+        let mut low = self.layout.copied();
+        low.cut(axis.0, 0, index, 1);
+        let mut high = self.layout;
+        high.cut(axis.0, index, len - index, 1);
+        (LayoutPlaces::of(low), LayoutPlaces::of(high))
+    }
+
+    fn run(self, order: Order) -> StridedPlaces<D> {
+        StridedPlaces::new(self.layout, order)
+    }
+
+    type Flat = Self;
+
+    type FlatRun = StridedPlaces<D>;
+
+    ghost flat_form = { λ s o flat. (flat ≡ s) × (o ≡ RowMajor) };
+
+    fn from_flat(flat: Self) -> Self {
+        flat
+    }
+
+    fn run_flat(flat: Self) -> StridedPlaces<D> {
+        flat.run(Order::RowMajor)
+    }
+
+    type Row = PlaceRow;
+
+    type Rows = PlaceRows<D>;
+
+    type RowRun = PlaceRow;
+
+    type FlatRow = PlaceRow;
+
+    ghost row_form = { λ s is r. r ≡ places_along s.layout.start (D.numbers s.layout.strides) is };
+
+    ghost is_flat = { λ _. ⊤ };
+
+    fn into_rows(self, order: Order) -> PlaceRows<D> {
+        let rows = BoxRows::new(self.raw_dim(), order);
+        PlaceRows {
+            layout: self.layout,
+            rows,
+        }
+    }
+
+    fn is_flat_row(_row: &PlaceRow) -> bool {
+        true
+    }
+
+    #[inline(always)]
+    fn flat_row(row: PlaceRow) -> PlaceRow {
+        row
+    }
+
+    #[inline(always)]
+    fn run_row(row: PlaceRow) -> PlaceRow {
+        row
+    }
+}
+
+/// The rows of places that are still to come.
+#[derive(Drop)]
+pub(crate) struct PlaceRows<D: Lengths> {
+    layout: Layout<D>,
+    rows: BoxRows<D>,
+}
+
+impl<D: Lengths> Model for PlaceRows<D> {
+    ghost use Rattle.std.specs.Prelude.{List, ℕ, ◌<◌, ◌≡◌, All, length, map};
+    ghost use Rattle.ndarray.specs.places.ElementPlaces.{places_along};
+
+    ghost Value = { List (List ℕ) };
+
+    ghost view = { λ s. map (places_along s.layout.start (D.numbers s.layout.strides)) s.rows };
+
+    ghost invariant = { λ s. All (λ row. (0 < length row) × All (λ is. length (D.numbers s.layout.strides) ≡ length is) row) s.rows };
+}
+
+impl<D: Lengths> Iterator for PlaceRows<D> {
+    type Item = PlaceRow;
+
+    ghost next_gives = { YieldsFirst (λ rest. rest) };
+
+    ghost remaining = { item_count (λ rest. rest) };
+
+    #[inline(always)]
+    fn next(&mut self) -> Option<PlaceRow> {
+        let Some(row) = self.rows.next() else {
+            return None;
+        };
+        Some(PlaceRow {
+            place: self.layout.place(&row.first),
+            stride: self.layout.stride(row.axis),
+            left: row.count,
+        })
+    }
+}
