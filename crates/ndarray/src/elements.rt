@@ -40,7 +40,7 @@ pub trait Valued: Copy {
 }
 
 /// An element that adds as its value does: where the sum of two values is in range, `+` is defined
-/// and answers the element of that value.
+/// and returns the element of that value.
 pub trait SumElem: Valued + Zero + Add<Self, Output = Self> {
     // The element `zero` has the value zero, and `is_zero` tells the elements of that value.
     ghost zero_meaning: { Self.meaning Self.zero ≡ Self.addition.unit };
@@ -64,7 +64,7 @@ pub trait SumElem: Valued + Zero + Add<Self, Output = Self> {
 }
 
 /// An element that multiplies as its value does: where the product of two values is in range, `*` is
-/// defined and answers the element of that value.
+/// defined and returns the element of that value.
 pub trait ProductElem: Valued + One + Mul<Self, Output = Self> {
     // The element `one` has the value one, and `is_one` tells the elements of that value.
     ghost one_meaning: { Self.meaning Self.one ≡ Self.multiplication.unit };

@@ -13,7 +13,7 @@
 //!
 //! `+ - * / % & | ^ << >>` between an `Array`, or a reference to one, and another array, between a reference to any array
 //! and an owned `Array`, and between an `Array`, or a reference to one, and a scalar, return a
-//! `Result<Array<..>, AllocError>`: at each index list what the elements' operation answers on the two cells there, the
+//! `Result<Array<..>, AllocError>`: at each index list what the elements' operation returns on the two cells there, the
 //! left one first, with the shapes broadcast together. `-` and `!` are on each cell of an `Array`.
 //!
 //! They require that the shapes broadcast together, which `broadcast_ok` tells, that the elements' operation is defined on

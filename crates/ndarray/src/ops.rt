@@ -53,7 +53,7 @@ impl<S: Data, D: Lengths> ArrayBase<S, D> {
     }
 
     /// The lengths of this array and another broadcast together, which are those of what the operators return. `None`
-    /// exactly where `broadcast_ok` answers no.
+    /// exactly where `broadcast_ok` says no.
     ///
     /// ```
     /// // tests each pair of cells before the sums are computed

@@ -378,7 +378,7 @@ pub fn matrix_times_vector<S: Data<Elem = i64>, T: Data<Elem = i64>>(
     Ok(Some(product))
 }
 
-/// Leaves a matrix times a vector in the cells of another vector, in residues modulo 5; or answers `false`, where the lengths do
+/// Leaves a matrix times a vector in the cells of another vector, in residues modulo 5; or returns `false`, where the lengths do
 /// not meet, and leaves it as it is.
 pub fn multiply_into(
     a: &Array<Residue<5>, Ix2>,
@@ -396,7 +396,7 @@ pub fn multiply_into(
     true
 }
 
-/// Adds the product of two matrices to the cells of a third, in residues modulo 5; or answers `false`, where the shapes do not
+/// Adds the product of two matrices to the cells of a third, in residues modulo 5; or returns `false`, where the shapes do not
 /// meet, and leaves it as it is.
 pub fn add_product(
     a: &Array<Residue<5>, Ix2>,

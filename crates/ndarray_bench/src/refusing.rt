@@ -34,7 +34,7 @@ impl<B: Allocator> Drop for Refusing<B> {
     }
 }
 
-/// Counts a request, and answers whether it is granted.
+/// Counts a request, and returns whether it is granted.
 fn grants(left: &Cell<u64>) -> bool {
     let number = left.get();
     left.set(number.saturating_sub(1));

@@ -1,4 +1,4 @@
-//! The commands: each reads its arguments and answers the text that it prints.
+//! The commands: each reads its arguments and returns the text that it prints.
 
 ghost use Rattle.std.specs.Prelude.{◌≡◌, MatchOption, IfOk, IfErr, string_bytes};
 ghost use Rattle.ndarray.specs.Integers.{int_products, int_sums};

@@ -42,7 +42,7 @@ impl<'b, A: Clone, B: Clone, O: Operation<A, B, Output = A>> CellCall<A, &'b B> 
 
 /// What is computed of one cell, by clones that may fail.
 pub(crate) trait CellOperation<A>: Drop {
-    /// What it answers.
+    /// What it returns.
     type Output;
 
     // Whether it is defined on a cell.
@@ -54,7 +54,7 @@ pub(crate) trait CellOperation<A>: Drop {
     // Whether it needs no memory at the cell.
     ghost is_infallible: { Self → A → Type 0 };
 
-    /// Its answer on a cell, or that a clone failed.
+    /// Its result on a cell, or that a clone failed.
     fn apply(&self, cell: &A) -> Result<Self::Output, AllocError>
         requires { can_apply self.now cell.now }
         ensures gives { IfOk result (apply_gives self.now cell.now) }

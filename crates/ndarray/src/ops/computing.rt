@@ -217,7 +217,7 @@ where
     update_cells(array, each, OnEach(operation))
 }
 
-/// An array with what a call answers at each of its cells, and the item of a producer there, in the place of the cell.
+/// An array with what a call returns at each of its cells, and the item of a producer there, in the place of the cell.
 fn update_cells<P, A, C>(
     mut cells: Array<A, P::Dim>,
     items: P,

@@ -8,7 +8,7 @@ use std::ops::{
 
 /// An operation on two elements.
 pub(crate) trait Operation<A, B> {
-    /// What it answers.
+    /// What it returns.
     type Output;
 
     // Whether it is defined on two elements.
@@ -17,7 +17,7 @@ pub(crate) trait Operation<A, B> {
     // Whether it may give this answer on them.
     ghost apply_gives: { A → B → Self.Output → Type 0 };
 
-    /// Its answer on two elements.
+    /// Its result on two elements.
     fn apply(a: A, b: B) -> Self::Output
         requires { can_apply a b }
         ensures { apply_gives a b result };
@@ -25,7 +25,7 @@ pub(crate) trait Operation<A, B> {
 
 /// An operation on one element.
 pub(crate) trait UnaryOperation<A> {
-    /// What it answers.
+    /// What it returns.
     type Output;
 
     // Whether it is defined on an element.
@@ -34,7 +34,7 @@ pub(crate) trait UnaryOperation<A> {
     // Whether it may give this answer on it.
     ghost apply_gives: { A → Self.Output → Type 0 };
 
-    /// Its answer on an element.
+    /// Its result on an element.
     fn apply(a: A) -> Self::Output
         requires { can_apply a }
         ensures { apply_gives a result };
@@ -205,7 +205,7 @@ impl<A: Shr<B>, B> Operation<A, B> for RightShift {
     }
 }
 
-/// `+=`, as an operation that answers the new value.
+/// `+=`, as an operation that returns the new value.
 pub(crate) struct AdditionAssign;
 
 impl<A: AddAssign<B>, B> Operation<A, B> for AdditionAssign {
@@ -221,7 +221,7 @@ impl<A: AddAssign<B>, B> Operation<A, B> for AdditionAssign {
     }
 }
 
-/// `-=`, as an operation that answers the new value.
+/// `-=`, as an operation that returns the new value.
 pub(crate) struct SubtractionAssign;
 
 impl<A: SubAssign<B>, B> Operation<A, B> for SubtractionAssign {
@@ -237,7 +237,7 @@ impl<A: SubAssign<B>, B> Operation<A, B> for SubtractionAssign {
     }
 }
 
-/// `*=`, as an operation that answers the new value.
+/// `*=`, as an operation that returns the new value.
 pub(crate) struct MultiplicationAssign;
 
 impl<A: MulAssign<B>, B> Operation<A, B> for MultiplicationAssign {
@@ -253,7 +253,7 @@ impl<A: MulAssign<B>, B> Operation<A, B> for MultiplicationAssign {
     }
 }
 
-/// `/=`, as an operation that answers the new value.
+/// `/=`, as an operation that returns the new value.
 pub(crate) struct DivisionAssign;
 
 impl<A: DivAssign<B>, B> Operation<A, B> for DivisionAssign {
@@ -269,7 +269,7 @@ impl<A: DivAssign<B>, B> Operation<A, B> for DivisionAssign {
     }
 }
 
-/// `%=`, as an operation that answers the new value.
+/// `%=`, as an operation that returns the new value.
 pub(crate) struct RemainderAssign;
 
 impl<A: RemAssign<B>, B> Operation<A, B> for RemainderAssign {
@@ -285,7 +285,7 @@ impl<A: RemAssign<B>, B> Operation<A, B> for RemainderAssign {
     }
 }
 
-/// `&=`, as an operation that answers the new value.
+/// `&=`, as an operation that returns the new value.
 pub(crate) struct ConjunctionAssign;
 
 impl<A: BitAndAssign<B>, B> Operation<A, B> for ConjunctionAssign {
@@ -301,7 +301,7 @@ impl<A: BitAndAssign<B>, B> Operation<A, B> for ConjunctionAssign {
     }
 }
 
-/// `|=`, as an operation that answers the new value.
+/// `|=`, as an operation that returns the new value.
 pub(crate) struct DisjunctionAssign;
 
 impl<A: BitOrAssign<B>, B> Operation<A, B> for DisjunctionAssign {
@@ -317,7 +317,7 @@ impl<A: BitOrAssign<B>, B> Operation<A, B> for DisjunctionAssign {
     }
 }
 
-/// `^=`, as an operation that answers the new value.
+/// `^=`, as an operation that returns the new value.
 pub(crate) struct ExclusiveDisjunctionAssign;
 
 impl<A: BitXorAssign<B>, B> Operation<A, B> for ExclusiveDisjunctionAssign {
@@ -333,7 +333,7 @@ impl<A: BitXorAssign<B>, B> Operation<A, B> for ExclusiveDisjunctionAssign {
     }
 }
 
-/// `<<=`, as an operation that answers the new value.
+/// `<<=`, as an operation that returns the new value.
 pub(crate) struct LeftShiftAssign;
 
 impl<A: ShlAssign<B>, B> Operation<A, B> for LeftShiftAssign {
@@ -349,7 +349,7 @@ impl<A: ShlAssign<B>, B> Operation<A, B> for LeftShiftAssign {
     }
 }
 
-/// `>>=`, as an operation that answers the new value.
+/// `>>=`, as an operation that returns the new value.
 pub(crate) struct RightShiftAssign;
 
 impl<A: ShrAssign<B>, B> Operation<A, B> for RightShiftAssign {

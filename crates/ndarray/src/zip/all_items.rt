@@ -30,7 +30,7 @@ impl<N: NdProducer<Dim = D>, D: Lengths, K> Zip<Parts<N, K>, D> {
         visit_items(nested, order, f)
     }
 
-    /// Calls `f` at the total and each item in turn; each answer is the next total.
+    /// Calls `f` at the total and each item in turn; what it returns is the next total.
     pub(crate) fn fold_items<B, C: FoldCall<B, N::Item, Out = B>>(self, init: B, f: C) -> B
         requires callable { (o : Order) → MayFold (N.yields_at self.nested) C.call_gives C.can_call (box_in o (N.lengths self.nested)) f init }
         ensures ran { (o : Order) × Folds (N.yields_at self.nested) C.call_gives (box_in o (N.lengths self.nested)) f init result }
@@ -40,7 +40,7 @@ impl<N: NdProducer<Dim = D>, D: Lengths, K> Zip<Parts<N, K>, D> {
         fold_items(nested, order, init, f)
     }
 
-    /// The same up to the first answer that is `Done`.
+    /// The same up to the first result that is `Done`.
     pub(crate) fn fold_items_while<B, C: FoldCall<B, N::Item, Out = FoldWhile<B>>>(
         self,
         init: B,
@@ -54,7 +54,7 @@ impl<N: NdProducer<Dim = D>, D: Lengths, K> Zip<Parts<N, K>, D> {
         fold_items_while(nested, order, init, f)
     }
 
-    /// Whether `f` answers `true` at each item, up to the first `false`.
+    /// Whether `f` returns `true` at each item, up to the first `false`.
     pub(crate) fn all_items<C: ItemCall<N::Item, Out = bool>>(self, f: C) -> bool
         requires callable { (o : Order) → MayTest (N.yields_at self.nested) C.call_gives C.can_call (box_in o (N.lengths self.nested)) f true }
         ensures ran { (o : Order) × TestsUntil (N.yields_at self.nested) C.call_gives (box_in o (N.lengths self.nested)) f true false result }
@@ -64,7 +64,7 @@ impl<N: NdProducer<Dim = D>, D: Lengths, K> Zip<Parts<N, K>, D> {
         all_items(nested, order, f)
     }
 
-    /// Whether `f` answers `true` at some item, up to the first `true`.
+    /// Whether `f` returns `true` at some item, up to the first `true`.
     pub(crate) fn any_items<C: ItemCall<N::Item, Out = bool>>(self, f: C) -> bool
         requires callable { (o : Order) → MayTest (N.yields_at self.nested) C.call_gives C.can_call (box_in o (N.lengths self.nested)) f false }
         ensures ran { (o : Order) × TestsUntil (N.yields_at self.nested) C.call_gives (box_in o (N.lengths self.nested)) f false true result }
@@ -74,7 +74,7 @@ impl<N: NdProducer<Dim = D>, D: Lengths, K> Zip<Parts<N, K>, D> {
         any_items(nested, order, f)
     }
 
-    /// The array of what `f` answers at the items.
+    /// The array of what `f` returns at the items.
     pub(crate) fn collect_items<R: Drop, C: ItemCall<N::Item, Out = R>>(
         self,
         alloc: Global,
@@ -91,7 +91,7 @@ impl<N: NdProducer<Dim = D>, D: Lengths, K> Zip<Parts<N, K>, D> {
         collect_items(alloc, nested, order, f)
     }
 
-    /// Leaves in the cells of an array what `f` answers at the items.
+    /// Leaves in the cells of an array what `f` returns at the items.
     pub(crate) fn assign_items<R: Drop, S: DataMut<Elem = R>, C: ItemCall<N::Item, Out = R>>(
         self,
         into: &mut ArrayBase<S, D>,

@@ -27,7 +27,7 @@ impl<N: NdProducer<Dim = D>, D: Lengths> Zip<Parts<N, One>, D> {
         self.visit_items(On1(f))
     }
 
-    /// Calls `f` once at the total and the items of each index list; each answer is the next total, and the
+    /// Calls `f` once at the total and the items of each index list; what it returns is the next total, and the
     /// last one the result.
     pub fn fold<B, F: FnMut(B, N::Item) -> B>(self, acc: B, f: F) -> B
         requires callable { (o : Order) → MayFold (N.yields_at self.nested) (call_gives_fold1 F.FnMut) (can_call_fold1 F.FnMut) (box_in o (N.lengths self.nested)) f acc }
@@ -36,7 +36,7 @@ impl<N: NdProducer<Dim = D>, D: Lengths> Zip<Parts<N, One>, D> {
         self.fold_items(acc, On1(f))
     }
 
-    /// As `fold`, up to the first answer that is `Done`.
+    /// As `fold`, up to the first result that is `Done`.
     pub fn fold_while<B, F: FnMut(B, N::Item) -> FoldWhile<B>>(self, acc: B, f: F) -> FoldWhile<B>
         requires callable { (o : Order) → MayFoldWhile (N.yields_at self.nested) (call_gives_fold1 F.FnMut) (can_call_fold1 F.FnMut) (box_in o (N.lengths self.nested)) f acc }
         ensures ran { (o : Order) × FoldsWhile (N.yields_at self.nested) (call_gives_fold1 F.FnMut) (box_in o (N.lengths self.nested)) f acc result }
@@ -44,7 +44,7 @@ impl<N: NdProducer<Dim = D>, D: Lengths> Zip<Parts<N, One>, D> {
         self.fold_items_while(acc, On1(f))
     }
 
-    /// Whether `f` answers `true` at the items of each index list; it stops at the first `false`.
+    /// Whether `f` returns `true` at the items of each index list; it stops at the first `false`.
     pub fn all<F: FnMut(N::Item) -> bool>(self, f: F) -> bool
         requires callable { (o : Order) → MayTest (N.yields_at self.nested) (call_gives1 F.FnMut) (can_call1 F.FnMut) (box_in o (N.lengths self.nested)) f true }
         ensures ran { (o : Order) × TestsUntil (N.yields_at self.nested) (call_gives1 F.FnMut) (box_in o (N.lengths self.nested)) f true false result }
@@ -52,7 +52,7 @@ impl<N: NdProducer<Dim = D>, D: Lengths> Zip<Parts<N, One>, D> {
         self.all_items(On1(f))
     }
 
-    /// Whether `f` answers `true` at the items of some index list; it stops at the first `true`.
+    /// Whether `f` returns `true` at the items of some index list; it stops at the first `true`.
     pub fn any<F: FnMut(N::Item) -> bool>(self, f: F) -> bool
         requires callable { (o : Order) → MayTest (N.yields_at self.nested) (call_gives1 F.FnMut) (can_call1 F.FnMut) (box_in o (N.lengths self.nested)) f false }
         ensures ran { (o : Order) × TestsUntil (N.yields_at self.nested) (call_gives1 F.FnMut) (box_in o (N.lengths self.nested)) f false true result }
@@ -60,7 +60,7 @@ impl<N: NdProducer<Dim = D>, D: Lengths> Zip<Parts<N, One>, D> {
         self.any_items(On1(f))
     }
 
-    /// The array that has at each index list what `f` answers at the items there.
+    /// The array that has at each index list what `f` returns at the items there.
     ///
     /// All memory is reserved before the first call; an `Err` calls `f` never, and where there is no index
     /// list there is none.
@@ -78,7 +78,7 @@ impl<N: NdProducer<Dim = D>, D: Lengths> Zip<Parts<N, One>, D> {
         self.collect_items(alloc, On1(f))
     }
 
-    /// Leaves in the cells of an array what `f` answers at the items of each index list.
+    /// Leaves in the cells of an array what `f` returns at the items of each index list.
     ///
     /// Requires that the array has the same shape; check with `fits`.
     pub fn map_assign_into<R: Drop, S: DataMut<Elem = R>, F: FnMut(N::Item) -> R>(
@@ -104,7 +104,7 @@ impl<X, Y, N: NdProducer<Item = (X, Y), Dim = D>, D: Lengths> Zip<Parts<N, Two>,
         self.visit_items(On2(f))
     }
 
-    /// Calls `f` once at the total and the items of each index list; each answer is the next total, and the
+    /// Calls `f` once at the total and the items of each index list; what it returns is the next total, and the
     /// last one the result.
     pub fn fold<B, F: FnMut(B, X, Y) -> B>(self, acc: B, f: F) -> B
         requires callable { (o : Order) → MayFold (N.yields_at self.nested) (call_gives_fold2 F.FnMut) (can_call_fold2 F.FnMut) (box_in o (N.lengths self.nested)) f acc }
@@ -113,7 +113,7 @@ impl<X, Y, N: NdProducer<Item = (X, Y), Dim = D>, D: Lengths> Zip<Parts<N, Two>,
         self.fold_items(acc, On2(f))
     }
 
-    /// As `fold`, up to the first answer that is `Done`.
+    /// As `fold`, up to the first result that is `Done`.
     pub fn fold_while<B, F: FnMut(B, X, Y) -> FoldWhile<B>>(self, acc: B, f: F) -> FoldWhile<B>
         requires callable { (o : Order) → MayFoldWhile (N.yields_at self.nested) (call_gives_fold2 F.FnMut) (can_call_fold2 F.FnMut) (box_in o (N.lengths self.nested)) f acc }
         ensures ran { (o : Order) × FoldsWhile (N.yields_at self.nested) (call_gives_fold2 F.FnMut) (box_in o (N.lengths self.nested)) f acc result }
@@ -121,7 +121,7 @@ impl<X, Y, N: NdProducer<Item = (X, Y), Dim = D>, D: Lengths> Zip<Parts<N, Two>,
         self.fold_items_while(acc, On2(f))
     }
 
-    /// Whether `f` answers `true` at the items of each index list; it stops at the first `false`.
+    /// Whether `f` returns `true` at the items of each index list; it stops at the first `false`.
     pub fn all<F: FnMut(X, Y) -> bool>(self, f: F) -> bool
         requires callable { (o : Order) → MayTest (N.yields_at self.nested) (call_gives2 F.FnMut) (can_call2 F.FnMut) (box_in o (N.lengths self.nested)) f true }
         ensures ran { (o : Order) × TestsUntil (N.yields_at self.nested) (call_gives2 F.FnMut) (box_in o (N.lengths self.nested)) f true false result }
@@ -129,7 +129,7 @@ impl<X, Y, N: NdProducer<Item = (X, Y), Dim = D>, D: Lengths> Zip<Parts<N, Two>,
         self.all_items(On2(f))
     }
 
-    /// Whether `f` answers `true` at the items of some index list; it stops at the first `true`.
+    /// Whether `f` returns `true` at the items of some index list; it stops at the first `true`.
     pub fn any<F: FnMut(X, Y) -> bool>(self, f: F) -> bool
         requires callable { (o : Order) → MayTest (N.yields_at self.nested) (call_gives2 F.FnMut) (can_call2 F.FnMut) (box_in o (N.lengths self.nested)) f false }
         ensures ran { (o : Order) × TestsUntil (N.yields_at self.nested) (call_gives2 F.FnMut) (box_in o (N.lengths self.nested)) f false true result }
@@ -137,7 +137,7 @@ impl<X, Y, N: NdProducer<Item = (X, Y), Dim = D>, D: Lengths> Zip<Parts<N, Two>,
         self.any_items(On2(f))
     }
 
-    /// The array that has at each index list what `f` answers at the items there.
+    /// The array that has at each index list what `f` returns at the items there.
     ///
     /// All memory is reserved before the first call; an `Err` calls `f` never, and where there is no index
     /// list there is none.
@@ -155,7 +155,7 @@ impl<X, Y, N: NdProducer<Item = (X, Y), Dim = D>, D: Lengths> Zip<Parts<N, Two>,
         self.collect_items(alloc, On2(f))
     }
 
-    /// Leaves in the cells of an array what `f` answers at the items of each index list.
+    /// Leaves in the cells of an array what `f` returns at the items of each index list.
     ///
     /// Requires that the array has the same shape; check with `fits`.
     pub fn map_assign_into<R: Drop, S: DataMut<Elem = R>, F: FnMut(X, Y) -> R>(
@@ -181,7 +181,7 @@ impl<X, Y, Z, N: NdProducer<Item = ((X, Y), Z), Dim = D>, D: Lengths> Zip<Parts<
         self.visit_items(On3(f))
     }
 
-    /// Calls `f` once at the total and the items of each index list; each answer is the next total, and the
+    /// Calls `f` once at the total and the items of each index list; what it returns is the next total, and the
     /// last one the result.
     pub fn fold<B, F: FnMut(B, X, Y, Z) -> B>(self, acc: B, f: F) -> B
         requires callable { (o : Order) → MayFold (N.yields_at self.nested) (call_gives_fold3 F.FnMut) (can_call_fold3 F.FnMut) (box_in o (N.lengths self.nested)) f acc }
@@ -190,7 +190,7 @@ impl<X, Y, Z, N: NdProducer<Item = ((X, Y), Z), Dim = D>, D: Lengths> Zip<Parts<
         self.fold_items(acc, On3(f))
     }
 
-    /// As `fold`, up to the first answer that is `Done`.
+    /// As `fold`, up to the first result that is `Done`.
     pub fn fold_while<B, F: FnMut(B, X, Y, Z) -> FoldWhile<B>>(self, acc: B, f: F) -> FoldWhile<B>
         requires callable { (o : Order) → MayFoldWhile (N.yields_at self.nested) (call_gives_fold3 F.FnMut) (can_call_fold3 F.FnMut) (box_in o (N.lengths self.nested)) f acc }
         ensures ran { (o : Order) × FoldsWhile (N.yields_at self.nested) (call_gives_fold3 F.FnMut) (box_in o (N.lengths self.nested)) f acc result }
@@ -198,7 +198,7 @@ impl<X, Y, Z, N: NdProducer<Item = ((X, Y), Z), Dim = D>, D: Lengths> Zip<Parts<
         self.fold_items_while(acc, On3(f))
     }
 
-    /// Whether `f` answers `true` at the items of each index list; it stops at the first `false`.
+    /// Whether `f` returns `true` at the items of each index list; it stops at the first `false`.
     pub fn all<F: FnMut(X, Y, Z) -> bool>(self, f: F) -> bool
         requires callable { (o : Order) → MayTest (N.yields_at self.nested) (call_gives3 F.FnMut) (can_call3 F.FnMut) (box_in o (N.lengths self.nested)) f true }
         ensures ran { (o : Order) × TestsUntil (N.yields_at self.nested) (call_gives3 F.FnMut) (box_in o (N.lengths self.nested)) f true false result }
@@ -206,7 +206,7 @@ impl<X, Y, Z, N: NdProducer<Item = ((X, Y), Z), Dim = D>, D: Lengths> Zip<Parts<
         self.all_items(On3(f))
     }
 
-    /// Whether `f` answers `true` at the items of some index list; it stops at the first `true`.
+    /// Whether `f` returns `true` at the items of some index list; it stops at the first `true`.
     pub fn any<F: FnMut(X, Y, Z) -> bool>(self, f: F) -> bool
         requires callable { (o : Order) → MayTest (N.yields_at self.nested) (call_gives3 F.FnMut) (can_call3 F.FnMut) (box_in o (N.lengths self.nested)) f false }
         ensures ran { (o : Order) × TestsUntil (N.yields_at self.nested) (call_gives3 F.FnMut) (box_in o (N.lengths self.nested)) f false true result }
@@ -214,7 +214,7 @@ impl<X, Y, Z, N: NdProducer<Item = ((X, Y), Z), Dim = D>, D: Lengths> Zip<Parts<
         self.any_items(On3(f))
     }
 
-    /// The array that has at each index list what `f` answers at the items there.
+    /// The array that has at each index list what `f` returns at the items there.
     ///
     /// All memory is reserved before the first call; an `Err` calls `f` never, and where there is no index
     /// list there is none.
@@ -232,7 +232,7 @@ impl<X, Y, Z, N: NdProducer<Item = ((X, Y), Z), Dim = D>, D: Lengths> Zip<Parts<
         self.collect_items(alloc, On3(f))
     }
 
-    /// Leaves in the cells of an array what `f` answers at the items of each index list.
+    /// Leaves in the cells of an array what `f` returns at the items of each index list.
     ///
     /// Requires that the array has the same shape; check with `fits`.
     pub fn map_assign_into<R: Drop, S: DataMut<Elem = R>, F: FnMut(X, Y, Z) -> R>(
@@ -261,7 +261,7 @@ impl<X, Y, Z, U, N: NdProducer<Item = (((X, Y), Z), U), Dim = D>, D: Lengths> Zi
         self.visit_items(On4(f))
     }
 
-    /// Calls `f` once at the total and the items of each index list; each answer is the next total, and the
+    /// Calls `f` once at the total and the items of each index list; what it returns is the next total, and the
     /// last one the result.
     pub fn fold<B, F: FnMut(B, X, Y, Z, U) -> B>(self, acc: B, f: F) -> B
         requires callable { (o : Order) → MayFold (N.yields_at self.nested) (call_gives_fold4 F.FnMut) (can_call_fold4 F.FnMut) (box_in o (N.lengths self.nested)) f acc }
@@ -270,7 +270,7 @@ impl<X, Y, Z, U, N: NdProducer<Item = (((X, Y), Z), U), Dim = D>, D: Lengths> Zi
         self.fold_items(acc, On4(f))
     }
 
-    /// As `fold`, up to the first answer that is `Done`.
+    /// As `fold`, up to the first result that is `Done`.
     pub fn fold_while<B, F: FnMut(B, X, Y, Z, U) -> FoldWhile<B>>(
         self,
         acc: B,
@@ -282,7 +282,7 @@ impl<X, Y, Z, U, N: NdProducer<Item = (((X, Y), Z), U), Dim = D>, D: Lengths> Zi
         self.fold_items_while(acc, On4(f))
     }
 
-    /// Whether `f` answers `true` at the items of each index list; it stops at the first `false`.
+    /// Whether `f` returns `true` at the items of each index list; it stops at the first `false`.
     pub fn all<F: FnMut(X, Y, Z, U) -> bool>(self, f: F) -> bool
         requires callable { (o : Order) → MayTest (N.yields_at self.nested) (call_gives4 F.FnMut) (can_call4 F.FnMut) (box_in o (N.lengths self.nested)) f true }
         ensures ran { (o : Order) × TestsUntil (N.yields_at self.nested) (call_gives4 F.FnMut) (box_in o (N.lengths self.nested)) f true false result }
@@ -290,7 +290,7 @@ impl<X, Y, Z, U, N: NdProducer<Item = (((X, Y), Z), U), Dim = D>, D: Lengths> Zi
         self.all_items(On4(f))
     }
 
-    /// Whether `f` answers `true` at the items of some index list; it stops at the first `true`.
+    /// Whether `f` returns `true` at the items of some index list; it stops at the first `true`.
     pub fn any<F: FnMut(X, Y, Z, U) -> bool>(self, f: F) -> bool
         requires callable { (o : Order) → MayTest (N.yields_at self.nested) (call_gives4 F.FnMut) (can_call4 F.FnMut) (box_in o (N.lengths self.nested)) f false }
         ensures ran { (o : Order) × TestsUntil (N.yields_at self.nested) (call_gives4 F.FnMut) (box_in o (N.lengths self.nested)) f false true result }
@@ -298,7 +298,7 @@ impl<X, Y, Z, U, N: NdProducer<Item = (((X, Y), Z), U), Dim = D>, D: Lengths> Zi
         self.any_items(On4(f))
     }
 
-    /// The array that has at each index list what `f` answers at the items there.
+    /// The array that has at each index list what `f` returns at the items there.
     ///
     /// All memory is reserved before the first call; an `Err` calls `f` never, and where there is no index
     /// list there is none.
@@ -316,7 +316,7 @@ impl<X, Y, Z, U, N: NdProducer<Item = (((X, Y), Z), U), Dim = D>, D: Lengths> Zi
         self.collect_items(alloc, On4(f))
     }
 
-    /// Leaves in the cells of an array what `f` answers at the items of each index list.
+    /// Leaves in the cells of an array what `f` returns at the items of each index list.
     ///
     /// Requires that the array has the same shape; check with `fits`.
     pub fn map_assign_into<R: Drop, S: DataMut<Elem = R>, F: FnMut(X, Y, Z, U) -> R>(
@@ -345,7 +345,7 @@ impl<X, Y, Z, U, V, N: NdProducer<Item = ((((X, Y), Z), U), V), Dim = D>, D: Len
         self.visit_items(On5(f))
     }
 
-    /// Calls `f` once at the total and the items of each index list; each answer is the next total, and the
+    /// Calls `f` once at the total and the items of each index list; what it returns is the next total, and the
     /// last one the result.
     pub fn fold<B, F: FnMut(B, X, Y, Z, U, V) -> B>(self, acc: B, f: F) -> B
         requires callable { (o : Order) → MayFold (N.yields_at self.nested) (call_gives_fold5 F.FnMut) (can_call_fold5 F.FnMut) (box_in o (N.lengths self.nested)) f acc }
@@ -354,7 +354,7 @@ impl<X, Y, Z, U, V, N: NdProducer<Item = ((((X, Y), Z), U), V), Dim = D>, D: Len
         self.fold_items(acc, On5(f))
     }
 
-    /// As `fold`, up to the first answer that is `Done`.
+    /// As `fold`, up to the first result that is `Done`.
     pub fn fold_while<B, F: FnMut(B, X, Y, Z, U, V) -> FoldWhile<B>>(
         self,
         acc: B,
@@ -366,7 +366,7 @@ impl<X, Y, Z, U, V, N: NdProducer<Item = ((((X, Y), Z), U), V), Dim = D>, D: Len
         self.fold_items_while(acc, On5(f))
     }
 
-    /// Whether `f` answers `true` at the items of each index list; it stops at the first `false`.
+    /// Whether `f` returns `true` at the items of each index list; it stops at the first `false`.
     pub fn all<F: FnMut(X, Y, Z, U, V) -> bool>(self, f: F) -> bool
         requires callable { (o : Order) → MayTest (N.yields_at self.nested) (call_gives5 F.FnMut) (can_call5 F.FnMut) (box_in o (N.lengths self.nested)) f true }
         ensures ran { (o : Order) × TestsUntil (N.yields_at self.nested) (call_gives5 F.FnMut) (box_in o (N.lengths self.nested)) f true false result }
@@ -374,7 +374,7 @@ impl<X, Y, Z, U, V, N: NdProducer<Item = ((((X, Y), Z), U), V), Dim = D>, D: Len
         self.all_items(On5(f))
     }
 
-    /// Whether `f` answers `true` at the items of some index list; it stops at the first `true`.
+    /// Whether `f` returns `true` at the items of some index list; it stops at the first `true`.
     pub fn any<F: FnMut(X, Y, Z, U, V) -> bool>(self, f: F) -> bool
         requires callable { (o : Order) → MayTest (N.yields_at self.nested) (call_gives5 F.FnMut) (can_call5 F.FnMut) (box_in o (N.lengths self.nested)) f false }
         ensures ran { (o : Order) × TestsUntil (N.yields_at self.nested) (call_gives5 F.FnMut) (box_in o (N.lengths self.nested)) f false true result }
@@ -382,7 +382,7 @@ impl<X, Y, Z, U, V, N: NdProducer<Item = ((((X, Y), Z), U), V), Dim = D>, D: Len
         self.any_items(On5(f))
     }
 
-    /// The array that has at each index list what `f` answers at the items there.
+    /// The array that has at each index list what `f` returns at the items there.
     ///
     /// All memory is reserved before the first call; an `Err` calls `f` never, and where there is no index
     /// list there is none.
@@ -400,7 +400,7 @@ impl<X, Y, Z, U, V, N: NdProducer<Item = ((((X, Y), Z), U), V), Dim = D>, D: Len
         self.collect_items(alloc, On5(f))
     }
 
-    /// Leaves in the cells of an array what `f` answers at the items of each index list.
+    /// Leaves in the cells of an array what `f` returns at the items of each index list.
     ///
     /// Requires that the array has the same shape; check with `fits`.
     pub fn map_assign_into<R: Drop, S: DataMut<Elem = R>, F: FnMut(X, Y, Z, U, V) -> R>(
@@ -429,7 +429,7 @@ impl<X, Y, Z, U, V, W, N: NdProducer<Item = (((((X, Y), Z), U), V), W), Dim = D>
         self.visit_items(On6(f))
     }
 
-    /// Calls `f` once at the total and the items of each index list; each answer is the next total, and the
+    /// Calls `f` once at the total and the items of each index list; what it returns is the next total, and the
     /// last one the result.
     pub fn fold<B, F: FnMut(B, X, Y, Z, U, V, W) -> B>(self, acc: B, f: F) -> B
         requires callable { (o : Order) → MayFold (N.yields_at self.nested) (call_gives_fold6 F.FnMut) (can_call_fold6 F.FnMut) (box_in o (N.lengths self.nested)) f acc }
@@ -438,7 +438,7 @@ impl<X, Y, Z, U, V, W, N: NdProducer<Item = (((((X, Y), Z), U), V), W), Dim = D>
         self.fold_items(acc, On6(f))
     }
 
-    /// As `fold`, up to the first answer that is `Done`.
+    /// As `fold`, up to the first result that is `Done`.
     pub fn fold_while<B, F: FnMut(B, X, Y, Z, U, V, W) -> FoldWhile<B>>(
         self,
         acc: B,
@@ -450,7 +450,7 @@ impl<X, Y, Z, U, V, W, N: NdProducer<Item = (((((X, Y), Z), U), V), W), Dim = D>
         self.fold_items_while(acc, On6(f))
     }
 
-    /// Whether `f` answers `true` at the items of each index list; it stops at the first `false`.
+    /// Whether `f` returns `true` at the items of each index list; it stops at the first `false`.
     pub fn all<F: FnMut(X, Y, Z, U, V, W) -> bool>(self, f: F) -> bool
         requires callable { (o : Order) → MayTest (N.yields_at self.nested) (call_gives6 F.FnMut) (can_call6 F.FnMut) (box_in o (N.lengths self.nested)) f true }
         ensures ran { (o : Order) × TestsUntil (N.yields_at self.nested) (call_gives6 F.FnMut) (box_in o (N.lengths self.nested)) f true false result }
@@ -458,7 +458,7 @@ impl<X, Y, Z, U, V, W, N: NdProducer<Item = (((((X, Y), Z), U), V), W), Dim = D>
         self.all_items(On6(f))
     }
 
-    /// Whether `f` answers `true` at the items of some index list; it stops at the first `true`.
+    /// Whether `f` returns `true` at the items of some index list; it stops at the first `true`.
     pub fn any<F: FnMut(X, Y, Z, U, V, W) -> bool>(self, f: F) -> bool
         requires callable { (o : Order) → MayTest (N.yields_at self.nested) (call_gives6 F.FnMut) (can_call6 F.FnMut) (box_in o (N.lengths self.nested)) f false }
         ensures ran { (o : Order) × TestsUntil (N.yields_at self.nested) (call_gives6 F.FnMut) (box_in o (N.lengths self.nested)) f false true result }

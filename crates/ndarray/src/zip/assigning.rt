@@ -1,4 +1,4 @@
-//! Arrays whose cells become what a closure answers at the items of a producer.
+//! Arrays whose cells become what a closure returns at the items of a producer.
 
 ghost use Rattle.std.specs.Prelude.{◌≡◌, MatchResult};
 ghost use Rattle.ndarray.specs.Grid.{IsGrid};
@@ -26,7 +26,7 @@ pub(crate) fn assigning_order<P: NdProducer, S: DataMut, D: Lengths>(
     Order::by_tendency(p.tendency().saturating_add(into.layout_tendency()))
 }
 
-/// Leaves in an array at each index list what a closure answers at the item there.
+/// Leaves in an array at each index list what a closure returns at the item there.
 pub(crate) fn assign_items<
     P: NdProducer,
     R: Drop,

@@ -7,7 +7,7 @@ use std::marker::Model;
 
 /// What can be called at an item.
 pub(crate) trait ItemCall<A>: Drop {
-    /// What it answers.
+    /// What it returns.
     type Out;
 
     // Whether it may be called.
@@ -24,7 +24,7 @@ pub(crate) trait ItemCall<A>: Drop {
 
 /// What can be called at a total and an item.
 pub(crate) trait FoldCall<B, A>: Drop {
-    /// What it answers.
+    /// What it returns.
     type Out;
 
     // Whether it may be called.

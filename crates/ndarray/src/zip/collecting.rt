@@ -1,4 +1,4 @@
-//! Arrays of what a closure answers at the items of a producer.
+//! Arrays of what a closure returns at the items of a producer.
 
 ghost use Rattle.std.specs.Prelude.{◌≡◌, ◌<◌, IfOk, IsOk, Err, length, MatchResult};
 ghost use Rattle.ndarray.specs.base.Builder.{pushed_to};
@@ -22,7 +22,7 @@ use crate::zip::walk::{Turn, take_items};
 use std::alloc::{AllocError, Global};
 use std::marker::Model;
 
-/// The array that has at each index list what a closure answers at the item there, filled in an order.
+/// The array that has at each index list what a closure returns at the item there, filled in an order.
 pub(crate) fn collect_items<P: NdProducer, R: Drop, C: ItemCall<P::Item, Out = R>>(
     alloc: Global,
     p: P,
@@ -38,7 +38,7 @@ pub(crate) fn collect_items<P: NdProducer, R: Drop, C: ItemCall<P::Item, Out = R
     try_collect_items(alloc, p, order, NeverRefused(f))
 }
 
-/// The same of a closure that may fail: the array where it answers `Ok` at each item, else its first error.
+/// The same of a closure that may fail: the array where it returns `Ok` at each item, else its first error.
 pub(crate) fn try_collect_items<
     P: NdProducer,
     R: Drop,
@@ -57,7 +57,7 @@ pub(crate) fn try_collect_items<
     }
 }
 
-/// The array of what a closure answers at the items of a producer, filled in the order that suits it.
+/// The array of what a closure returns at the items of a producer, filled in the order that suits it.
 pub(crate) fn collect_in_either_order<P: NdProducer, R: Drop, C: ItemCall<P::Item, Out = R>>(
     alloc: Global,
     p: P,
@@ -91,7 +91,7 @@ pub(crate) fn try_collect_in_either_order<
     try_collect_items(alloc, p, order, f)
 }
 
-/// The array of what a closure answers at the items of two producers of one shape, side by side.
+/// The array of what a closure returns at the items of two producers of one shape, side by side.
 pub(crate) fn collect_of_both<
     P: NdProducer,
     Q: NdProducer,
@@ -125,7 +125,7 @@ pub(crate) fn try_collect_of_both<
     try_collect_in_either_order(alloc, Pair { first, second }, f)
 }
 
-/// An array that is being filled with what a closure answers.
+/// An array that is being filled with what a closure returns.
 #[derive(Drop)]
 struct Collecting<R, D: Lengths, C> {
     builder: ArrayBuilder<R, D>,

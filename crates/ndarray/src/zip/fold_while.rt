@@ -3,7 +3,7 @@
 ghost use Rattle.std.specs.Prelude.{◌≡◌, ◌↔◌, IsTrue, ⊤};
 ghost use Rattle.ndarray.specs.FoldWhiles.{IsDone, value_in};
 
-/// What the closure of `fold_while` answers: whether to go on, and with which value.
+/// What the closure of `fold_while` returns: whether to go on, and with which value.
 #[derive(Debug, Clone, Copy)]
 pub enum FoldWhile<T> {
     /// Goes on with this value.

@@ -42,7 +42,7 @@ impl<X, B, C: FoldCall<B, X, Out = B>> Turn<X> for Folding<C, B> {
     }
 }
 
-/// Calls a closure at the total and each item in turn; each answer is the next total.
+/// Calls a closure at the total and each item in turn; what it returns is the next total.
 pub(crate) fn fold_items<P: NdProducer, B, C: FoldCall<B, P::Item, Out = B>>(
     p: P,
     order: Order,
@@ -58,7 +58,7 @@ pub(crate) fn fold_items<P: NdProducer, B, C: FoldCall<B, P::Item, Out = B>>(
     }
 }
 
-/// A closure to be called at items, whose answers say nothing.
+/// A closure to be called at items, whose results say nothing.
 #[derive(Drop)]
 struct Visiting<C>(C);
 
@@ -126,7 +126,7 @@ impl<X, C: ItemCall<X, Out = bool>> Turn<X> for WhileTrue<C> {
     }
 }
 
-/// Whether a closure answers `true` at each item; it stops at the first `false`.
+/// Whether a closure returns `true` at each item; it stops at the first `false`.
 pub(crate) fn all_items<P: NdProducer, C: ItemCall<P::Item, Out = bool>>(
     p: P,
     order: Order,
@@ -168,7 +168,7 @@ impl<X, C: ItemCall<X, Out = bool>> Turn<X> for WhileFalse<C> {
     }
 }
 
-/// Whether a closure answers `true` at some item; it stops at the first `true`.
+/// Whether a closure returns `true` at some item; it stops at the first `true`.
 pub(crate) fn any_items<P: NdProducer, C: ItemCall<P::Item, Out = bool>>(
     p: P,
     order: Order,
@@ -211,7 +211,7 @@ impl<X, B, C: FoldCall<B, X, Out = FoldWhile<B>>> Turn<X> for FoldingWhile<C, B>
     }
 }
 
-/// Calls a closure at the total and each item in turn, up to the first answer that is done.
+/// Calls a closure at the total and each item in turn, up to the first result that is done.
 pub(crate) fn fold_items_while<P: NdProducer, B, C: FoldCall<B, P::Item, Out = FoldWhile<B>>>(
     p: P,
     order: Order,

@@ -24,7 +24,7 @@ use core::mem::replace_with;
 use std::alloc::AllocError;
 use std::marker::Model;
 
-/// What answers the new cell at an old one and an item beside it, or an error.
+/// What returns the new cell at an old one and an item beside it, or an error.
 pub(crate) trait CellCall<A, X>: Drop {
     // Whether it may be called.
     ghost can_call: { Self → A × X → Type 0 };
@@ -52,7 +52,7 @@ impl<'b, A: Drop, B, F: FnMut(&A, &B) -> Result<A, AllocError>> CellCall<A, &'b 
     }
 }
 
-/// Leaves in each cell of an array what `f` answers at the cell and the item of a producer at its index list, up to
+/// Leaves in each cell of an array what `f` returns at the cell and the item of a producer at its index list, up to
 /// the first error, which is returned. The cells from there on stay as they are.
 ///
 /// The elements are taken out of the array for the walk, and the places of the cells are walked beside the items.
@@ -87,7 +87,7 @@ struct Updates<P, C> {
     f: C,
 }
 
-/// Leaves in the element at each place what the call answers at it and the item beside it, up to the first error.
+/// Leaves in the element at each place what the call returns at it and the item beside it, up to the first error.
 fn update_elements<
     X,
     P: NdProducer<Item = (X, usize)>,
@@ -119,7 +119,7 @@ fn update_beside<P: NdProducer, A: Drop, S: DataMut<Elem = A>, C: CellCall<A, P:
     update_elements(storage, updates)
 }
 
-/// Elements that are overwritten with what a call answers.
+/// Elements that are overwritten with what a call returns.
 #[derive(Drop)]
 struct Overwriting<S, C> {
     storage: S,

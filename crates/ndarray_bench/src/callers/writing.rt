@@ -128,7 +128,7 @@ pub fn write_both_ends<'a, I: DoubleEndedIterator<Item = &'a mut i64>>(given: I,
     }
 }
 
-/// Writes a value to the last cell of a view whose cells lie side by side in row order, and answers whether they do.
+/// Writes a value to the last cell of a view whose cells lie side by side in row order, and returns whether they do.
 pub fn write_last<D: Lengths>(view: ArrayViewMut<'_, i64, D>, value: i64) -> bool {
     match view.try_into_slice() {
         Ok(slice) => {
@@ -158,7 +158,7 @@ pub fn add_up_to_three<S: DataMut<Elem = i64>, T: Data<Elem = i64>>(
     })
 }
 
-/// Writes twice each number, of any producer of numbers, into an array of its lengths; or answers `false`, where the array has
+/// Writes twice each number, of any producer of numbers, into an array of its lengths; or returns `false`, where the array has
 /// others.
 pub fn double_into<'a, N: NdProducer<Item = &'a i64, Dim = Ix2>>(
     zip: Zip<Parts<N, One>, Ix2>,

@@ -14,7 +14,7 @@ pub trait Item: Sized + Drop {
     /// Appends the item, or writes this number to each of its cells.
     fn take(self, text: &mut String, number: i64) -> Result<(), AllocError>;
 
-    /// Writes to one cell after another the number `first` and those after it, and answers the next one. One to read
+    /// Writes to one cell after another the number `first` and those after it, and returns the next one. One to read
     /// stays as it is.
     fn number_cells(self, first: i64) -> i64 {
         first
@@ -94,7 +94,7 @@ pub fn fill<D: Lengths>(given: ArrayViewMut<'_, i64, D>, number: i64) {
     }
 }
 
-/// Writes the number `first` and those after it to the cells of all items, and answers the next one.
+/// Writes the number `first` and those after it to the cells of all items, and returns the next one.
 pub fn number_all<I: Iterator>(items: I, first: i64) -> i64
 where
     I::Item: Item,

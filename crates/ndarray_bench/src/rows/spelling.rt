@@ -143,7 +143,7 @@ pub fn cell(word: &str) -> Option<i64> {
     word.parse::<i64>().ok()
 }
 
-/// Pushes all cells from the first to the last, and answers whether both are spelled.
+/// Pushes all cells from the first to the last, and returns whether both are spelled.
 fn push_range(cells: &mut Vec<i64>, first: &str, last: &str) -> Result<bool, AllocError> {
     let (Some(first), Some(last)) = (cell(first), cell(last)) else {
         return Ok(false);
@@ -154,7 +154,7 @@ fn push_range(cells: &mut Vec<i64>, first: &str, last: &str) -> Result<bool, All
     Ok(true)
 }
 
-/// Pushes a cell as often as a word says, and answers whether it is spelled.
+/// Pushes a cell as often as a word says, and returns whether it is spelled.
 fn push_copies(cells: &mut Vec<i64>, word: &str) -> Result<bool, AllocError> {
     let (word, count) = word.split_once('*').unwrap_or((word, "1"));
     let (Some(cell), Some(count)) = (cell(word), number(count)) else {

@@ -21,7 +21,7 @@ pub enum Ending {
 }
 
 impl Ending {
-    /// The answers, or the word for why there are none.
+    /// The returns, or the word for why there are none.
     pub fn into_text(self, alloc: Global) -> Result<String, AllocError> {
         match self {
             Ending::Done(text) => Ok(text),
@@ -47,7 +47,7 @@ impl Answers {
         }
     }
 
-    /// Takes an item, and answers `none` where there is none.
+    /// Takes an item, and returns `none` where there is none.
     fn take<T: Item>(&mut self, item: Option<T>) -> Result<(), AllocError> {
         let Some(item) = item else {
             self.number = self.number.wrapping_add(1);
@@ -111,7 +111,7 @@ impl Answers {
         Ok(Some(second))
     }
 
-    /// Carries out a step that any iterator has, and answers whether it is one.
+    /// Carries out a step that any iterator has, and returns whether it is one.
     fn step<I: Iterator>(&mut self, items: &mut I, step: Step) -> Result<bool, AllocError>
     where
         I::Item: Item,
@@ -127,7 +127,7 @@ impl Answers {
         Ok(true)
     }
 
-    /// Carries out a step that an iterator has which goes from both ends, and answers whether it is one.
+    /// Carries out a step that an iterator has which goes from both ends, and returns whether it is one.
     fn step_from_ends<I: DoubleEndedIterator>(
         &mut self,
         items: &mut I,

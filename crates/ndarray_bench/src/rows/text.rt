@@ -43,7 +43,7 @@ pub fn push_numbers(text: &mut String, numbers: &[usize], between: &str) -> Resu
     Ok(())
 }
 
-/// Appends what stands between two answers, where there is one already.
+/// Appends what comes between two answers, where there is one already.
 pub fn push_separator(text: &mut String) -> Result<(), AllocError> {
     if text.is_empty() {
         return Ok(());

@@ -8,7 +8,7 @@ use crate::rows::text::{as_text, push_lengths, push_view};
 use ndarray::Axis;
 use std::alloc::{AllocError, Global};
 
-/// What a call answers; `None` for another call.
+/// What a call returns; `None` for another call.
 pub fn answer(
     alloc: Global,
     view: &View<'_>,
@@ -26,7 +26,7 @@ pub fn answer(
     }
 }
 
-/// What a call answers whose arguments are numbers.
+/// What a call returns whose arguments are numbers.
 fn of_numbers(
     alloc: Global,
     view: &View<'_>,
@@ -52,7 +52,7 @@ fn is_so(alloc: Global, answer: Option<bool>) -> Result<Option<String>, AllocErr
     }
 }
 
-/// What a call without arguments answers.
+/// What a call without arguments returns.
 fn of_view(alloc: Global, view: &View<'_>, name: &str) -> Result<Option<String>, AllocError> {
     match name {
         "shape" => lengths(alloc, view).map(Some),
@@ -66,7 +66,7 @@ fn of_view(alloc: Global, view: &View<'_>, name: &str) -> Result<Option<String>,
     }
 }
 
-/// What a call answers of an axis.
+/// What a call returns of an axis.
 fn along(
     alloc: Global,
     view: &View<'_>,
@@ -84,7 +84,7 @@ fn along(
     }
 }
 
-/// What a call with two numbers answers.
+/// What a call with two numbers returns.
 fn of_two(
     alloc: Global,
     view: &View<'_>,
@@ -103,13 +103,13 @@ fn of_two(
     }
 }
 
-/// What `slice_ok` answers of a spelled slice.
+/// What `slice_ok` returns of a spelled slice.
 fn slice_fits(view: &View<'_>, words: &[&str]) -> Option<bool> {
     let (axis, slice) = slice_of_axis(words)?;
     Some(view.slice_ok(axis, slice))
 }
 
-/// What `chunks_ok` answers of spelled lengths.
+/// What `chunks_ok` returns of spelled lengths.
 fn chunks_fit(alloc: Global, view: &View<'_>, words: &[&str]) -> Result<Option<bool>, AllocError> {
     match shape(alloc, words)? {
         Some(chunk) => Ok(Some(view.chunks_ok(&chunk))),
@@ -117,7 +117,7 @@ fn chunks_fit(alloc: Global, view: &View<'_>, words: &[&str]) -> Result<Option<b
     }
 }
 
-/// What `windows_ok` answers of spelled lengths and steps.
+/// What `windows_ok` returns of spelled lengths and steps.
 fn windows_fit(alloc: Global, view: &View<'_>, words: &[&str]) -> Result<Option<bool>, AllocError> {
     match two_shapes(alloc, words)? {
         Some((window, strides)) => Ok(Some(view.windows_ok(&window, &strides))),
