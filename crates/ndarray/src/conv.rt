@@ -46,6 +46,12 @@ pub fn conv_valid<A: LinalgScalar, S: Data<Elem = A>, S2: Data<Elem = A>, D: Dim
 }
 
 /// Whether two arrays have a valid convolution: as many axes on both sides, and kernel lengths of at least 1.
+///
+/// ```
+/// let a = ArrayView::from_shape((3, 3), &[1, 2, 3, 4, 5, 6, 7, 8, 9])?;
+/// let k = ArrayView::from_shape((2, 0), &[])?;
+/// assert!(!conv_valid_ok(&a, &k)); // a kernel length of 0
+/// ```
 pub fn conv_valid_ok<S: Data, S2: Data, D: Dimension>(
     a: &ArrayBase<S, D>,
     k: &ArrayBase<S2, D>,
@@ -216,6 +222,12 @@ pub fn conv_full<A: LinalgScalar, S: Data<Elem = A>, S2: Data<Elem = A>>(
 }
 
 /// Whether two vectors have a full convolution: where both have cells, of lengths n and m, n + 2m - 2 is at most `isize::MAX`.
+///
+/// ```
+/// if conv_full_ok(&x, &y) && full_fits(&x, &y) {
+///     let product = conv_full(alloc, &x, &y)?;
+/// }
+/// ```
 pub fn conv_full_ok<S: Data, S2: Data>(x: &ArrayBase<S, Ix1>, y: &ArrayBase<S2, Ix1>) -> bool
     ensures { IsTrue result ↔ CanPad (length x.now.cells) (length y.now.cells) }
 {

@@ -17,6 +17,11 @@ impl<A: Clone, S: Data<Elem = A>, D: Lengths> ArrayBase<S, D> {
     /// An array of the same lengths whose cells are clones of this one's.
     ///
     /// The error is allocation failure, for the array or for a clone.
+    ///
+    /// ```
+    /// let a = ArrayView::from_shape((2, 3), &[1, 2, 3, 4, 5, 6])?;
+    /// a.t().to_owned(alloc)?; // an array of its own, [[1, 4], [2, 5], [3, 6]]
+    /// ```
     pub fn to_owned(&self, alloc: Global) -> Result<Array<A, D>, AllocError>
         ensures lengths { IfOk result (λ a. a.lengths ≡ self.now.lengths) }
         ensures axes { IfOk result (λ a. D.has_axes (length a.lengths)) }
@@ -33,6 +38,11 @@ impl<A: Clone, S: Data<Elem = A>, D: Lengths> ArrayBase<S, D> {
     /// this one.
     ///
     /// The error is allocation failure, for the array or for a clone; this array is then gone.
+    ///
+    /// ```
+    /// let a = ArrayView::from_shape((2, 3), &[1, 2, 3, 4, 5, 6])?;
+    /// let table = CowArray::from(a).into_owned(alloc)?; // clones, since it was a view
+    /// ```
     pub fn into_owned(self, alloc: Global) -> Result<Array<A, D>, AllocError>
         ensures owned { ((s : S) → S.owns s) → IsOk result × IfOk result (λ a. a ≡ self) }
         ensures lengths { IfOk result (λ a. a.lengths ≡ self.lengths) }

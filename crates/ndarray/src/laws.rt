@@ -21,6 +21,10 @@ use std::ops::Sub;
 
 /// The column order of a box holds the index lists of its row order, each once. The sums over both are equal: of a value for each
 /// index list, and of the cells of an array.
+///
+/// ```
+/// column_order::<i64>(); // from here on the proof has both orders of any box
+/// ```
 pub fn column_order<A: Valued>()
     ensures rearranges { ColumnOrderRearranges }
     ensures totals { OrdersHaveEqualTotals A.addition }
@@ -28,17 +32,29 @@ pub fn column_order<A: Valued>()
 {}
 
 /// (AB)C is A(BC), where the inner lengths are equal.
+///
+/// ```
+/// mat_assoc::<i64>(); // then the law holds of `i64` in the proof of the caller
+/// ```
 pub fn mat_assoc<A: LinalgScalar>()
     ensures { ProductsAssociate A.addition A.multiplication }
 {}
 
 /// The transpose of AB is the transpose of B times the transpose of A, where the inner lengths are equal.
+///
+/// ```
+/// mat_transpose::<i64>(); // then the law holds of `i64` in the proof of the caller
+/// ```
 pub fn mat_transpose<A: LinalgScalar>()
     ensures { ProductsTranspose A.addition A.multiplication }
 {}
 
 /// Of Kronecker products: (A kron B)(C kron D) is AC kron BD, where the inner lengths are equal; (A kron B) kron C is
 /// A kron (B kron C); and the transpose of A kron B is the transpose of A kron the transpose of B.
+///
+/// ```
+/// kron_mixed::<i64>(); // then the law holds of `i64` in the proof of the caller
+/// ```
 pub fn kron_mixed<A: LinalgScalar>()
     ensures mixed { KroneckersMultiply A.addition A.multiplication }
     ensures associates { KroneckersAssociate A.multiplication }
@@ -48,6 +64,10 @@ pub fn kron_mixed<A: LinalgScalar>()
 /// Of vectors and matrices, `dot` of `IxDyn` is the matrix product: they multiply where the last length of the left is the first of
 /// the right and the product is within the limit, the sums of the lanes stay in range where those of the rows and columns do, and
 /// the array that `dot` makes has the values of the product of the matrices.
+///
+/// ```
+/// dot_agrees::<i64>(); // then the law holds of `i64` in the proof of the caller
+/// ```
 pub fn dot_agrees<A: LinalgScalar>()
     ensures shapes { ShapesMultiplyAsMatrices }
     ensures ranges { LaneSumsAreMatrixSums A.Valued }
@@ -56,6 +76,10 @@ pub fn dot_agrees<A: LinalgScalar>()
 
 /// The sum of all cells is the sum of the sums of the lanes along an axis, for each axis of the array. Where every selection of
 /// the cells has its sum in range, every selection of the lanes' sums has. Both hold of the arrays that `sum_axis` makes.
+///
+/// ```
+/// axis_sums::<i64>(); // then the law holds of `i64` in the proof of the caller
+/// ```
 pub fn axis_sums<A: Valued>()
     ensures totals { AxisSumsAddUp A.addition A.meaning }
     ensures ranges { AxisSumsStayInRange A.addition A.InRange A.meaning }
@@ -64,6 +88,10 @@ pub fn axis_sums<A: Valued>()
 
 /// With two or more axes, `triu(k)` and `tril(k - 1)` keep each cell exactly once between them: one has the cell, and the
 /// other has zero. Where zero has the neutral value, their sums add up to the sum of all cells.
+///
+/// ```
+/// triangles_part::<i64>(); // then the law holds of `i64` in the proof of the caller
+/// ```
 pub fn triangles_part<A: Valued>()
     ensures cells { TrianglesPart A }
     ensures totals { TriangleSumsAddUp A.addition A.meaning }
@@ -71,30 +99,50 @@ pub fn triangles_part<A: Valued>()
 
 /// The difference of order m + n along an axis is the difference of order n of the difference of order m. Where `diff` may be called
 /// with order m + n, it may be called with order m, and with order n on each result of that.
+///
+/// ```
+/// diff_adds::<i64>(); // then the law holds of `i64` in the proof of the caller
+/// ```
 pub fn diff_adds<A: Copy + Sub<A, Output = A>>()
     ensures same { DifferencesAdd A.sub_gives }
     ensures defined { DifferencesCanBeTaken A.can_sub A.sub_gives }
 {}
 
 /// A stack is the concatenation of the arrays with the new axis inserted in each, which is no error where the stack is none.
+///
+/// ```
+/// stack_is_concat::<i64>(); // then the law holds of `i64` in the proof of the caller
+/// ```
 pub fn stack_is_concat<A>()
     ensures { StackIsConcatenation A }
 {}
 
 /// The full convolution of two lists is that of the second and the first. It has one value less than both lists together, and none
 /// where one of them has none.
+///
+/// ```
+/// conv_commutes::<i64>(); // then the law holds of `i64` in the proof of the caller
+/// ```
 pub fn conv_commutes<A: LinalgScalar>()
     ensures length { HaveFullLength A.addition A.multiplication }
     ensures commutes { ConvolutionsCommute A.addition A.multiplication }
 {}
 
 /// The full convolutions of three lists are the same, grouped either way, empty lists too.
+///
+/// ```
+/// conv_assoc::<i64>(); // then the law holds of `i64` in the proof of the caller
+/// ```
 pub fn conv_assoc<A: LinalgScalar>()
     ensures { ConvolutionsAssociate A.addition A.multiplication }
 {}
 
 /// Along one axis, a valid convolution is the middle part of the full one; and two filters one after another are one with the full
 /// convolution of their kernels, of lists and of arrays.
+///
+/// ```
+/// conv_filters::<i64>(); // then the law holds of `i64` in the proof of the caller
+/// ```
 pub fn conv_filters<A: LinalgScalar>()
     ensures part { ValidIsPartOfFull A.addition A.multiplication }
     ensures lists { FiltersCompose A.addition A.multiplication }

@@ -85,6 +85,11 @@ impl<D: Lengths> Walk<D> {
     ///
     /// There is one list alone that is the box in the order. In either order it is a rearrangement
     /// of the box in row order.
+    ///
+    /// ```
+    /// for index in Walk::new(Ix2(2, 2), Order::RowMajor) { .. } // (0, 0), (0, 1), (1, 0), (1, 1)
+    /// for index in Walk::new(Ix2(2, 2), Order::ColumnMajor) { .. } // (0, 0), (1, 0), (0, 1), (1, 1)
+    /// ```
     pub fn new(dim: D, order: Order) -> Self
         requires { IsWithinLimit (D.numbers dim) }
         ensures list { result ≡ box_in order (D.numbers dim) }
@@ -103,6 +108,10 @@ impl<D: Lengths> Walk<D> {
     }
 
     /// How many index lists are still to come.
+    ///
+    /// ```
+    /// assert_eq!(Walk::new(Ix2(2, 3), Order::RowMajor).len(), 6);
+    /// ```
     pub fn len(&self) -> usize
         ensures { result ≡ length self.now }
     {

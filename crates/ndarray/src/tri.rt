@@ -1,16 +1,20 @@
 //! Triangles of the last two axes.
 
-ghost use Rattle.std.specs.Prelude.{◌≡◌, ◌<◌, ◌≤◌, ◌^◌, ◌&&◌, if◌then◌else◌, int_le, length, All, IfOk, IsOk, Some};
+ghost use Rattle.std.specs.Prelude.{◌≡◌, ℕ, pos, neg_ℤ, FitsSigned, ◌+ℤ◌, ◌+◌, ◌-◌, ◌<◌, ◌≤◌, ◌^◌, ◌&&◌, if◌then◌else◌, int_le, length, filter_map, replicate, true, false, All, IfOk, IsOk, Some};
+ghost use Rattle.std.specs.Int.{w64};
 ghost use Rattle.ndarray.specs.Elementwise.{ClonesAreEqual};
 ghost use Rattle.ndarray.specs.Grid.{IsGrid, cell};
 ghost use Rattle.ndarray.specs.Index.{InBox, size};
 ghost use Rattle.ndarray.specs.Limits.{IsWithinLimit};
 ghost use Rattle.ndarray.specs.Triangles.{column_minus_row, diagonals_kept, lower_triangle, upper_triangle};
+ghost use Rattle.ndarray.specs.base.Builder.{pushed_all};
+ghost use Rattle.ndarray.specs.base.Ranks.{row_from};
 
 use crate::base::array::{Array, ArrayBase, ArrayView};
 use crate::base::builder::ArrayBuilder;
 use crate::base::dimension::Lengths;
 use crate::base::storage::Data;
+use crate::order::rows::one_if_some;
 use crate::order::{Order, Walk};
 use num_traits::Zero;
 use std::alloc::{AllocError, Global};
@@ -57,11 +61,12 @@ impl<A: Clone + Zero, S: Data<Elem = A>, D: Lengths> ArrayBase<S, D> {
         ensures axes { IfOk result (λ r. D.has_axes (length r.lengths)) }
         ensures empty { size self.now.lengths ≡ 0 → IsOk result }
     {
-        diagonals(alloc, &self.view(), isize::MIN, k)
+        diagonals(alloc, &self.view(), -isize::MAX, k)
     }
 }
 
-/// The diagonals from one number of column less row to another, and zero elsewhere.
+/// The diagonals from one number of column less row to another, and zero elsewhere. Where the cells lie by columns, it is done on
+/// the array with its last two axes exchanged.
 fn diagonals<A: Clone + Zero, D: Lengths>(
     alloc: Global,
     array: &ArrayView<'_, A, D>,
@@ -77,14 +82,43 @@ fn diagonals<A: Clone + Zero, D: Lengths>(
     ensures empty { size array.now.lengths ≡ 0 → IsOk result }
 {
     if array.raw_dim().ndim() < 2 {
-        array.to_owned(alloc)
-    } else {
-        diagonals_of_matrices(alloc, array, first, last)
+        return array.to_owned(alloc);
+    }
+    match array.fast_order() {
+        // The least number has no opposite.
+        Order::ColumnMajor if isize::MIN < first && isize::MIN < last => {
+            diagonals_by_columns(alloc, array, first, last)
+        }
+        _ => diagonals_by_rows(alloc, array, first, last),
     }
 }
 
-/// The same of an array with two axes at least.
-fn diagonals_of_matrices<A: Clone + Zero, D: Lengths>(
+/// The same of an array with two axes at least, with its last two exchanged and exchanged back.
+fn diagonals_by_columns<A: Clone + Zero, D: Lengths>(
+    alloc: Global,
+    array: &ArrayView<'_, A, D>,
+    first: isize,
+    last: isize,
+) -> Result<Array<A, D>, AllocError>
+    requires clones { ClonesAreEqual A.is_clone }
+    requires axes { 2 ≤ length array.now.lengths }
+    requires first { FitsSigned w64 (neg_ℤ first) }
+    requires last { FitsSigned w64 (neg_ℤ last) }
+    ensures cells { IfOk result (λ r. r ≡ diagonals_kept (λ d. int_le first d && int_le d last) A.zero array.now) }
+    ensures whole { IfOk result IsGrid }
+    ensures axes { IfOk result (λ r. D.has_axes (length r.lengths)) }
+    ensures empty { size array.now.lengths ≡ 0 → IsOk result }
+{
+    let axis = array.raw_dim().ndim() - 1;
+    let mut columns = array.again();
+    columns.swap_axes(axis - 1, axis);
+    let mut kept = diagonals_by_rows(alloc, &columns, -last, -first)?;
+    kept.swap_axes(axis - 1, axis);
+    Ok(kept)
+}
+
+/// The same of an array with two axes at least, row by row.
+fn diagonals_by_rows<A: Clone + Zero, D: Lengths>(
     alloc: Global,
     array: &ArrayView<'_, A, D>,
     first: isize,
@@ -98,41 +132,82 @@ fn diagonals_of_matrices<A: Clone + Zero, D: Lengths>(
     ensures empty { size array.now.lengths ≡ 0 → IsOk result }
 {
     let mut kept = ArrayBuilder::with_capacity(alloc, array.raw_dim(), Order::RowMajor)?;
-    for index in Walk::new(array.raw_dim(), Order::RowMajor) {
-        kept.push(cell_or_zero(array, &index, first, last)?);
+    let mut firsts = array.raw_dim();
+    let axis = firsts.ndim() - 1;
+    let columns = firsts.axis(axis);
+    firsts.set_axis(axis, one_if_some(columns));
+    for index in Walk::new(firsts, Order::RowMajor) {
+        push_row(&mut kept, array, &index, columns, first, last)?;
     }
     Ok(kept.finish())
 }
 
-/// A clone of the cell at an index list, or zero where its diagonal is not kept.
-fn cell_or_zero<A: Clone + Zero, D: Lengths>(
+/// Pushes a row: clones of the cells whose diagonal is kept, and zeros on both sides of them.
+fn push_row<A: Clone + Zero, D: Lengths>(
+    kept: &mut ArrayBuilder<A, D>,
     array: &ArrayView<'_, A, D>,
     index: &D,
+    columns: usize,
     first: isize,
     last: isize,
-) -> Result<A, AllocError>
+) -> Result<(), AllocError>
     requires clones { ClonesAreEqual A.is_clone }
     requires limit { IsWithinLimit array.now.lengths }
     requires axes { 2 ≤ length array.now.lengths }
-    requires inside { InBox array.now.lengths (D.numbers index.now) }
-    ensures { IfOk result (λ x. (if int_le first (column_minus_row (D.numbers index.now)) && int_le (column_minus_row (D.numbers index.now)) last
-        then cell array.now (D.numbers index.now) else Some A.zero) ≡ Some x) }
+    requires some { 0 < columns }
+    requires inside { All (InBox array.now.lengths) (row_from (D.numbers index.now) (length array.now.lengths - 1) columns) }
+    requires room { length kept.old.cells + columns ≤ size kept.old.lengths }
+    ensures pushed { IfOk result (λ _. kept.new ≡ pushed_all kept.old (filter_map (λ is. if int_le first (column_minus_row is) && int_le (column_minus_row is) last
+        then cell array.now is else Some A.zero) (row_from (D.numbers index.now) (length array.now.lengths - 1) columns))) }
 {
-    if is_kept(index, first, last) {
-        array.item(index).clone()
+    let diagonal = column_minus_row(index);
+    let from = columns_below(first, diagonal, columns);
+    let to = columns_up_to(last, diagonal, columns).max(from);
+    push_zeros(kept, from);
+    if from < to {
+        let axis = index.ndim() - 1;
+        let mut start = index.copied();
+        start.set_axis(axis, start.axis(axis) + from);
+        kept.push_clones(array.cells_along(&start, axis, to - from))?;
+    }
+    push_zeros(kept, columns - to);
+    Ok(())
+}
+
+/// How many of the diagonals from one on are below another.
+fn columns_below(bound: isize, diagonal: isize, columns: usize) -> usize
+    ensures within { result ≤ columns }
+    ensures below { (c : ℕ) → c < result → int_le bound (diagonal +ℤ pos c) ≡ false }
+    ensures others { (c : ℕ) → result ≤ c → c < columns → int_le bound (diagonal +ℤ pos c) ≡ true }
+{
+    if bound <= diagonal {
+        0
     } else {
-        Ok(A::zero())
+        bound.abs_diff(diagonal).min(columns)
     }
 }
 
-/// Whether the last index less the one before it is between two numbers.
-fn is_kept<D: Lengths>(index: &D, first: isize, last: isize) -> bool
-    requires some { 2 ≤ length (D.numbers index.now) }
-    requires fit { All (λ i. i < 2 ^ 63) (D.numbers index.now) }
-    ensures { result ≡ (int_le first (column_minus_row (D.numbers index.now)) && int_le (column_minus_row (D.numbers index.now)) last) }
+/// How many of the diagonals from one on are at most another.
+fn columns_up_to(bound: isize, diagonal: isize, columns: usize) -> usize
+    ensures within { result ≤ columns }
+    ensures below { (c : ℕ) → c < result → int_le (diagonal +ℤ pos c) bound ≡ true }
+    ensures others { (c : ℕ) → result ≤ c → c < columns → int_le (diagonal +ℤ pos c) bound ≡ false }
 {
-    let diagonal = column_minus_row(index);
-    first <= diagonal && diagonal <= last
+    if bound < diagonal {
+        return 0;
+    }
+    let apart = bound.abs_diff(diagonal);
+    if apart < columns { apart + 1 } else { columns }
+}
+
+/// Pushes zeros.
+fn push_zeros<A: Zero, D: Lengths>(kept: &mut ArrayBuilder<A, D>, many: usize)
+    requires { length kept.old.cells + many ≤ size kept.old.lengths }
+    ensures { kept.new ≡ pushed_all kept.old (replicate many A.zero) }
+{
+    for _ in 0..many {
+        kept.push(A::zero());
+    }
 }
 
 /// The last index less the one before it.

@@ -58,6 +58,11 @@ impl<S: Data, D: Lengths> Model for ArrayBase<S, D> {
 
 impl<S: Data, D: Lengths> ArrayBase<S, D> {
     /// The number of axes.
+    ///
+    /// ```
+    /// let a = ArrayView::from_shape((2, 3), &[1, 2, 3, 4, 5, 6])?;
+    /// assert_eq!(a.ndim(), 2);
+    /// ```
     pub fn ndim(&self) -> usize
         ensures value { result ≡ length self.now.lengths }
         ensures axes { D.has_axes (length self.now.lengths) }
@@ -66,6 +71,12 @@ impl<S: Data, D: Lengths> ArrayBase<S, D> {
     }
 
     /// The lengths, that of axis 0 first.
+    ///
+    /// ```
+    /// let a = ArrayView::from_shape((2, 3), &[1, 2, 3, 4, 5, 6])?;
+    /// assert_eq!(a.shape(), &[2, 3]);
+    /// assert_eq!(a.t().shape(), &[3, 2]);
+    /// ```
     pub fn shape(&self) -> &[usize]
         ensures value { result.now ≡ self.now.lengths }
         ensures axes { D.has_axes (length self.now.lengths) }
@@ -74,6 +85,12 @@ impl<S: Data, D: Lengths> ArrayBase<S, D> {
     }
 
     /// The lengths as a dimension.
+    ///
+    /// ```
+    /// let a = ArrayView::from_shape((2, 3), &[1, 2, 3, 4, 5, 6])?;
+    /// let (rows, columns) = a.raw_dim().into_pattern(); // 2 and 3
+    /// let zeros = Array::<i32, _>::zeros(alloc, a.raw_dim())?;
+    /// ```
     pub fn raw_dim(&self) -> D
         ensures lengths { D.numbers result ≡ self.now.lengths }
         ensures axes { D.has_axes (length self.now.lengths) }
@@ -84,6 +101,11 @@ impl<S: Data, D: Lengths> ArrayBase<S, D> {
     }
 
     /// The number of cells.
+    ///
+    /// ```
+    /// let a = ArrayView::from_shape((2, 3), &[1, 2, 3, 4, 5, 6])?;
+    /// assert_eq!(a.len(), 6);
+    /// ```
     pub fn len(&self) -> usize
         ensures size { result ≡ size self.now.lengths }
         ensures cells { result ≡ length self.now.cells }
@@ -94,6 +116,11 @@ impl<S: Data, D: Lengths> ArrayBase<S, D> {
     /// The length of an axis.
     ///
     /// Requires an axis below the number of axes; check with `axis_ok`.
+    ///
+    /// ```
+    /// let a = ArrayView::from_shape((2, 3), &[1, 2, 3, 4, 5, 6])?;
+    /// assert_eq!(a.len_of(Axis(1)), 3);
+    /// ```
     pub fn len_of(&self, axis: Axis) -> usize
         requires { axis.0 < length self.now.lengths }
         ensures value { result ≡ slice_index self.now.lengths axis.0 }
@@ -117,6 +144,12 @@ impl<S: Data, D: Lengths> ArrayBase<S, D> {
     /// A reading view of the same lengths and cells.
     ///
     /// An array is known by its lengths and its cells, so the view is the same array.
+    ///
+    /// ```
+    /// let zeros = Array::<i32, _>::zeros(alloc, (2, 3))?;
+    /// let mut view = zeros.view();
+    /// view.invert_axis(Axis(0)); // turns the view and leaves the array
+    /// ```
     pub fn view(&self) -> ArrayView<'_, S::Elem, D>
         ensures same { result ≡ self.now }
         ensures axes { D.has_axes (length self.now.lengths) }

@@ -17,6 +17,12 @@ use crate::base::storage::{Data, DataMut};
 
 impl<S: Data, D: Lengths> ArrayBase<S, D> {
     /// Whether the axis is below the number of axes.
+    ///
+    /// ```
+    /// let a = ArrayView::from_shape((2, 3), &[1, 2, 3, 4, 5, 6])?;
+    /// assert!(a.axis_ok(Axis(1)));
+    /// assert!(!a.axis_ok(Axis(2)));
+    /// ```
     pub fn axis_ok(&self, axis: Axis) -> bool
         ensures { IsTrue result ↔ (axis.0 < length self.now.lengths) }
     {
@@ -26,6 +32,11 @@ impl<S: Data, D: Lengths> ArrayBase<S, D> {
     /// Exchanges two axes.
     ///
     /// Requires both to be below the number of axes; compare with `ndim`.
+    ///
+    /// ```
+    /// let mut a = ArrayView::from_shape((2, 3), &[1, 2, 3, 4, 5, 6])?;
+    /// a.swap_axes(0, 1); // [[1, 4], [2, 5], [3, 6]]
+    /// ```
     pub fn swap_axes(&mut self, ax: usize, bx: usize)
         requires first { ax < length self.old.lengths }
         requires second { bx < length self.old.lengths }
@@ -54,6 +65,12 @@ impl<S: Data, D: Lengths> ArrayBase<S, D> {
     ///
     /// Requires an axis below the number of axes, a slice within its length, and a step that is not
     /// 0; check with `slice_ok`.
+    ///
+    /// ```
+    /// let a = ArrayView::from_shape((2, 3), &[1, 2, 3, 4, 5, 6])?;
+    /// a.slice_axis(Axis(1), Slice::from(1..)); // [[2, 3], [5, 6]]
+    /// a.slice_axis(Axis(1), Slice::new(0, None, -1)); // [[3, 2, 1], [6, 5, 4]]
+    /// ```
     pub fn slice_axis(&self, axis: Axis, slice: Slice) -> ArrayView<'_, S::Elem, D>
         requires axis { axis.0 < length self.now.lengths }
         requires within { IsSliceOf (slice_index self.now.lengths axis.0) slice }
@@ -68,6 +85,11 @@ impl<S: Data, D: Lengths> ArrayBase<S, D> {
 
     /// The same in place of the array, under the same condition: check with `slice_ok`. An array that owns its elements
     /// keeps those that it hides.
+    ///
+    /// ```
+    /// let mut a = ArrayView::from_shape((2, 3), &[1, 2, 3, 4, 5, 6])?;
+    /// a.slice_axis_inplace(Axis(1), Slice::new(0, None, 2)); // [[1, 3], [4, 6]]
+    /// ```
     pub fn slice_axis_inplace(&mut self, axis: Axis, slice: Slice)
         requires axis { axis.0 < length self.old.lengths }
         requires within { IsSliceOf (slice_index self.old.lengths axis.0) slice }
@@ -81,6 +103,11 @@ impl<S: Data, D: Lengths> ArrayBase<S, D> {
 
     /// The same cells under another type of dimension; `IncompatibleShape` exactly where that type
     /// cannot have this number of axes.
+    ///
+    /// ```
+    /// let a = ArrayView::from_shape(IxDyn(&[2, 3]), &[1, 2, 3, 4, 5, 6])?;
+    /// let table = a.into_dimensionality::<Ix2>()?; // with `into_pattern`, `rows`, `dot` ..
+    /// ```
     pub fn into_dimensionality<E: Lengths>(self) -> Result<ArrayBase<S, E>, ShapeError>
         ensures accepts { IsOk result ↔ E.has_axes (length self.lengths) }
         ensures value { IfOk result (λ a. a ≡ self) }
@@ -106,6 +133,12 @@ impl<S: Data, D: RemoveAxis> ArrayBase<S, D> {
     ///
     /// Requires an axis below the number of axes (check with `axis_ok`) and an index below its
     /// length (compare with `len_of`).
+    ///
+    /// ```
+    /// let a = ArrayView::from_shape((2, 3), &[1, 2, 3, 4, 5, 6])?;
+    /// a.index_axis(Axis(0), 1); // [4, 5, 6]
+    /// a.index_axis(Axis(1), 1); // [2, 5]
+    /// ```
     pub fn index_axis(&self, axis: Axis, index: usize) -> ArrayView<'_, S::Elem, D::Smaller>
         requires axis { axis.0 < length self.now.lengths }
         requires within { index < slice_index self.now.lengths axis.0 }
@@ -117,6 +150,11 @@ impl<S: Data, D: RemoveAxis> ArrayBase<S, D> {
     }
 
     /// The same of the array itself, under the same condition: a view to write in stays one.
+    ///
+    /// ```
+    /// let a = ArrayView::from_shape((2, 3), &[1, 2, 3, 4, 5, 6])?;
+    /// a.index_axis_move(Axis(1), 0); // [1, 4]
+    /// ```
     pub fn index_axis_move(self, axis: Axis, index: usize) -> ArrayBase<S, D::Smaller>
         requires axis { axis.0 < length self.lengths }
         requires within { index < slice_index self.lengths axis.0 }
@@ -137,6 +175,11 @@ impl<S: DataMut, D: Lengths> ArrayBase<S, D> {
     /// The indices that a slice takes on an axis, to write in.
     ///
     /// Requires what `slice_axis` requires.
+    ///
+    /// ```
+    /// // a = [[1, 2, 3], [4, 5, 6]]
+    /// a.slice_axis_mut(Axis(1), Slice::new(0, None, 2)).update(|_, x| 0); // a = [[0, 2, 0], [0, 5, 0]]
+    /// ```
     pub fn slice_axis_mut(&mut self, axis: Axis, slice: Slice) -> ArrayViewMut<'_, S::Elem, D>
         requires axis { axis.0 < length self.old.lengths }
         requires within { IsSliceOf (slice_index self.old.lengths axis.0) slice }
@@ -154,6 +197,11 @@ impl<S: DataMut, D: RemoveAxis> ArrayBase<S, D> {
     /// Item `index` along an axis, to write in.
     ///
     /// Requires what `index_axis` requires.
+    ///
+    /// ```
+    /// // a = [[1, 2, 3], [4, 5, 6]]
+    /// a.index_axis_mut(Axis(0), 1).update(|_, x| 0); // a = [[1, 2, 3], [0, 0, 0]]
+    /// ```
     pub fn index_axis_mut(
         &mut self,
         axis: Axis,
@@ -173,6 +221,11 @@ impl<S: Data, D: Dimension> ArrayBase<S, D> {
     /// The array with an axis of length 1 put in.
     ///
     /// Requires an axis that is at most the number of axes, which is below 32; compare with `ndim`.
+    ///
+    /// ```
+    /// let row = ArrayView::from_shape(3, &[1, 2, 3])?;
+    /// row.insert_axis(Axis(0)); // [[1, 2, 3]]
+    /// ```
     pub fn insert_axis(self, axis: Axis) -> ArrayBase<S, D::Larger>
         requires axis { axis.0 ≤ length self.lengths }
         requires room { length self.lengths < 32 }
@@ -194,6 +247,11 @@ impl<'a, A, D: Lengths> ArrayView<'a, A, D> {
     ///
     /// Requires an axis below the number of axes (check with `axis_ok`) and an index that is at most
     /// its length (compare with `len_of`).
+    ///
+    /// ```
+    /// let a = ArrayView::from_shape((2, 3), &[1, 2, 3, 4, 5, 6])?;
+    /// let (left, right) = a.split_at(Axis(1), 1); // [[1], [4]] and [[2, 3], [5, 6]]
+    /// ```
     pub fn split_at(self, axis: Axis, index: usize) -> (Self, Self)
         requires axis { axis.0 < length self.lengths }
         requires within { index ≤ slice_index self.lengths axis.0 }
@@ -227,6 +285,13 @@ impl<'a, A, D: Lengths> ArrayViewMut<'a, A, D> {
     ///
     /// Requires an axis below the number of axes (check with `axis_ok`) and an index that is at most
     /// its length (compare with `len_of`).
+    ///
+    /// ```
+    /// let (mut left, right) = a.view_mut().split_at(Axis(0), 1);
+    /// for (x, y) in left.iter_mut().zip(right.iter()) {
+    ///     *x += *y;
+    /// }
+    /// ```
     pub fn split_at(self, axis: Axis, index: usize) -> (Self, Self)
         requires axis { axis.0 < length self.lengths }
         requires within { index ≤ slice_index self.lengths axis.0 }

@@ -1,7 +1,8 @@
 //! Arrays that are filled one cell after another.
 
-ghost use Rattle.std.specs.Prelude.{◌≡◌, ◌<◌, ◌≤◌, ◌-◌, ◌++◌, ◌∷◌, [], length, slice_index_or, IfOk, IsOk};
-ghost use Rattle.ndarray.specs.base.Builder.{pushed_to};
+ghost use Rattle.std.specs.Prelude.{◌≡◌, ◌<◌, ◌≤◌, ◌+◌, ◌-◌, ◌++◌, ◌∷◌, [], length, slice_index_or, IfOk, IsOk};
+ghost use Rattle.ndarray.specs.base.Builder.{pushed_all, pushed_to};
+ghost use Rattle.ndarray.specs.Elementwise.{ClonesAreEqual};
 ghost use Rattle.ndarray.specs.Grid.{IsGrid};
 ghost use Rattle.ndarray.specs.Index.{size};
 ghost use Rattle.ndarray.specs.Limits.{IsWithinLimit};
@@ -11,6 +12,7 @@ use crate::base::array::ArrayBase;
 use crate::base::dimension::Lengths;
 use crate::base::shape::Order;
 use crate::base::storage::DataOwned;
+use crate::base::strided::Strided;
 use std::alloc::{AllocError, Global};
 use std::marker::Model;
 
@@ -53,6 +55,51 @@ impl<A: Drop, D: Lengths> ArrayBuilder<A, D> {
         ensures { self.new ≡ pushed_to self.old cell }
     {
         self.items.push_reserved(cell);
+    }
+
+    /// Pushes clones of cells, up to the first error.
+    pub(crate) fn push_clones(&mut self, cells: Strided<'_, A>) -> Result<(), AllocError>
+    where
+        A: Clone,
+        requires clones { ClonesAreEqual A.is_clone }
+        requires room { length self.old.cells + length cells ≤ size self.old.lengths }
+        ensures pushed { IfOk result (λ _. self.new ≡ pushed_all self.old cells) }
+        ensures none { length cells ≡ 0 → IsOk result }
+    {
+        match cells.side_by_side() {
+            Some(slice) => self.push_slice(slice),
+            None => self.push_steps(cells),
+        }
+    }
+
+    /// The same of cells that lie side by side.
+    fn push_slice(&mut self, cells: &[A]) -> Result<(), AllocError>
+    where
+        A: Clone,
+        requires clones { ClonesAreEqual A.is_clone }
+        requires room { length self.old.cells + length cells.now ≤ size self.old.lengths }
+        ensures pushed { IfOk result (λ _. self.new ≡ pushed_all self.old cells.now) }
+        ensures none { length cells.now ≡ 0 → IsOk result }
+    {
+        for cell in cells {
+            self.push(cell.clone()?);
+        }
+        Ok(())
+    }
+
+    /// The same of cells that lie a step apart.
+    fn push_steps(&mut self, cells: Strided<'_, A>) -> Result<(), AllocError>
+    where
+        A: Clone,
+        requires clones { ClonesAreEqual A.is_clone }
+        requires room { length self.old.cells + length cells ≤ size self.old.lengths }
+        ensures pushed { IfOk result (λ _. self.new ≡ pushed_all self.old cells) }
+        ensures none { length cells ≡ 0 → IsOk result }
+    {
+        for cell in cells {
+            self.push(cell.clone()?);
+        }
+        Ok(())
     }
 
     /// The cell that was pushed so many pushes ago, 1 for the last.

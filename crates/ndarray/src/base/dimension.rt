@@ -231,6 +231,10 @@ pub type Ix6 = Dim<[usize; 6]>;
 pub type IxDyn = Dim<DynLengths>;
 
 /// The dimension of no axes.
+///
+/// ```
+/// assert_eq!(Ix0().slice(), &[]);
+/// ```
 pub fn Ix0() -> Ix0
     ensures { result.0 ≡ [] }
 {
@@ -238,6 +242,10 @@ pub fn Ix0() -> Ix0
 }
 
 /// The dimension of one axis.
+///
+/// ```
+/// assert_eq!(Ix1(3).slice(), &[3]);
+/// ```
 pub fn Ix1(a: usize) -> Ix1
     ensures { result.0 ≡ a ∷ [] }
 {
@@ -245,6 +253,10 @@ pub fn Ix1(a: usize) -> Ix1
 }
 
 /// The dimension of two axes.
+///
+/// ```
+/// assert_eq!(Ix2(2, 3).slice(), &[2, 3]);
+/// ```
 pub fn Ix2(a: usize, b: usize) -> Ix2
     ensures { result.0 ≡ a ∷ b ∷ [] }
 {
@@ -252,6 +264,10 @@ pub fn Ix2(a: usize, b: usize) -> Ix2
 }
 
 /// The dimension of three axes.
+///
+/// ```
+/// assert_eq!(Ix3(2, 3, 4).slice(), &[2, 3, 4]);
+/// ```
 pub fn Ix3(a: usize, b: usize, c: usize) -> Ix3
     ensures { result.0 ≡ a ∷ b ∷ c ∷ [] }
 {
@@ -259,6 +275,10 @@ pub fn Ix3(a: usize, b: usize, c: usize) -> Ix3
 }
 
 /// The dimension of four axes.
+///
+/// ```
+/// assert_eq!(Ix4(2, 3, 4, 5).slice(), &[2, 3, 4, 5]);
+/// ```
 pub fn Ix4(a: usize, b: usize, c: usize, d: usize) -> Ix4
     ensures { result.0 ≡ a ∷ b ∷ c ∷ d ∷ [] }
 {
@@ -266,6 +286,10 @@ pub fn Ix4(a: usize, b: usize, c: usize, d: usize) -> Ix4
 }
 
 /// The dimension of five axes.
+///
+/// ```
+/// assert_eq!(Ix5(2, 3, 4, 5, 6).slice(), &[2, 3, 4, 5, 6]);
+/// ```
 pub fn Ix5(a: usize, b: usize, c: usize, d: usize, e: usize) -> Ix5
     ensures { result.0 ≡ a ∷ b ∷ c ∷ d ∷ e ∷ [] }
 {
@@ -273,6 +297,10 @@ pub fn Ix5(a: usize, b: usize, c: usize, d: usize, e: usize) -> Ix5
 }
 
 /// The dimension of six axes.
+///
+/// ```
+/// assert_eq!(Ix6(2, 3, 4, 5, 6, 7).slice(), &[2, 3, 4, 5, 6, 7]);
+/// ```
 pub fn Ix6(a: usize, b: usize, c: usize, d: usize, e: usize, f: usize) -> Ix6
     ensures { result.0 ≡ a ∷ b ∷ c ∷ d ∷ e ∷ f ∷ [] }
 {
@@ -280,6 +308,13 @@ pub fn Ix6(a: usize, b: usize, c: usize, d: usize, e: usize, f: usize) -> Ix6
 }
 
 /// The dimension of the numbers of a slice. Requires at most 32 of them, which `numbers.len()` tells.
+///
+/// ```
+/// let lengths = [2, 3, 4];
+/// if lengths.len() <= 32 {
+///     let dim = IxDyn(&lengths);
+/// }
+/// ```
 pub fn IxDyn(numbers: &[usize]) -> IxDyn
     requires { length numbers.now ≤ 32 }
     ensures { held_numbers result.0 ≡ numbers.now }

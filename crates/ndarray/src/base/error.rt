@@ -30,6 +30,10 @@ pub struct ShapeError {
 
 impl ShapeError {
     /// The error of a kind.
+    ///
+    /// ```
+    /// assert_eq!(ShapeError::from_kind(ErrorKind::Overflow).kind(), ErrorKind::Overflow);
+    /// ```
     pub fn from_kind(kind: ErrorKind) -> Self
         ensures { result ≡ shape_error kind }
     {
@@ -37,6 +41,13 @@ impl ShapeError {
     }
 
     /// What the shape offends against.
+    ///
+    /// ```
+    /// // three cells are not two by two
+    /// if let Err(error) = ArrayView::from_shape((2, 2), &[1, 2, 3]) {
+    ///     assert_eq!(error.kind(), ErrorKind::OutOfBounds);
+    /// }
+    /// ```
     pub fn kind(&self) -> ErrorKind
         ensures { self.now ≡ shape_error result }
     {

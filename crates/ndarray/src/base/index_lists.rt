@@ -62,6 +62,11 @@ impl<D: Lengths> Indices<D> {
     }
 
     /// The lengths.
+    ///
+    /// ```
+    /// let lists = indices((2, 3))?;
+    /// let (rows, columns) = lists.raw_dim().into_pattern(); // 2 and 3
+    /// ```
     pub fn raw_dim(&self) -> D
         ensures lengths { D.numbers result ≡ self.now.lengths }
         ensures limit { IsWithinLimit self.now.lengths }
@@ -96,6 +101,11 @@ impl<D: Lengths> Indices<D> {
     ///
     /// Requires an axis below the number of axes and an index that is at most its length; compare with
     /// `raw_dim`.
+    ///
+    /// ```
+    /// // (0, 0), (0, 1) and (1, 0), (1, 1)
+    /// let (upper, lower) = indices((2, 2))?.split_at(Axis(0), 1);
+    /// ```
     pub fn split_at(self, axis: Axis, index: usize) -> (Self, Self)
         requires axis { axis.0 < length self.lengths }
         requires within { index ≤ slice_index self.lengths axis.0 }

@@ -23,6 +23,12 @@ pub struct Slice {
 
 impl Slice {
     /// The slice of a start, an end and a step.
+    ///
+    /// ```
+    /// Slice::new(0, None, 2); // every second index
+    /// Slice::new(-3, None, 1); // the last three
+    /// Slice::new(0, None, -1); // all, from the last to the first
+    /// ```
     pub fn new(start: isize, end: Option<isize>, step: isize) -> Slice
         ensures { result ≡ record { start = start; end = end; step = step } }
     {

@@ -101,6 +101,15 @@ impl<S: DataMut, D: Lengths> ArrayBase<S, D> {
     /// A view to write in, of the same lengths and cells.
     ///
     /// What is written through it is what the array holds when the view has ended.
+    ///
+    /// ```
+    /// let mut zeros = Array::<i32, _>::zeros(alloc, (2, 3))?;
+    /// let mut view = zeros.view_mut();
+    /// view.swap_axes(0, 1);
+    /// if let Some(cell) = view.get_mut((2, 0)) {
+    ///     *cell = 7; // at (0, 2) of the array
+    /// }
+    /// ```
     pub fn view_mut(&mut self) -> ArrayViewMut<'_, S::Elem, D>
         ensures same { result ≡ self.old }
         ensures axes { D.has_axes (length self.old.lengths) }

@@ -16,6 +16,11 @@ use crate::base::storage::Data;
 impl<S: Data, D: Lengths> ArrayBase<S, D> {
     /// The array with its axes from the last to the first: the cell at an index list is that at the
     /// reversed one.
+    ///
+    /// ```
+    /// let a = ArrayView::from_shape((2, 3), &[1, 2, 3, 4, 5, 6])?;
+    /// a.t(); // [[1, 4], [2, 5], [3, 6]]
+    /// ```
     pub fn t(&self) -> ArrayView<'_, S::Elem, D>
         ensures value { result ≡ transpose_of self.now }
         ensures axes { D.has_axes (length result.lengths) }
@@ -25,6 +30,11 @@ impl<S: Data, D: Lengths> ArrayBase<S, D> {
     }
 
     /// The same of the array itself: a view to write in stays one.
+    ///
+    /// ```
+    /// let a = ArrayView::from_shape((2, 3), &[1, 2, 3, 4, 5, 6])?;
+    /// a.reversed_axes(); // [[1, 4], [2, 5], [3, 6]]
+    /// ```
     pub fn reversed_axes(self) -> ArrayBase<S, D>
         ensures value { result ≡ transpose_of self }
         ensures axes { D.has_axes (length result.lengths) }
@@ -45,6 +55,11 @@ impl<S: Data, D: Lengths> ArrayBase<S, D> {
     /// Turns an axis round: the cell at an index is then that at length - 1 - index.
     ///
     /// Requires an axis below the number of axes; check with `axis_ok`.
+    ///
+    /// ```
+    /// let mut a = ArrayView::from_shape((2, 3), &[1, 2, 3, 4, 5, 6])?;
+    /// a.invert_axis(Axis(1)); // [[3, 2, 1], [6, 5, 4]]
+    /// ```
     pub fn invert_axis(&mut self, axis: Axis)
         requires { axis.0 < length self.old.lengths }
         ensures value { self.new ≡ axis_inversion self.old axis.0 }

@@ -41,6 +41,10 @@ impl<'a, A, D: Lengths> Model for ElementsBase<'a, A, D> {
 
 impl<'a, A, D: Lengths> ElementsBase<'a, A, D> {
     /// The cells of a view in row order, whatever the strides.
+    ///
+    /// ```
+    /// for cell in ElementsBase::new(view) { .. } // as `view.iter()`, for as long as the elements were borrowed
+    /// ```
     pub fn new(v: ArrayView<'a, A, D>) -> Self
         ensures row_order { HasInOrder RowMajor v.entry result }
         ensures cells { result ≡ v.entry.cells }

@@ -46,6 +46,12 @@ impl<'a, A, D: Lengths> Model for ElementsBaseMut<'a, A, D> {
 
 impl<'a, A, D: Lengths> ElementsBaseMut<'a, A, D> {
     /// The cells of a view in row order, whatever the strides.
+    ///
+    /// ```
+    /// for cell in ElementsBaseMut::new(array.view_mut()) {
+    ///     *cell += 1;
+    /// }
+    /// ```
     pub fn new(v: ArrayViewMut<'a, A, D>) -> Self
         ensures row_order { HasInOrder RowMajor v.entry result.items }
         ensures cells { result.items ≡ v.entry.cells }

@@ -16,6 +16,11 @@ use std::alloc::{AllocError, Global};
 
 /// Whether two matrices and a vector are of lengths (m, k), (k, n) and (n). The size of the product of the two matrices does not
 /// matter.
+///
+/// ```
+/// // of lengths (2, 3), (3, 4) and (4)
+/// assert!(chain_ok(&a, &b, &x));
+/// ```
 pub fn chain_ok<S: Data, S2: Data, S3: Data>(
     a: &ArrayBase<S, Ix2>,
     b: &ArrayBase<S2, Ix2>,
@@ -59,6 +64,12 @@ pub fn mat_vec_chain<A: LinalgScalar, S: Data<Elem = A>, S2: Data<Elem = A>, S3:
 
 /// Whether four matrices are of lengths (m, k), (p, q), (k, n) and (q, r), where the nonzero lengths of (m, n), of (p, r) and of
 /// (m * p, n * r) each multiply in whole numbers to at most `isize::MAX`.
+///
+/// ```
+/// if kron_dot_ok(&a, &b, &c, &d) {
+///     // `kron_dot(alloc, &a, &b, &c, &d)`, where the sums are in range too
+/// }
+/// ```
 pub fn kron_dot_ok<S: Data, S2: Data, S3: Data, S4: Data>(
     a: &ArrayBase<S, Ix2>,
     b: &ArrayBase<S2, Ix2>,

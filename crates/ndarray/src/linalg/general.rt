@@ -15,6 +15,12 @@ use crate::zip::updating::{CellCall, try_update};
 use std::alloc::AllocError;
 
 /// Whether the shapes are (m, k), (k, n) and (m, n), as [`general_mat_mul`] requires.
+///
+/// ```
+/// if mat_mul_ok(&a, &b, &c) {
+///     // `general_mat_mul(2, &a, &b, 3, &mut c)`, where the sums are in range too
+/// }
+/// ```
 pub fn mat_mul_ok<S1: Data, S2: Data, S3: Data>(
     a: &ArrayBase<S1, Ix2>,
     b: &ArrayBase<S2, Ix2>,
@@ -29,6 +35,12 @@ pub fn mat_mul_ok<S1: Data, S2: Data, S3: Data>(
 }
 
 /// Whether the shapes are (m, k), (k) and (m), as [`general_mat_vec_mul`] requires.
+///
+/// ```
+/// if mat_vec_ok(&a, &x, &y) {
+///     // `general_mat_vec_mul(2, &a, &x, 3, &mut y)`, where the sums are in range too
+/// }
+/// ```
 pub fn mat_vec_ok<S1: Data, S2: Data, S3: Data>(
     a: &ArrayBase<S1, Ix2>,
     x: &ArrayBase<S2, Ix1>,

@@ -15,6 +15,12 @@ use std::alloc::{AllocError, Global};
 
 /// Whether two matrices have a Kronecker product: the lengths of the result that are not 0, which are those of the
 /// two multiplied, multiply in whole numbers to at most `isize::MAX`.
+///
+/// ```
+/// if kron_ok(&a, &b) {
+///     // `kron(alloc, &a, &b)`, where the products are in range too
+/// }
+/// ```
 pub fn kron_ok<S: Data, S2: Data>(a: &ArrayBase<S, Ix2>, b: &ArrayBase<S2, Ix2>) -> bool
     ensures { IsTrue result ↔ IsWithinLimit (kronecker_lengths a.now.lengths b.now.lengths) }
 {

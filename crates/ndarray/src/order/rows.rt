@@ -28,7 +28,7 @@ impl<D: Lengths> Model for BoxRows<D> {
 }
 
 /// 1 for a number that is not 0.
-fn one_if_some(n: usize) -> usize
+pub(crate) fn one_if_some(n: usize) -> usize
     ensures { result ≡ one_if_some n }
 {
     if n == 0 { 0 } else { 1 }

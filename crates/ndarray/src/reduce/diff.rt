@@ -16,6 +16,12 @@ use std::ops::Sub;
 
 impl<S: Data, D: Lengths> ArrayBase<S, D> {
     /// Whether there is an axis of that number, and the order is 0 or below its length, as [`diff`](Self::diff) asks.
+    ///
+    /// ```
+    /// let view = ArrayView::from_shape(3, &[1i64, 2, 5])?;
+    /// assert!(view.diff_ok(2, Axis(0)));
+    /// assert!(!view.diff_ok(3, Axis(0)));
+    /// ```
     pub fn diff_ok(&self, n: usize, axis: Axis) -> bool
         ensures { IsTrue result ↔ ((axis.0 < length self.now.lengths) × ((n ≡ 0) ⊎ (n < slice_index self.now.lengths axis.0))) }
     {

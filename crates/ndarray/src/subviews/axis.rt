@@ -38,6 +38,11 @@ impl<S: Data, D: RemoveAxis> ArrayBase<S, D> {
     /// The items along axis 0.
     ///
     /// Requires at least one axis; check with `axis_ok(Axis(0))`.
+    ///
+    /// ```
+    /// // of [[1, 2, 3], [4, 5, 6]]: [1, 2, 3] and [4, 5, 6]
+    /// for row in a.outer_iter() { .. }
+    /// ```
     pub fn outer_iter(&self) -> AxisIter<'_, S::Elem, D::Smaller>
         requires { 0 < length self.now.lengths }
         ensures items { result ≡ axis_items self.now 0 }
@@ -68,6 +73,11 @@ impl<'a, A, D: Lengths> AxisIter<'a, A, D> {
     /// The first `index` items still to come, and the rest. O(1).
     ///
     /// Requires an index that is at most the number of those still to come; compare with `len`.
+    ///
+    /// ```
+    /// // of three columns the first, and the other two
+    /// let (first, others) = a.axis_iter(Axis(1)).split_at(1);
+    /// ```
     pub fn split_at(self, index: usize) -> (Self, Self)
         requires { index ≤ length self }
         ensures first { result.0 ≡ take index self.entry }
@@ -79,6 +89,12 @@ impl<'a, A, D: Lengths> AxisIter<'a, A, D> {
     }
 
     /// Leaves out the next `n` items and takes the one after them. O(1).
+    ///
+    /// ```
+    /// let mut columns = a.axis_iter(Axis(1)); // of [[1, 2, 3], [4, 5, 6]]
+    /// columns.nth(1); // [2, 5]
+    /// columns.next(); // [3, 6]
+    /// ```
     pub fn nth(&mut self, n: usize) -> Option<ArrayView<'a, A, D>>
         ensures taken { result ≡ slice_get self.old n }
         ensures rest { self.new ≡ drop (n + 1) self.old }

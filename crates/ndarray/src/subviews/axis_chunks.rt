@@ -41,6 +41,12 @@ impl<'a, A, D: Lengths> Model for AxisChunksIter<'a, A, D> {
 
 impl<S: Data, D: Lengths> ArrayBase<S, D> {
     /// Whether the axis is below the number of axes, and the size is at least 1.
+    ///
+    /// ```
+    /// if a.chunk_ok(Axis(0), size) {
+    ///     for chunk in a.axis_chunks_iter(Axis(0), size) { .. }
+    /// }
+    /// ```
     pub fn chunk_ok(&self, axis: Axis, size: usize) -> bool
         ensures { IsTrue result ↔ ((axis.0 < length self.now.lengths) × (1 ≤ size)) }
     {
@@ -107,6 +113,11 @@ impl<'a, A, D: Lengths> AxisChunksIter<'a, A, D> {
     /// The first `index` chunks still to come, and the rest. O(1).
     ///
     /// Requires an index that is at most the number of those still to come; compare with `len`.
+    ///
+    /// ```
+    /// // of [1, 2], [3, 4] and [5] the first two, and the last
+    /// let (first, last) = a.axis_chunks_iter(Axis(0), 2).split_at(2);
+    /// ```
     pub fn split_at(self, index: usize) -> (Self, Self)
         requires { index ≤ length self }
         ensures first { result.0 ≡ take index self.entry }
@@ -118,6 +129,12 @@ impl<'a, A, D: Lengths> AxisChunksIter<'a, A, D> {
     }
 
     /// Leaves out the next `n` chunks and takes the one after them. O(1).
+    ///
+    /// ```
+    /// let mut chunks = a.axis_chunks_iter(Axis(0), 2); // [1, 2], [3, 4], [5]
+    /// chunks.nth(1); // [3, 4]
+    /// chunks.next(); // [5]
+    /// ```
     pub fn nth(&mut self, n: usize) -> Option<ArrayView<'a, A, D>>
         ensures taken { result ≡ slice_get self.old n }
         ensures rest { self.new ≡ drop (n + 1) self.old }

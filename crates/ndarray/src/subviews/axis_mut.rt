@@ -44,6 +44,12 @@ impl<S: DataMut, D: RemoveAxis> ArrayBase<S, D> {
     /// The items along axis 0, to write in.
     ///
     /// Requires at least one axis; check with `axis_ok(Axis(0))`.
+    ///
+    /// ```
+    /// for mut row in array.outer_iter_mut() {
+    ///     row.update(|j, x| 0);
+    /// }
+    /// ```
     pub fn outer_iter_mut(&mut self) -> AxisIterMut<'_, S::Elem, D::Smaller>
         requires { 0 < length self.old.lengths }
         ensures items { result ≡ axis_items self.old 0 }

@@ -19,6 +19,12 @@ pub type ExactChunksIter<'a, A, D> = PiecesIter<'a, A, D, D>;
 
 impl<S: Data, D: Dimension> ArrayBase<S, D> {
     /// Whether there are as many chunk lengths as axes, each at least 1.
+    ///
+    /// ```
+    /// if a.chunks_ok(&Ix2(2, 2)) {
+    ///     for chunk in a.exact_chunks((2, 2)) { .. }
+    /// }
+    /// ```
     pub fn chunks_ok(&self, chunk: &D) -> bool
         ensures { IsTrue result ↔ ArePositive self.now.lengths (D.numbers chunk.now) }
     {

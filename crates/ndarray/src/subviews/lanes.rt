@@ -20,6 +20,12 @@ pub type LanesIter<'a, A, D> = PiecesIter<'a, A, D, Ix1>;
 
 impl<S: Data, D: Dimension> ArrayBase<S, D> {
     /// Whether the axis is below the number of axes, or there are no axes at all.
+    ///
+    /// ```
+    /// if a.lanes_ok(axis) {
+    ///     for lane in a.lanes(axis) { .. }
+    /// }
+    /// ```
     pub fn lanes_ok(&self, axis: Axis) -> bool
         ensures { IsTrue result ↔ ((self.now.lengths ≡ []) ⊎ (axis.0 < length self.now.lengths)) }
     {
@@ -59,6 +65,11 @@ impl<S: Data, D: Dimension> ArrayBase<S, D> {
     }
 
     /// The lanes along the last axis.
+    ///
+    /// ```
+    /// // of [[1, 2, 3], [4, 5, 6]]: [1, 2, 3] and [4, 5, 6]
+    /// for row in a.rows() { .. }
+    /// ```
     pub fn rows(&self) -> Lanes<'_, S::Elem, D::Smaller>
         ensures { result ≡ lanes_of self.now (length self.now.lengths - 1) }
     {
@@ -66,6 +77,11 @@ impl<S: Data, D: Dimension> ArrayBase<S, D> {
     }
 
     /// The lanes along axis 0.
+    ///
+    /// ```
+    /// // of [[1, 2, 3], [4, 5, 6]]: [1, 4], [2, 5] and [3, 6]
+    /// for column in a.columns() { .. }
+    /// ```
     pub fn columns(&self) -> Lanes<'_, S::Elem, D::Smaller>
         ensures { result ≡ lanes_of self.now 0 }
     {

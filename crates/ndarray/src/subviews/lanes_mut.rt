@@ -39,6 +39,12 @@ impl<S: DataMut, D: Dimension> ArrayBase<S, D> {
     }
 
     /// The lanes along the last axis, to write in.
+    ///
+    /// ```
+    /// for mut row in array.rows_mut() {
+    ///     row.update(|j, x| x + j); // the number of the column added to each cell
+    /// }
+    /// ```
     pub fn rows_mut(&mut self) -> LanesMut<'_, S::Elem, D::Smaller>
         ensures { result ≡ lanes_of self.old (length self.old.lengths - 1) }
     {
@@ -47,6 +53,12 @@ impl<S: DataMut, D: Dimension> ArrayBase<S, D> {
     }
 
     /// The lanes along axis 0, to write in.
+    ///
+    /// ```
+    /// for mut column in array.columns_mut() {
+    ///     column.update(|i, x| x + i); // the number of the row added to each cell
+    /// }
+    /// ```
     pub fn columns_mut(&mut self) -> LanesMut<'_, S::Elem, D::Smaller>
         ensures { result ≡ lanes_of self.old 0 }
     {

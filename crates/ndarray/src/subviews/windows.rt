@@ -41,6 +41,12 @@ impl<'a, A, D: Lengths> Model for AxisWindows<'a, A, D> {
 
 impl<S: Data, D: Dimension> ArrayBase<S, D> {
     /// Whether there are as many window lengths and as many steps as axes, all at least 1.
+    ///
+    /// ```
+    /// if a.windows_ok(&Ix2(2, 2), &Ix2(1, 1)) {
+    ///     for window in a.windows((2, 2)) { .. }
+    /// }
+    /// ```
     pub fn windows_ok(&self, window: &D, steps: &D) -> bool
         ensures { IsTrue result ↔ (ArePositive self.now.lengths (D.numbers window.now) × ArePositive self.now.lengths (D.numbers steps.now)) }
     {
@@ -51,6 +57,11 @@ impl<S: Data, D: Dimension> ArrayBase<S, D> {
     ///
     /// Requires as many window lengths as there are axes, each at least 1; check with `windows_ok`,
     /// with steps of 1.
+    ///
+    /// ```
+    /// let a = ArrayView::from_shape(4, &[1, 2, 3, 4])?;
+    /// for window in a.windows(2) { .. } // [1, 2], [2, 3], [3, 4]
+    /// ```
     pub fn windows<E: IntoDimension<Dim = D>>(&self, window: E) -> Windows<'_, S::Elem, D>
         requires { ArePositive self.now.lengths (E.written_numbers window) }
         ensures { result ≡ windows_of self.now (E.written_numbers window) (replicate (length self.now.lengths) 1) }
@@ -63,6 +74,11 @@ impl<S: Data, D: Dimension> ArrayBase<S, D> {
     ///
     /// Requires as many window lengths and as many steps as there are axes, all at least 1; check
     /// with `windows_ok`.
+    ///
+    /// ```
+    /// let a = ArrayView::from_shape(4, &[1, 2, 3, 4])?;
+    /// for window in a.windows_with_stride(2, 2) { .. } // [1, 2], [3, 4]
+    /// ```
     pub fn windows_with_stride<E: IntoDimension<Dim = D>>(
         &self,
         window: E,
@@ -81,6 +97,11 @@ impl<S: Data, D: Lengths> ArrayBase<S, D> {
     ///
     /// Requires an axis below the number of axes and a window length of at least 1; check with
     /// `chunk_ok(axis, window)`.
+    ///
+    /// ```
+    /// // of [[1, 2, 3], [4, 5, 6]]: [[1, 2], [4, 5]] and [[2, 3], [5, 6]]
+    /// for window in a.axis_windows(Axis(1), 2) { .. }
+    /// ```
     pub fn axis_windows(&self, axis: Axis, window: usize) -> AxisWindows<'_, S::Elem, D>
         requires axis { axis.0 < length self.now.lengths }
         requires window { 1 ≤ window }
@@ -93,6 +114,11 @@ impl<S: Data, D: Lengths> ArrayBase<S, D> {
     ///
     /// Requires an axis below the number of axes, and a window length and a step of at least 1;
     /// check with `chunk_ok(axis, window)` and `chunk_ok(axis, step)`.
+    ///
+    /// ```
+    /// let a = ArrayView::from_shape(4, &[1, 2, 3, 4])?;
+    /// for window in a.axis_windows_with_stride(Axis(0), 1, 3) { .. } // [1], [4]
+    /// ```
     pub fn axis_windows_with_stride(
         &self,
         axis: Axis,
