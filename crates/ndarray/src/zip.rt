@@ -44,6 +44,31 @@ pub struct Parts<N, K> {
 }
 
 /// One to six producers of the same lengths, to be walked together.
+///
+/// ```
+/// // the sum of the products of two tables' cells, however each of them lies
+/// Zip::from(&a).and(&b).fold(0, |sum, x, y| sum + x * y);
+/// ```
+///
+/// A producer is a reference to an array, a view (a view to write in yields `&mut` cells), an [`AxisIter`](crate::subviews::AxisIter) and the
+/// other lists of subviews, or [`indices`](crate::indices). At each index list the closure gets one item of each.
+///
+/// # Joining
+///
+/// - [`from`](Self::from): the first producer. [`indexed`](Self::indexed): the index patterns and a producer.
+/// - [`and`](Self::and): one more of the same lengths; [`fits`](Self::fits) tests that.
+/// - [`and_broadcast`](Self::and_broadcast): an array that is broadcast to the lengths; [`broadcasts`](Self::broadcasts) tests that.
+/// - [`size`](Self::size): how many index lists there are.
+///
+/// # Walking
+///
+/// - [`for_each`](Self::for_each), [`fold`](Self::fold), [`fold_while`](Self::fold_while), [`all`](Self::all), [`any`](Self::any): calls at all items, or
+///   up to an end.
+/// - [`map_collect`](Self::map_collect): an array of results. [`map_assign_into`](Self::map_assign_into): results left in an array.
+///
+/// The walk goes in row order or in column order, whichever is fast for the parts. A contract says that it is one of the two, so a closure
+/// whose effect depends on the order has two possible results; the lemmas of `docs/CALLING.md` are for closures where both are equal.
+/// A walk allocates nothing but the array that it collects.
 #[derive(Drop)]
 pub struct Zip<P, D> {
     pub(crate) parts: P,
@@ -83,6 +108,10 @@ impl<N: Clone, D, K> Clone for Zip<Parts<N, K>, D> {
 
 impl Zip<(), ()> {
     /// Begins with a producer, or a reference to an array.
+    ///
+    /// ```
+    /// Zip::from(a.rows()).for_each(|row| { .. });
+    /// ```
     pub fn from<I: IntoNdProducer>(part: I) -> Zip<Parts<I::Output, One>, I::Dim>
         ensures { I.converts_to part result.nested }
     {
@@ -113,6 +142,11 @@ impl Zip<(), ()> {
 
 impl<N: NdProducer<Dim = D>, D: Lengths, K> Zip<Parts<N, K>, D> {
     /// The number of index lists.
+    ///
+    /// ```
+    /// let a = ArrayView::from_shape((2, 3), &[1, 2, 3, 4, 5, 6])?;
+    /// assert_eq!(Zip::from(&a).size(), 6);
+    /// ```
     pub fn size(&self) -> usize
         ensures { result ≡ size (N.lengths self.now.nested) }
     {
@@ -120,6 +154,13 @@ impl<N: NdProducer<Dim = D>, D: Lengths, K> Zip<Parts<N, K>, D> {
     }
 
     /// Whether a producer has the same lengths.
+    ///
+    /// ```
+    /// let zip = Zip::from(&a);
+    /// if zip.fits(&b.view()) {
+    ///     let products = zip.and(&b).map_collect(alloc, |x, y| x * y)?;
+    /// }
+    /// ```
     pub fn fits<Q: NdProducer<Dim = D>>(&self, part: &Q) -> bool
         ensures { IsTrue result ↔ (Q.lengths part.now ≡ N.lengths self.now.nested) }
     {
@@ -127,6 +168,13 @@ impl<N: NdProducer<Dim = D>, D: Lengths, K> Zip<Parts<N, K>, D> {
     }
 
     /// Whether an array broadcasts to the lengths.
+    ///
+    /// ```
+    /// let zip = Zip::from(&table);
+    /// if zip.broadcasts(&row.view()) {
+    ///     let products = zip.and_broadcast(&row).map_collect(alloc, |x, y| x * y)?;
+    /// }
+    /// ```
     pub fn broadcasts<A, E: Lengths>(&self, part: &ArrayView<'_, A, E>) -> bool
         ensures { IsTrue result ↔ BroadcastsTo part.now.lengths (N.lengths self.now.nested) }
     {

@@ -38,7 +38,7 @@ row_from-read f h zero is axis lt same = refl
 row_from-read f h (suc n) is axis lt same =
     let here : f is ≡ h is = ap f (sym (row_at-none is axis)) ∙ (same 0 (omega arith) ∙ ap h (row_at-none is axis)) in
     let rest = row_from-read f h n (row_at is axis 1) axis (row_at-below is axis lt)
-      (λ c more. ap f (row_at-more is axis c lt) ∙ (same (suc c) (omega (arith, more)) ∙ ap h (sym (row_at-more is axis c lt)))) in
+    (λ c more. ap f (row_at-more is axis c lt) ∙ (same (suc c) (omega (arith, more)) ∙ ap h (sym (row_at-more is axis c lt)))) in
     rw (here, rest) refl
 
 -- one value at each index list

@@ -20,6 +20,7 @@ use Rattle.ndarray.proofs.views.Swaps.{InBox-swap}
 module _ (is : List ℕ) (axes : 2 ≤ length is) where
   p : ℕ
   p = length is - 2
+
   q : ℕ
   q = length is - 1
 

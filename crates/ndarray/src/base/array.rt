@@ -19,7 +19,70 @@ use std::marker::Model;
 
 /// An array of any number of axes, over a storage `S` and with lengths of the type `D`.
 ///
-/// A contract sees an array as its lengths and its cells, and nothing else of it.
+/// A contract sees an array as its lengths and its cells, in row order, and nothing else of it. Where the cells lie in memory
+/// changes how fast a call is, and never its result.
+///
+/// ```
+/// let a = Array::from_shape_vec((2, 3), vec![in alloc; 1i64, 2, 3, 4, 5, 6]?)?; // [[1, 2, 3], [4, 5, 6]]
+/// assert_eq!(a.get((1, 0)), Some(&4));
+/// assert_eq!(a.t().shape(), &[3, 2]);
+/// if a.sums_fit() {
+///     assert_eq!(a.sum(), 21);
+/// }
+/// let twice = (&a + &a)?; // where `a.add_fits(&a)`
+/// ```
+///
+/// # Storages
+///
+/// [`Array`] owns its cells, [`ArrayView`] reads those of a slice or of another array, [`ArrayViewMut`] writes in them, and
+/// [`CowArray`] either reads or owns. A function over `S: Data` takes all four, one over `S: DataMut` those that may be written in.
+///
+/// # Dimensions
+///
+/// [`Ix0`](crate::Ix0) to [`Ix6`](crate::Ix6) have a fixed number of axes, [`IxDyn`](crate::IxDyn) has any number up to 32. The lengths
+/// that are not 0 multiply to at most `isize::MAX`, so an array of no cells may have long axes. A shape is written `3`, `(2, 3)`,
+/// `Ix2(2, 3)` or `IxDyn(&[2, 3])`, and followed by `.f()` for column order in memory.
+///
+/// # Making arrays
+///
+/// - `zeros`, `from_elem`: all cells alike. `from_shape_vec`: over a vector, without a copy.
+/// - `ArrayView::from_shape`, `ArrayView::from`: views of slices and arrays.
+/// - [`to_owned`](Self::to_owned), [`into_owned`](Self::into_owned): copies. [`map_collect`](crate::Zip) of a [`Zip`](crate::Zip): computed cells.
+/// - [`concatenate`](crate::concatenate), [`stack`](crate::stack): joined arrays. `triu`, `tril`: triangles.
+///
+/// # Asking
+///
+/// - [`ndim`](Self::ndim), [`shape`](Self::shape), [`raw_dim`](Self::raw_dim), [`len`](Self::len), [`len_of`](Self::len_of): lengths.
+/// - [`get`](Self::get), [`get_mut`](Self::get_mut): one cell. [`as_slice`](Self::as_slice): all, where they lie side by side.
+///
+/// # Views, without a copy
+///
+/// - [`view`](Self::view), [`view_mut`](Self::view_mut): the whole.
+/// - [`t`](Self::t), [`reversed_axes`](Self::reversed_axes), [`swap_axes`](Self::swap_axes), [`invert_axis`](Self::invert_axis): axes turned.
+/// - [`slice_axis`](Self::slice_axis), [`index_axis`](Self::index_axis), `split_at`: parts. [`insert_axis`](Self::insert_axis): an axis more.
+/// - [`broadcast`](Self::broadcast): lengths of 1 stretched. [`into_dimensionality`](Self::into_dimensionality): another type of dimension.
+///
+/// # Walking
+///
+/// - [`iter`](Self::iter), [`iter_mut`](Self::iter_mut), [`indexed_iter`](Self::indexed_iter), `indexed_iter_mut`, `into_iter`: cells in row order.
+/// - `outer_iter`, `axis_iter`, `rows`, `columns`, `lanes`: subviews along an axis. `axis_chunks_iter`, `exact_chunks`: blocks.
+///   `windows`, `windows_with_stride`, `axis_windows`: windows. Most have a form with `_mut`.
+/// - [`Zip`](crate::Zip): several arrays together, in the order that is fast for them.
+/// - `update`, `scan_lanes`: cells changed in place.
+///
+/// # Computing
+///
+/// - `+ - * / % & | ^ << >>`, `-`, `!` and the assigning forms (see the head of the crate), [`scalar_left`](crate::scalar_left), `try_zip_assign`.
+/// - `sum`, `product`, `sum_axis`, `product_axis`, `cumprod`, `diff`; [`dot`](crate::linalg::Dot), [`kron`](crate::linalg::kron),
+///   [`general_mat_mul`](crate::linalg::general_mat_mul), `scaled_add`; [`conv_valid`](crate::conv::conv_valid), [`conv_full`](crate::conv::conv_full).
+/// - Arithmetic that can leave the range of its type requires that it does not. For integers a test says so: `sums_fit`, `products_fit`,
+///   `dot_fits`, `add_fits` and the like.
+///
+/// # Errors
+///
+/// What takes memory takes `alloc` and returns a `Result`. Its error is allocation failure, and borrowed arrays are then as before.
+/// A shape that cannot be is a [`ShapeError`](crate::ShapeError). A call on an axis, an index or a slice that is out of bounds does
+/// not compile into a proved program: each has its test, as [`axis_ok`](Self::axis_ok) and [`slice_ok`](Self::slice_ok).
 #[derive(Drop)]
 pub struct ArrayBase<S: Data, D: Lengths> {
     pub(crate) storage: S,

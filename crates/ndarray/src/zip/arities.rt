@@ -20,6 +20,10 @@ use std::alloc::{AllocError, Global};
 
 impl<N: NdProducer<Dim = D>, D: Lengths> Zip<Parts<N, One>, D> {
     /// Calls `f` once at the items of each index list.
+    ///
+    /// ```
+    /// Zip::from(a.view_mut()).for_each(|x| *x += 1);
+    /// ```
     pub fn for_each<F: FnMut(N::Item)>(self, f: F)
         requires callable { (o : Order) → MayVisit (N.yields_at self.nested) (call_gives1 F.FnMut) (can_call1 F.FnMut) (box_in o (N.lengths self.nested)) f }
         ensures ran { (o : Order) × Visits (N.yields_at self.nested) (call_gives1 F.FnMut) (box_in o (N.lengths self.nested)) f }
@@ -29,6 +33,10 @@ impl<N: NdProducer<Dim = D>, D: Lengths> Zip<Parts<N, One>, D> {
 
     /// Calls `f` once at the total and the items of each index list; what it returns is the next total, and the
     /// last one the result.
+    ///
+    /// ```
+    /// let sum = Zip::from(&a).fold(0, |sum, x| sum + x);
+    /// ```
     pub fn fold<B, F: FnMut(B, N::Item) -> B>(self, acc: B, f: F) -> B
         requires callable { (o : Order) → MayFold (N.yields_at self.nested) (call_gives_fold1 F.FnMut) (can_call_fold1 F.FnMut) (box_in o (N.lengths self.nested)) f acc }
         ensures ran { (o : Order) × Folds (N.yields_at self.nested) (call_gives_fold1 F.FnMut) (box_in o (N.lengths self.nested)) f acc result }
@@ -37,6 +45,13 @@ impl<N: NdProducer<Dim = D>, D: Lengths> Zip<Parts<N, One>, D> {
     }
 
     /// As `fold`, up to the first result that is `Done`.
+    ///
+    /// ```
+    /// // how many come before the first cell that is not positive
+    /// let count = Zip::from(&a).fold_while(0, |n, x| {
+    ///     if *x > 0 { FoldWhile::Continue(n + 1) } else { FoldWhile::Done(n) }
+    /// });
+    /// ```
     pub fn fold_while<B, F: FnMut(B, N::Item) -> FoldWhile<B>>(self, acc: B, f: F) -> FoldWhile<B>
         requires callable { (o : Order) → MayFoldWhile (N.yields_at self.nested) (call_gives_fold1 F.FnMut) (can_call_fold1 F.FnMut) (box_in o (N.lengths self.nested)) f acc }
         ensures ran { (o : Order) × FoldsWhile (N.yields_at self.nested) (call_gives_fold1 F.FnMut) (box_in o (N.lengths self.nested)) f acc result }
@@ -45,6 +60,10 @@ impl<N: NdProducer<Dim = D>, D: Lengths> Zip<Parts<N, One>, D> {
     }
 
     /// Whether `f` returns `true` at the items of each index list; it stops at the first `false`.
+    ///
+    /// ```
+    /// let all = Zip::from(&a).all(|x| *x > 0);
+    /// ```
     pub fn all<F: FnMut(N::Item) -> bool>(self, f: F) -> bool
         requires callable { (o : Order) → MayTest (N.yields_at self.nested) (call_gives1 F.FnMut) (can_call1 F.FnMut) (box_in o (N.lengths self.nested)) f true }
         ensures ran { (o : Order) × TestsUntil (N.yields_at self.nested) (call_gives1 F.FnMut) (box_in o (N.lengths self.nested)) f true false result }
@@ -53,6 +72,10 @@ impl<N: NdProducer<Dim = D>, D: Lengths> Zip<Parts<N, One>, D> {
     }
 
     /// Whether `f` returns `true` at the items of some index list; it stops at the first `true`.
+    ///
+    /// ```
+    /// let any = Zip::from(&a).any(|x| *x == 0);
+    /// ```
     pub fn any<F: FnMut(N::Item) -> bool>(self, f: F) -> bool
         requires callable { (o : Order) → MayTest (N.yields_at self.nested) (call_gives1 F.FnMut) (can_call1 F.FnMut) (box_in o (N.lengths self.nested)) f false }
         ensures ran { (o : Order) × TestsUntil (N.yields_at self.nested) (call_gives1 F.FnMut) (box_in o (N.lengths self.nested)) f false true result }
@@ -64,6 +87,10 @@ impl<N: NdProducer<Dim = D>, D: Lengths> Zip<Parts<N, One>, D> {
     ///
     /// All memory is reserved before the first call; an `Err` calls `f` never, and where there is no index
     /// list there is none.
+    ///
+    /// ```
+    /// let made = Zip::from(&a).map_collect(alloc, |x| x * x)?;
+    /// ```
     pub fn map_collect<R: Drop, F: FnMut(N::Item) -> R>(
         self,
         alloc: Global,
@@ -81,6 +108,10 @@ impl<N: NdProducer<Dim = D>, D: Lengths> Zip<Parts<N, One>, D> {
     /// Leaves in the cells of an array what `f` returns at the items of each index list.
     ///
     /// Requires that the array has the same shape; check with `fits`.
+    ///
+    /// ```
+    /// Zip::from(&a).map_assign_into(&mut into, |x| x * x);
+    /// ```
     pub fn map_assign_into<R: Drop, S: DataMut<Elem = R>, F: FnMut(N::Item) -> R>(
         self,
         into: &mut ArrayBase<S, D>,
@@ -97,6 +128,10 @@ impl<N: NdProducer<Dim = D>, D: Lengths> Zip<Parts<N, One>, D> {
 
 impl<X, Y, N: NdProducer<Item = (X, Y), Dim = D>, D: Lengths> Zip<Parts<N, Two>, D> {
     /// Calls `f` once at the items of each index list.
+    ///
+    /// ```
+    /// Zip::from(a.view_mut()).and(&b).for_each(|x, y| *x += *y);
+    /// ```
     pub fn for_each<F: FnMut(X, Y)>(self, f: F)
         requires callable { (o : Order) → MayVisit (N.yields_at self.nested) (call_gives2 F.FnMut) (can_call2 F.FnMut) (box_in o (N.lengths self.nested)) f }
         ensures ran { (o : Order) × Visits (N.yields_at self.nested) (call_gives2 F.FnMut) (box_in o (N.lengths self.nested)) f }
@@ -106,6 +141,10 @@ impl<X, Y, N: NdProducer<Item = (X, Y), Dim = D>, D: Lengths> Zip<Parts<N, Two>,
 
     /// Calls `f` once at the total and the items of each index list; what it returns is the next total, and the
     /// last one the result.
+    ///
+    /// ```
+    /// let sum = Zip::from(&a).and(&b).fold(0, |sum, x, y| sum + x * y);
+    /// ```
     pub fn fold<B, F: FnMut(B, X, Y) -> B>(self, acc: B, f: F) -> B
         requires callable { (o : Order) → MayFold (N.yields_at self.nested) (call_gives_fold2 F.FnMut) (can_call_fold2 F.FnMut) (box_in o (N.lengths self.nested)) f acc }
         ensures ran { (o : Order) × Folds (N.yields_at self.nested) (call_gives_fold2 F.FnMut) (box_in o (N.lengths self.nested)) f acc result }
@@ -114,6 +153,13 @@ impl<X, Y, N: NdProducer<Item = (X, Y), Dim = D>, D: Lengths> Zip<Parts<N, Two>,
     }
 
     /// As `fold`, up to the first result that is `Done`.
+    ///
+    /// ```
+    /// // how many come before the first sum that is not positive
+    /// let count = Zip::from(&a).and(&b).fold_while(0, |n, x, y| {
+    ///     if x + y > 0 { FoldWhile::Continue(n + 1) } else { FoldWhile::Done(n) }
+    /// });
+    /// ```
     pub fn fold_while<B, F: FnMut(B, X, Y) -> FoldWhile<B>>(self, acc: B, f: F) -> FoldWhile<B>
         requires callable { (o : Order) → MayFoldWhile (N.yields_at self.nested) (call_gives_fold2 F.FnMut) (can_call_fold2 F.FnMut) (box_in o (N.lengths self.nested)) f acc }
         ensures ran { (o : Order) × FoldsWhile (N.yields_at self.nested) (call_gives_fold2 F.FnMut) (box_in o (N.lengths self.nested)) f acc result }
@@ -122,6 +168,10 @@ impl<X, Y, N: NdProducer<Item = (X, Y), Dim = D>, D: Lengths> Zip<Parts<N, Two>,
     }
 
     /// Whether `f` returns `true` at the items of each index list; it stops at the first `false`.
+    ///
+    /// ```
+    /// let all = Zip::from(&a).and(&b).all(|x, y| x <= y);
+    /// ```
     pub fn all<F: FnMut(X, Y) -> bool>(self, f: F) -> bool
         requires callable { (o : Order) → MayTest (N.yields_at self.nested) (call_gives2 F.FnMut) (can_call2 F.FnMut) (box_in o (N.lengths self.nested)) f true }
         ensures ran { (o : Order) × TestsUntil (N.yields_at self.nested) (call_gives2 F.FnMut) (box_in o (N.lengths self.nested)) f true false result }
@@ -130,6 +180,10 @@ impl<X, Y, N: NdProducer<Item = (X, Y), Dim = D>, D: Lengths> Zip<Parts<N, Two>,
     }
 
     /// Whether `f` returns `true` at the items of some index list; it stops at the first `true`.
+    ///
+    /// ```
+    /// let any = Zip::from(&a).and(&b).any(|x, y| x + y == 0);
+    /// ```
     pub fn any<F: FnMut(X, Y) -> bool>(self, f: F) -> bool
         requires callable { (o : Order) → MayTest (N.yields_at self.nested) (call_gives2 F.FnMut) (can_call2 F.FnMut) (box_in o (N.lengths self.nested)) f false }
         ensures ran { (o : Order) × TestsUntil (N.yields_at self.nested) (call_gives2 F.FnMut) (box_in o (N.lengths self.nested)) f false true result }
@@ -141,6 +195,10 @@ impl<X, Y, N: NdProducer<Item = (X, Y), Dim = D>, D: Lengths> Zip<Parts<N, Two>,
     ///
     /// All memory is reserved before the first call; an `Err` calls `f` never, and where there is no index
     /// list there is none.
+    ///
+    /// ```
+    /// let made = Zip::from(&a).and(&b).map_collect(alloc, |x, y| x * y)?;
+    /// ```
     pub fn map_collect<R: Drop, F: FnMut(X, Y) -> R>(
         self,
         alloc: Global,
@@ -158,6 +216,10 @@ impl<X, Y, N: NdProducer<Item = (X, Y), Dim = D>, D: Lengths> Zip<Parts<N, Two>,
     /// Leaves in the cells of an array what `f` returns at the items of each index list.
     ///
     /// Requires that the array has the same shape; check with `fits`.
+    ///
+    /// ```
+    /// Zip::from(&a).and(&b).map_assign_into(&mut into, |x, y| x * y);
+    /// ```
     pub fn map_assign_into<R: Drop, S: DataMut<Elem = R>, F: FnMut(X, Y) -> R>(
         self,
         into: &mut ArrayBase<S, D>,
@@ -174,6 +236,10 @@ impl<X, Y, N: NdProducer<Item = (X, Y), Dim = D>, D: Lengths> Zip<Parts<N, Two>,
 
 impl<X, Y, Z, N: NdProducer<Item = ((X, Y), Z), Dim = D>, D: Lengths> Zip<Parts<N, Three>, D> {
     /// Calls `f` once at the items of each index list.
+    ///
+    /// ```
+    /// Zip::from(a.view_mut()).and(&b).and(&c).for_each(|x, y, z| *x += *y + *z);
+    /// ```
     pub fn for_each<F: FnMut(X, Y, Z)>(self, f: F)
         requires callable { (o : Order) → MayVisit (N.yields_at self.nested) (call_gives3 F.FnMut) (can_call3 F.FnMut) (box_in o (N.lengths self.nested)) f }
         ensures ran { (o : Order) × Visits (N.yields_at self.nested) (call_gives3 F.FnMut) (box_in o (N.lengths self.nested)) f }
@@ -183,6 +249,10 @@ impl<X, Y, Z, N: NdProducer<Item = ((X, Y), Z), Dim = D>, D: Lengths> Zip<Parts<
 
     /// Calls `f` once at the total and the items of each index list; what it returns is the next total, and the
     /// last one the result.
+    ///
+    /// ```
+    /// let sum = Zip::from(&a).and(&b).and(&c).fold(0, |sum, x, y, z| sum + x * y * z);
+    /// ```
     pub fn fold<B, F: FnMut(B, X, Y, Z) -> B>(self, acc: B, f: F) -> B
         requires callable { (o : Order) → MayFold (N.yields_at self.nested) (call_gives_fold3 F.FnMut) (can_call_fold3 F.FnMut) (box_in o (N.lengths self.nested)) f acc }
         ensures ran { (o : Order) × Folds (N.yields_at self.nested) (call_gives_fold3 F.FnMut) (box_in o (N.lengths self.nested)) f acc result }
@@ -191,6 +261,13 @@ impl<X, Y, Z, N: NdProducer<Item = ((X, Y), Z), Dim = D>, D: Lengths> Zip<Parts<
     }
 
     /// As `fold`, up to the first result that is `Done`.
+    ///
+    /// ```
+    /// // how many come before the first sum that is not positive
+    /// let count = Zip::from(&a).and(&b).and(&c).fold_while(0, |n, x, y, z| {
+    ///     if x + y + z > 0 { FoldWhile::Continue(n + 1) } else { FoldWhile::Done(n) }
+    /// });
+    /// ```
     pub fn fold_while<B, F: FnMut(B, X, Y, Z) -> FoldWhile<B>>(self, acc: B, f: F) -> FoldWhile<B>
         requires callable { (o : Order) → MayFoldWhile (N.yields_at self.nested) (call_gives_fold3 F.FnMut) (can_call_fold3 F.FnMut) (box_in o (N.lengths self.nested)) f acc }
         ensures ran { (o : Order) × FoldsWhile (N.yields_at self.nested) (call_gives_fold3 F.FnMut) (box_in o (N.lengths self.nested)) f acc result }
@@ -199,6 +276,10 @@ impl<X, Y, Z, N: NdProducer<Item = ((X, Y), Z), Dim = D>, D: Lengths> Zip<Parts<
     }
 
     /// Whether `f` returns `true` at the items of each index list; it stops at the first `false`.
+    ///
+    /// ```
+    /// let all = Zip::from(&a).and(&b).and(&c).all(|x, y, z| x <= y && y <= z);
+    /// ```
     pub fn all<F: FnMut(X, Y, Z) -> bool>(self, f: F) -> bool
         requires callable { (o : Order) → MayTest (N.yields_at self.nested) (call_gives3 F.FnMut) (can_call3 F.FnMut) (box_in o (N.lengths self.nested)) f true }
         ensures ran { (o : Order) × TestsUntil (N.yields_at self.nested) (call_gives3 F.FnMut) (box_in o (N.lengths self.nested)) f true false result }
@@ -207,6 +288,10 @@ impl<X, Y, Z, N: NdProducer<Item = ((X, Y), Z), Dim = D>, D: Lengths> Zip<Parts<
     }
 
     /// Whether `f` returns `true` at the items of some index list; it stops at the first `true`.
+    ///
+    /// ```
+    /// let any = Zip::from(&a).and(&b).and(&c).any(|x, y, z| x + y + z == 0);
+    /// ```
     pub fn any<F: FnMut(X, Y, Z) -> bool>(self, f: F) -> bool
         requires callable { (o : Order) → MayTest (N.yields_at self.nested) (call_gives3 F.FnMut) (can_call3 F.FnMut) (box_in o (N.lengths self.nested)) f false }
         ensures ran { (o : Order) × TestsUntil (N.yields_at self.nested) (call_gives3 F.FnMut) (box_in o (N.lengths self.nested)) f false true result }
@@ -218,6 +303,10 @@ impl<X, Y, Z, N: NdProducer<Item = ((X, Y), Z), Dim = D>, D: Lengths> Zip<Parts<
     ///
     /// All memory is reserved before the first call; an `Err` calls `f` never, and where there is no index
     /// list there is none.
+    ///
+    /// ```
+    /// let made = Zip::from(&a).and(&b).and(&c).map_collect(alloc, |x, y, z| x * y * z)?;
+    /// ```
     pub fn map_collect<R: Drop, F: FnMut(X, Y, Z) -> R>(
         self,
         alloc: Global,
@@ -235,6 +324,10 @@ impl<X, Y, Z, N: NdProducer<Item = ((X, Y), Z), Dim = D>, D: Lengths> Zip<Parts<
     /// Leaves in the cells of an array what `f` returns at the items of each index list.
     ///
     /// Requires that the array has the same shape; check with `fits`.
+    ///
+    /// ```
+    /// Zip::from(&a).and(&b).and(&c).map_assign_into(&mut into, |x, y, z| x * y * z);
+    /// ```
     pub fn map_assign_into<R: Drop, S: DataMut<Elem = R>, F: FnMut(X, Y, Z) -> R>(
         self,
         into: &mut ArrayBase<S, D>,
@@ -254,6 +347,10 @@ impl<X, Y, Z, U, N: NdProducer<Item = (((X, Y), Z), U), Dim = D>, D: Lengths> Zi
     D,
 > {
     /// Calls `f` once at the items of each index list.
+    ///
+    /// ```
+    /// Zip::from(a.view_mut()).and(&b).and(&c).for_each(|x, y, z| *x += *y + *z);
+    /// ```
     pub fn for_each<F: FnMut(X, Y, Z, U)>(self, f: F)
         requires callable { (o : Order) → MayVisit (N.yields_at self.nested) (call_gives4 F.FnMut) (can_call4 F.FnMut) (box_in o (N.lengths self.nested)) f }
         ensures ran { (o : Order) × Visits (N.yields_at self.nested) (call_gives4 F.FnMut) (box_in o (N.lengths self.nested)) f }
@@ -263,6 +360,10 @@ impl<X, Y, Z, U, N: NdProducer<Item = (((X, Y), Z), U), Dim = D>, D: Lengths> Zi
 
     /// Calls `f` once at the total and the items of each index list; what it returns is the next total, and the
     /// last one the result.
+    ///
+    /// ```
+    /// let sum = Zip::from(&a).and(&b).and(&c).fold(0, |sum, x, y, z| sum + x * y * z);
+    /// ```
     pub fn fold<B, F: FnMut(B, X, Y, Z, U) -> B>(self, acc: B, f: F) -> B
         requires callable { (o : Order) → MayFold (N.yields_at self.nested) (call_gives_fold4 F.FnMut) (can_call_fold4 F.FnMut) (box_in o (N.lengths self.nested)) f acc }
         ensures ran { (o : Order) × Folds (N.yields_at self.nested) (call_gives_fold4 F.FnMut) (box_in o (N.lengths self.nested)) f acc result }
@@ -271,6 +372,13 @@ impl<X, Y, Z, U, N: NdProducer<Item = (((X, Y), Z), U), Dim = D>, D: Lengths> Zi
     }
 
     /// As `fold`, up to the first result that is `Done`.
+    ///
+    /// ```
+    /// // how many come before the first sum that is not positive
+    /// let count = Zip::from(&a).and(&b).and(&c).fold_while(0, |n, x, y, z| {
+    ///     if x + y + z > 0 { FoldWhile::Continue(n + 1) } else { FoldWhile::Done(n) }
+    /// });
+    /// ```
     pub fn fold_while<B, F: FnMut(B, X, Y, Z, U) -> FoldWhile<B>>(
         self,
         acc: B,
@@ -283,6 +391,10 @@ impl<X, Y, Z, U, N: NdProducer<Item = (((X, Y), Z), U), Dim = D>, D: Lengths> Zi
     }
 
     /// Whether `f` returns `true` at the items of each index list; it stops at the first `false`.
+    ///
+    /// ```
+    /// let all = Zip::from(&a).and(&b).and(&c).all(|x, y, z| x <= y && y <= z);
+    /// ```
     pub fn all<F: FnMut(X, Y, Z, U) -> bool>(self, f: F) -> bool
         requires callable { (o : Order) → MayTest (N.yields_at self.nested) (call_gives4 F.FnMut) (can_call4 F.FnMut) (box_in o (N.lengths self.nested)) f true }
         ensures ran { (o : Order) × TestsUntil (N.yields_at self.nested) (call_gives4 F.FnMut) (box_in o (N.lengths self.nested)) f true false result }
@@ -291,6 +403,10 @@ impl<X, Y, Z, U, N: NdProducer<Item = (((X, Y), Z), U), Dim = D>, D: Lengths> Zi
     }
 
     /// Whether `f` returns `true` at the items of some index list; it stops at the first `true`.
+    ///
+    /// ```
+    /// let any = Zip::from(&a).and(&b).and(&c).any(|x, y, z| x + y + z == 0);
+    /// ```
     pub fn any<F: FnMut(X, Y, Z, U) -> bool>(self, f: F) -> bool
         requires callable { (o : Order) → MayTest (N.yields_at self.nested) (call_gives4 F.FnMut) (can_call4 F.FnMut) (box_in o (N.lengths self.nested)) f false }
         ensures ran { (o : Order) × TestsUntil (N.yields_at self.nested) (call_gives4 F.FnMut) (box_in o (N.lengths self.nested)) f false true result }
@@ -302,6 +418,10 @@ impl<X, Y, Z, U, N: NdProducer<Item = (((X, Y), Z), U), Dim = D>, D: Lengths> Zi
     ///
     /// All memory is reserved before the first call; an `Err` calls `f` never, and where there is no index
     /// list there is none.
+    ///
+    /// ```
+    /// let made = Zip::from(&a).and(&b).and(&c).map_collect(alloc, |x, y, z| x * y * z)?;
+    /// ```
     pub fn map_collect<R: Drop, F: FnMut(X, Y, Z, U) -> R>(
         self,
         alloc: Global,
@@ -319,6 +439,10 @@ impl<X, Y, Z, U, N: NdProducer<Item = (((X, Y), Z), U), Dim = D>, D: Lengths> Zi
     /// Leaves in the cells of an array what `f` returns at the items of each index list.
     ///
     /// Requires that the array has the same shape; check with `fits`.
+    ///
+    /// ```
+    /// Zip::from(&a).and(&b).and(&c).map_assign_into(&mut into, |x, y, z| x * y * z);
+    /// ```
     pub fn map_assign_into<R: Drop, S: DataMut<Elem = R>, F: FnMut(X, Y, Z, U) -> R>(
         self,
         into: &mut ArrayBase<S, D>,
@@ -338,6 +462,10 @@ impl<X, Y, Z, U, V, N: NdProducer<Item = ((((X, Y), Z), U), V), Dim = D>, D: Len
     D,
 > {
     /// Calls `f` once at the items of each index list.
+    ///
+    /// ```
+    /// Zip::from(a.view_mut()).and(&b).and(&c).for_each(|x, y, z| *x += *y + *z);
+    /// ```
     pub fn for_each<F: FnMut(X, Y, Z, U, V)>(self, f: F)
         requires callable { (o : Order) → MayVisit (N.yields_at self.nested) (call_gives5 F.FnMut) (can_call5 F.FnMut) (box_in o (N.lengths self.nested)) f }
         ensures ran { (o : Order) × Visits (N.yields_at self.nested) (call_gives5 F.FnMut) (box_in o (N.lengths self.nested)) f }
@@ -347,6 +475,10 @@ impl<X, Y, Z, U, V, N: NdProducer<Item = ((((X, Y), Z), U), V), Dim = D>, D: Len
 
     /// Calls `f` once at the total and the items of each index list; what it returns is the next total, and the
     /// last one the result.
+    ///
+    /// ```
+    /// let sum = Zip::from(&a).and(&b).and(&c).fold(0, |sum, x, y, z| sum + x * y * z);
+    /// ```
     pub fn fold<B, F: FnMut(B, X, Y, Z, U, V) -> B>(self, acc: B, f: F) -> B
         requires callable { (o : Order) → MayFold (N.yields_at self.nested) (call_gives_fold5 F.FnMut) (can_call_fold5 F.FnMut) (box_in o (N.lengths self.nested)) f acc }
         ensures ran { (o : Order) × Folds (N.yields_at self.nested) (call_gives_fold5 F.FnMut) (box_in o (N.lengths self.nested)) f acc result }
@@ -355,6 +487,13 @@ impl<X, Y, Z, U, V, N: NdProducer<Item = ((((X, Y), Z), U), V), Dim = D>, D: Len
     }
 
     /// As `fold`, up to the first result that is `Done`.
+    ///
+    /// ```
+    /// // how many come before the first sum that is not positive
+    /// let count = Zip::from(&a).and(&b).and(&c).fold_while(0, |n, x, y, z| {
+    ///     if x + y + z > 0 { FoldWhile::Continue(n + 1) } else { FoldWhile::Done(n) }
+    /// });
+    /// ```
     pub fn fold_while<B, F: FnMut(B, X, Y, Z, U, V) -> FoldWhile<B>>(
         self,
         acc: B,
@@ -367,6 +506,10 @@ impl<X, Y, Z, U, V, N: NdProducer<Item = ((((X, Y), Z), U), V), Dim = D>, D: Len
     }
 
     /// Whether `f` returns `true` at the items of each index list; it stops at the first `false`.
+    ///
+    /// ```
+    /// let all = Zip::from(&a).and(&b).and(&c).all(|x, y, z| x <= y && y <= z);
+    /// ```
     pub fn all<F: FnMut(X, Y, Z, U, V) -> bool>(self, f: F) -> bool
         requires callable { (o : Order) → MayTest (N.yields_at self.nested) (call_gives5 F.FnMut) (can_call5 F.FnMut) (box_in o (N.lengths self.nested)) f true }
         ensures ran { (o : Order) × TestsUntil (N.yields_at self.nested) (call_gives5 F.FnMut) (box_in o (N.lengths self.nested)) f true false result }
@@ -375,6 +518,10 @@ impl<X, Y, Z, U, V, N: NdProducer<Item = ((((X, Y), Z), U), V), Dim = D>, D: Len
     }
 
     /// Whether `f` returns `true` at the items of some index list; it stops at the first `true`.
+    ///
+    /// ```
+    /// let any = Zip::from(&a).and(&b).and(&c).any(|x, y, z| x + y + z == 0);
+    /// ```
     pub fn any<F: FnMut(X, Y, Z, U, V) -> bool>(self, f: F) -> bool
         requires callable { (o : Order) → MayTest (N.yields_at self.nested) (call_gives5 F.FnMut) (can_call5 F.FnMut) (box_in o (N.lengths self.nested)) f false }
         ensures ran { (o : Order) × TestsUntil (N.yields_at self.nested) (call_gives5 F.FnMut) (box_in o (N.lengths self.nested)) f false true result }
@@ -386,6 +533,10 @@ impl<X, Y, Z, U, V, N: NdProducer<Item = ((((X, Y), Z), U), V), Dim = D>, D: Len
     ///
     /// All memory is reserved before the first call; an `Err` calls `f` never, and where there is no index
     /// list there is none.
+    ///
+    /// ```
+    /// let made = Zip::from(&a).and(&b).and(&c).map_collect(alloc, |x, y, z| x * y * z)?;
+    /// ```
     pub fn map_collect<R: Drop, F: FnMut(X, Y, Z, U, V) -> R>(
         self,
         alloc: Global,
@@ -403,6 +554,10 @@ impl<X, Y, Z, U, V, N: NdProducer<Item = ((((X, Y), Z), U), V), Dim = D>, D: Len
     /// Leaves in the cells of an array what `f` returns at the items of each index list.
     ///
     /// Requires that the array has the same shape; check with `fits`.
+    ///
+    /// ```
+    /// Zip::from(&a).and(&b).and(&c).map_assign_into(&mut into, |x, y, z| x * y * z);
+    /// ```
     pub fn map_assign_into<R: Drop, S: DataMut<Elem = R>, F: FnMut(X, Y, Z, U, V) -> R>(
         self,
         into: &mut ArrayBase<S, D>,
@@ -422,6 +577,10 @@ impl<X, Y, Z, U, V, W, N: NdProducer<Item = (((((X, Y), Z), U), V), W), Dim = D>
     D,
 > {
     /// Calls `f` once at the items of each index list.
+    ///
+    /// ```
+    /// Zip::from(a.view_mut()).and(&b).and(&c).for_each(|x, y, z| *x += *y + *z);
+    /// ```
     pub fn for_each<F: FnMut(X, Y, Z, U, V, W)>(self, f: F)
         requires callable { (o : Order) → MayVisit (N.yields_at self.nested) (call_gives6 F.FnMut) (can_call6 F.FnMut) (box_in o (N.lengths self.nested)) f }
         ensures ran { (o : Order) × Visits (N.yields_at self.nested) (call_gives6 F.FnMut) (box_in o (N.lengths self.nested)) f }
@@ -431,6 +590,10 @@ impl<X, Y, Z, U, V, W, N: NdProducer<Item = (((((X, Y), Z), U), V), W), Dim = D>
 
     /// Calls `f` once at the total and the items of each index list; what it returns is the next total, and the
     /// last one the result.
+    ///
+    /// ```
+    /// let sum = Zip::from(&a).and(&b).and(&c).fold(0, |sum, x, y, z| sum + x * y * z);
+    /// ```
     pub fn fold<B, F: FnMut(B, X, Y, Z, U, V, W) -> B>(self, acc: B, f: F) -> B
         requires callable { (o : Order) → MayFold (N.yields_at self.nested) (call_gives_fold6 F.FnMut) (can_call_fold6 F.FnMut) (box_in o (N.lengths self.nested)) f acc }
         ensures ran { (o : Order) × Folds (N.yields_at self.nested) (call_gives_fold6 F.FnMut) (box_in o (N.lengths self.nested)) f acc result }
@@ -439,6 +602,13 @@ impl<X, Y, Z, U, V, W, N: NdProducer<Item = (((((X, Y), Z), U), V), W), Dim = D>
     }
 
     /// As `fold`, up to the first result that is `Done`.
+    ///
+    /// ```
+    /// // how many come before the first sum that is not positive
+    /// let count = Zip::from(&a).and(&b).and(&c).fold_while(0, |n, x, y, z| {
+    ///     if x + y + z > 0 { FoldWhile::Continue(n + 1) } else { FoldWhile::Done(n) }
+    /// });
+    /// ```
     pub fn fold_while<B, F: FnMut(B, X, Y, Z, U, V, W) -> FoldWhile<B>>(
         self,
         acc: B,
@@ -451,6 +621,10 @@ impl<X, Y, Z, U, V, W, N: NdProducer<Item = (((((X, Y), Z), U), V), W), Dim = D>
     }
 
     /// Whether `f` returns `true` at the items of each index list; it stops at the first `false`.
+    ///
+    /// ```
+    /// let all = Zip::from(&a).and(&b).and(&c).all(|x, y, z| x <= y && y <= z);
+    /// ```
     pub fn all<F: FnMut(X, Y, Z, U, V, W) -> bool>(self, f: F) -> bool
         requires callable { (o : Order) → MayTest (N.yields_at self.nested) (call_gives6 F.FnMut) (can_call6 F.FnMut) (box_in o (N.lengths self.nested)) f true }
         ensures ran { (o : Order) × TestsUntil (N.yields_at self.nested) (call_gives6 F.FnMut) (box_in o (N.lengths self.nested)) f true false result }
@@ -459,6 +633,10 @@ impl<X, Y, Z, U, V, W, N: NdProducer<Item = (((((X, Y), Z), U), V), W), Dim = D>
     }
 
     /// Whether `f` returns `true` at the items of some index list; it stops at the first `true`.
+    ///
+    /// ```
+    /// let any = Zip::from(&a).and(&b).and(&c).any(|x, y, z| x + y + z == 0);
+    /// ```
     pub fn any<F: FnMut(X, Y, Z, U, V, W) -> bool>(self, f: F) -> bool
         requires callable { (o : Order) → MayTest (N.yields_at self.nested) (call_gives6 F.FnMut) (can_call6 F.FnMut) (box_in o (N.lengths self.nested)) f false }
         ensures ran { (o : Order) × TestsUntil (N.yields_at self.nested) (call_gives6 F.FnMut) (box_in o (N.lengths self.nested)) f false true result }

@@ -14,6 +14,10 @@ pub enum FoldWhile<T> {
 
 impl<T> FoldWhile<T> {
     /// The value held.
+    ///
+    /// ```
+    /// assert_eq!(FoldWhile::Done(3).into_inner(), 3);
+    /// ```
     pub fn into_inner(self) -> T
         ensures { result ≡ value_in self }
     {
@@ -24,6 +28,10 @@ impl<T> FoldWhile<T> {
     }
 
     /// Whether it is `Done`.
+    ///
+    /// ```
+    /// assert!(!FoldWhile::Continue(3).is_done());
+    /// ```
     pub fn is_done(&self) -> bool
         ensures { IsTrue result ↔ IsDone self.now }
     {

@@ -54,6 +54,10 @@ impl JoinOne for Five {
 
 impl<N: NdProducer<Dim = D>, D: Lengths, K: JoinOne> Zip<Parts<N, K>, D> {
     /// Walks one more producer along. Requires the same shape; check with `fits`.
+    ///
+    /// ```
+    /// Zip::from(&a).and(&b).and(&c).all(|x, y, z| x + y == *z);
+    /// ```
     pub fn and<J: IntoNdProducer<Dim = D>>(
         self,
         part: J,
@@ -69,6 +73,10 @@ impl<N: NdProducer<Dim = D>, D: Lengths, K: JoinOne> Zip<Parts<N, K>, D> {
 
     /// Walks an array along as it is seen at the shape. Requires that it broadcasts to the shape; check
     /// with `broadcasts`.
+    ///
+    /// ```
+    /// Zip::from(&table).and_broadcast(&row).all(|x, y| x <= y);
+    /// ```
     pub fn and_broadcast<J: IntoBroadcast<D>>(
         self,
         part: J,
