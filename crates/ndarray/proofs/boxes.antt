@@ -3,6 +3,7 @@ pub mod Boxes
 pub mod JoinedBoxes
 pub mod Orders
 pub mod ProductShapes
+pub mod RowParts
 pub mod Rows
 pub mod ShapeErrors
 pub mod ShiftedBoxes

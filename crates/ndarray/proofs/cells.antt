@@ -4,6 +4,8 @@ pub mod Assignments
 pub mod Cells
 pub mod CellsInOrder
 pub mod CollectedCells
+pub mod DiagonalRows
+pub mod DiagonalSwaps
 pub mod Diagonals
 pub mod Differences
 pub mod Elementwise

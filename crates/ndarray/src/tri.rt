@@ -1,6 +1,6 @@
 //! Triangles of the last two axes.
 
-ghost use Rattle.std.specs.Prelude.{◌≡◌, ℕ, pos, neg_ℤ, FitsSigned, ◌+ℤ◌, ◌+◌, ◌-◌, ◌<◌, ◌≤◌, ◌^◌, ◌&&◌, if◌then◌else◌, int_le, length, filter_map, replicate, true, false, All, IfOk, IsOk, Some};
+ghost use Rattle.std.specs.Prelude.{◌≡◌, ℕ, pos, neg_ℤ, FitsSigned, ◌+ℤ◌, ◌+◌, ◌-◌, ◌<◌, ◌≤◌, ◌^◌, ◌&&◌, if◌then◌else◌, int_le, length, slice_index, filter_map, replicate, true, false, All, IfOk, IsOk, Some};
 ghost use Rattle.std.specs.Int.{w64};
 ghost use Rattle.ndarray.specs.Elementwise.{ClonesAreEqual};
 ghost use Rattle.ndarray.specs.Grid.{IsGrid, cell};
@@ -8,7 +8,7 @@ ghost use Rattle.ndarray.specs.Index.{InBox, size};
 ghost use Rattle.ndarray.specs.Limits.{IsWithinLimit};
 ghost use Rattle.ndarray.specs.Triangles.{column_minus_row, diagonals_kept, lower_triangle, upper_triangle};
 ghost use Rattle.ndarray.specs.base.Builder.{pushed_all};
-ghost use Rattle.ndarray.specs.base.Ranks.{row_from};
+ghost use Rattle.ndarray.specs.base.Ranks.{row_at, row_from};
 
 use crate::base::array::{Array, ArrayBase, ArrayView};
 use crate::base::builder::ArrayBuilder;
@@ -112,9 +112,17 @@ fn diagonals_by_columns<A: Clone + Zero, D: Lengths>(
     let axis = array.raw_dim().ndim() - 1;
     let mut columns = array.again();
     columns.swap_axes(axis - 1, axis);
-    let mut kept = diagonals_by_rows(alloc, &columns, -last, -first)?;
+    let mut kept = diagonals_by_rows(alloc, &columns, opposite(last), opposite(first))?;
     kept.swap_axes(axis - 1, axis);
     Ok(kept)
+}
+
+/// The number on the other side of zero.
+fn opposite(bound: isize) -> isize
+    requires { FitsSigned w64 (neg_ℤ bound) }
+    ensures { result ≡ neg_ℤ bound }
+{
+    -bound
 }
 
 /// The same of an array with two axes at least, row by row.
@@ -127,6 +135,7 @@ fn diagonals_by_rows<A: Clone + Zero, D: Lengths>(
     requires clones { ClonesAreEqual A.is_clone }
     requires axes { 2 ≤ length array.now.lengths }
     ensures cells { IfOk result (λ r. r ≡ diagonals_kept (λ d. int_le first d && int_le d last) A.zero array.now) }
+    ensures lengths { IfOk result (λ r. r.lengths ≡ array.now.lengths) }
     ensures whole { IfOk result IsGrid }
     ensures axes { IfOk result (λ r. D.has_axes (length r.lengths)) }
     ensures empty { size array.now.lengths ≡ 0 → IsOk result }
@@ -155,6 +164,7 @@ fn push_row<A: Clone + Zero, D: Lengths>(
     requires limit { IsWithinLimit array.now.lengths }
     requires axes { 2 ≤ length array.now.lengths }
     requires some { 0 < columns }
+    requires fits { columns < 2 ^ 63 }
     requires inside { All (InBox array.now.lengths) (row_from (D.numbers index.now) (length array.now.lengths - 1) columns) }
     requires room { length kept.old.cells + columns ≤ size kept.old.lengths }
     ensures pushed { IfOk result (λ _. kept.new ≡ pushed_all kept.old (filter_map (λ is. if int_le first (column_minus_row is) && int_le (column_minus_row is) last
@@ -164,14 +174,33 @@ fn push_row<A: Clone + Zero, D: Lengths>(
     let from = columns_below(first, diagonal, columns);
     let to = columns_up_to(last, diagonal, columns).max(from);
     push_zeros(kept, from);
-    if from < to {
-        let axis = index.ndim() - 1;
-        let mut start = index.copied();
-        start.set_axis(axis, start.axis(axis) + from);
-        kept.push_clones(array.cells_along(&start, axis, to - from))?;
-    }
+    push_cells(kept, array, index, from, to - from)?;
     push_zeros(kept, columns - to);
     Ok(())
+}
+
+/// Pushes clones of `count` cells along the last axis, from `from` cells behind an index list on.
+fn push_cells<A: Clone, D: Lengths>(
+    kept: &mut ArrayBuilder<A, D>,
+    array: &ArrayView<'_, A, D>,
+    index: &D,
+    from: usize,
+    count: usize,
+) -> Result<(), AllocError>
+    requires clones { ClonesAreEqual A.is_clone }
+    requires axes { 1 ≤ length (D.numbers index.now) }
+    requires fits { slice_index (D.numbers index.now) (length (D.numbers index.now) - 1) + from < 2 ^ 64 }
+    requires inside { All (InBox array.now.lengths) (row_from (row_at (D.numbers index.now) (length (D.numbers index.now) - 1) from) (length (D.numbers index.now) - 1) count) }
+    requires room { length kept.old.cells + count ≤ size kept.old.lengths }
+    ensures pushed { IfOk result (λ _. kept.new ≡ pushed_all kept.old (filter_map (cell array.now) (row_from (row_at (D.numbers index.now) (length (D.numbers index.now) - 1) from) (length (D.numbers index.now) - 1) count))) }
+{
+    if count == 0 {
+        return Ok(());
+    }
+    let axis = index.ndim() - 1;
+    let mut start = index.copied();
+    start.set_axis(axis, start.axis(axis) + from);
+    kept.push_clones(array.cells_along(&start, axis, count))
 }
 
 /// How many of the diagonals from one on are below another.

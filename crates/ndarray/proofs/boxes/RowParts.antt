@@ -1,36 +1,53 @@
 -- A row in parts, and what two readings of its index lists give.
-use Rattle.std.proofs.Common.{◌≡◌, ◌≢◌, ℕ, ◌+◌, ◌<◌, suc, zero, List, [], ◌∷◌, ◌++◌, Option, Some, length, set, get_or, refl, sym, ◌∙◌, ap, arith, ◌-◌, ◌≤◌}
+use Rattle.std.proofs.Common.{◌≡◌, ◌≢◌, ℕ, ◌+◌, ◌<◌, suc, zero, List, [], ◌∷◌, ◌++◌, Option, Some, length, set, get_or, refl, sym, ◌∙◌, ap, arith, subst, All, ◌-◌, ◌≤◌}
 use Rattle.std.specs.Prelude.{filter_map, flat_map, replicate, ℤ, pos, ◌+ℤ◌}
 use Rattle.std.proofs.lemmas.Int.{ints}
-use Rattle.std.proofs.lemmas.List.{length-set, get_or-set_same, get_or-set_other, set-set, set-get_or}
-use Rattle.std.proofs.lemmas.List.Elements.{filter_map-append}
+use Rattle.std.proofs.lemmas.List.{length-append, get_or_append_left, length-set, get_or-set_same, get_or-set_other, set-set, set-get_or}
+use Rattle.std.proofs.lemmas.List.Elements.{All-tail, filter_map-append}
 use Rattle.ndarray.specs.Triangles.{column_minus_row}
-use Rattle.ndarray.specs.base.Ranks.{row_from}
-
--- index list c of a row
-abbrev pub row_at : List ℕ → ℕ → ℕ → List ℕ
-row_at is axis c = set is axis (get_or is axis 0 + c)
+use Rattle.ndarray.specs.base.Ranks.{row_at, row_from}
 
 module _ (is : List ℕ) (axis : ℕ) where
-  row_at-none : row_at is axis 0 ≡ is
+  pub row_at-none : row_at is axis 0 ≡ is
   row_at-none = (let e : get_or is axis 0 + 0 ≡ get_or is axis 0 = omega arith in ap (set is axis) e) ∙ set-get_or is axis 0
 
-  row_at-more : (c : ℕ) → axis < length is → row_at (row_at is axis 1) axis c ≡ row_at is axis (suc c)
-  row_at-more c lt =
-      let g = get_or-set_same is axis (get_or is axis 0 + 1) 0 lt in
-      let e : get_or (row_at is axis 1) axis 0 + c ≡ get_or is axis 0 + suc c = omega (arith, g) in
-      set-set is axis (get_or is axis 0 + 1) _ ∙ ap (set is axis) e
+  pub row_at-further : (b c : ℕ) → axis < length is → row_at (row_at is axis b) axis c ≡ row_at is axis (b + c)
+  row_at-further b c lt =
+      let g = get_or-set_same is axis (get_or is axis 0 + b) 0 lt in
+      let e : get_or (row_at is axis b) axis 0 + c ≡ get_or is axis 0 + (b + c) = omega (arith, g) in
+      set-set is axis (get_or is axis 0 + b) _ ∙ ap (set is axis) e
 
-  row_at-below : axis < length is → axis < length (row_at is axis 1)
+  row_at-more : (c : ℕ) → axis < length is → row_at (row_at is axis 1) axis c ≡ row_at is axis (suc c)
+  row_at-more c lt = row_at-further 1 c lt ∙ (let e : 1 + c ≡ suc c = omega arith in ap (row_at is axis) e)
+
+  pub row_at-below : axis < length is → axis < length (row_at is axis 1)
   row_at-below lt = let l = length-set is axis (get_or is axis 0 + 1) in omega (arith, l, lt)
 
 -- a row is its first part and the rest
 pub row_from-append : (m n : ℕ) (is : List ℕ) (axis : ℕ) → axis < length is → row_from is axis (m + n) ≡ row_from is axis m ++ row_from (row_at is axis m) axis n
-row_from-append zero n is axis lt = ap (λ js. row_from js axis n) (sym (row_at-none is axis))
+row_from-append zero n is axis lt = (let e : 0 + n ≡ n = omega arith in ap (row_from is axis) e) ∙ ap (λ js. row_from js axis n) (sym (row_at-none is axis))
 row_from-append (suc m) n is axis lt =
-    ap (λ l. is ∷ l)
+    (let e : suc m + n ≡ suc (m + n) = omega arith in ap (row_from is axis) e)
+    ∙ ap (λ l. is ∷ l)
     (row_from-append m n (row_at is axis 1) axis (row_at-below is axis lt)
     ∙ ap (λ js. row_from (row_at is axis 1) axis m ++ row_from js axis n) (row_at-more is axis m lt))
+
+-- what holds along a row holds along a part of it
+pub row_from-part : (P : List ℕ → Type 0) (from n m : ℕ) (is : List ℕ) (axis : ℕ) → axis < length is → from + n ≤ m → All P (row_from is axis m) → All P (row_from (row_at is axis from) axis n)
+row_from-part P from n m is axis lt fits all =
+    let row : List (List ℕ) = row_from is axis m in
+    let rest : List (List ℕ) = row_from (row_at is axis from) axis (m - from) in
+    let one : row ≡ row_from is axis from ++ rest = (let e : m ≡ from + (m - from) = omega (arith, fits) in ap (row_from is axis) e) ∙ row_from-append from (m - from) is axis lt in
+    let two : rest ≡ row_from (row_at is axis from) axis n ++ row_from (row_at (row_at is axis from) axis n) axis (m - from - n) =
+    (let e : m - from ≡ n + (m - from - n) = omega (arith, fits) in ap (row_from (row_at is axis from) axis) e) ∙ row_from-append n (m - from - n) (row_at is axis from) axis (let l = length-set is axis (get_or is axis 0 + from) in omega (arith, l, lt)) in
+    All-first P _ _ (subst (All P) two (All-second P _ _ (subst (All P) one all)))
+  where
+    All-first : {X : Type 0} (P : X → Type 0) (xs ys : List X) → All P (xs ++ ys) → All P xs
+    All-first P xs ys all k d lt = let l = length-append xs ys in subst P (get_or_append_left xs ys d k lt) (all k d (omega (arith, l, lt)))
+
+    All-second : {X : Type 0} (P : X → Type 0) (xs ys : List X) → All P (xs ++ ys) → All P ys
+    All-second P [] ys all = all
+    All-second P (x ∷ xs) ys all = All-second P xs ys (All-tail P x (xs ++ ys) all)
 
 -- two readings that agree along a row give the same of it
 pub row_from-read : {A : Type 0} (f h : List ℕ → Option A) (n : ℕ) (is : List ℕ) (axis : ℕ) → axis < length is → ((c : ℕ) → c < n → f (row_at is axis c) ≡ h (row_at is axis c)) → filter_map f (row_from is axis n) ≡ filter_map h (row_from is axis n)

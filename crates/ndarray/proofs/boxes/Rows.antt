@@ -164,3 +164,33 @@ pub rows_in-one : (o : Order) (n : ℕ) → rows_in o (suc n ∷ []) ≡ box_in 
 unfolding row_order column_order
 rows_in-one RowMajor n = ap (λ l. l ∷ []) (sym (append-nil (row_from (0 ∷ []) 0 (suc n))) ∙ rows-joined RowMajor (suc n ∷ []))
 rows_in-one ColumnMajor n = ap (λ l. l ∷ []) (sym (append-nil (row_from (0 ∷ []) 0 (suc n))) ∙ rows-joined ColumnMajor (suc n ∷ []))
+
+-- along the last axis: the index lists with which rows begin, and the rows one after another
+unmapped : {X Y : Type 0} (P : Y → Type 0) (f : X → Y) (xs : List X) → AllByRecursion P (map f xs) → AllByRecursion (λ x. P (f x)) xs
+unmapped P f [] all = tt
+unmapped P f (x ∷ xs) all = (all.0, unmapped P f xs all.1)
+
+module _ (ns : List ℕ) (axis columns : ℕ) (some : 0 < length ns) (last : axis ≡ length ns - 1) (many : columns ≡ get_or ns axis 0) where
+  abbrev pub firsts : List (List ℕ)
+  firsts = row_order (set ns axis (one_if_some columns))
+
+  pub last-rows : flat_map (λ is. row_from is axis columns) firsts ≡ row_order ns
+  last-rows = of ns axis columns some last many
+    where
+      of : (ns : List ℕ) (axis columns : ℕ) → 0 < length ns → axis ≡ length ns - 1 → columns ≡ get_or ns axis 0 → flat_map (λ is. row_from is axis columns) (row_order (set ns axis (one_if_some columns))) ≡ row_order ns
+      of [] axis columns some last many = absurd (omega (arith, some))
+      of (n ∷ ms) axis columns some last many = rw many (row_order-rows axis n ms (omega (arith, last)))
+
+  pub last-begin : All (λ is. (0 < columns) × All (InBox ns) (row_from is axis columns)) firsts
+  last-begin = of ns axis columns some last many
+    where
+      of : (ns : List ℕ) (axis columns : ℕ) → 0 < length ns → axis ≡ length ns - 1 → columns ≡ get_or ns axis 0
+          → All (λ is. (0 < columns) × All (InBox ns) (row_from is axis columns)) (row_order (set ns axis (one_if_some columns)))
+      of [] axis columns some last many = absurd (omega (arith, some))
+      of (n ∷ ms) axis columns some last many =
+          let P : List (List ℕ) → Type 0 = λ row. (0 < length row) × All (InBox (n ∷ ms)) row in
+          let fast : fast_axis RowMajor (n ∷ ms) ≡ axis = omega (arith, last) in
+          let rows : All P (map (λ is. row_from is axis (get_or (n ∷ ms) axis 0)) (row_order (set (n ∷ ms) axis (one_if_some (get_or (n ∷ ms) axis 0))))) =
+          subst (λ k. All P (map (λ is. row_from is k (get_or (n ∷ ms) k 0)) (row_order (set (n ∷ ms) k (one_if_some (get_or (n ∷ ms) k 0)))))) fast (rows-within RowMajor (n ∷ ms)) in
+          let each = All-from_recursion (λ is. P (row_from is axis (get_or (n ∷ ms) axis 0))) _ (unmapped P (λ is. row_from is axis (get_or (n ∷ ms) axis 0)) _ (All-to_recursion P _ rows)) in
+          rw many (λ k d lt. (let l = length-row_from (get_or (row_order (set (n ∷ ms) axis (one_if_some (get_or (n ∷ ms) axis 0)))) k d) axis (get_or (n ∷ ms) axis 0) in let e = each k d lt in (omega (arith, l, e.0), e.1)))

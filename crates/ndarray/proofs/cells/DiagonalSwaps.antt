@@ -2,7 +2,8 @@
 use Rattle.std.proofs.Common.{◌≡◌, ◌-◌, ◌<◌, ◌≤◌, ℕ, List, Option, Some, Bool, true, false, length, get_or, set, swap, refl, sym, ◌∙◌, ap, arith, subst}
 use Rattle.std.specs.Prelude.{ℤ, neg_ℤ, ◌≤ℤ◌, int_le, ◌&&◌, if◌then◌else◌}
 use Rattle.std.proofs.Math.Bool.{and_comm}
-use Rattle.std.proofs.lemmas.Bool.{le-ltb}
+use Rattle.std.proofs.lemmas.Bool.{false≢true, le-ltb}
+use Rattle.std.proofs.lemmas.Float.{T_from_true}
 use Rattle.std.proofs.lemmas.Int.{ints}
 use Rattle.std.proofs.lemmas.List.{length-set, get_or-set_same, get_or-set_other}
 use Rattle.std.proofs.lemmas.List.Edits.{length-swap, swap_is}
@@ -12,16 +13,16 @@ use Rattle.ndarray.specs.Triangles.{column_minus_row, diagonals_kept}
 use Rattle.ndarray.specs.Views.{axes_swapped}
 use Rattle.ndarray.proofs.boxes.Boxes.{InBox-length}
 use Rattle.ndarray.proofs.cells.Cells.{tabulate-cell, tabulate-same}
-use Rattle.ndarray.proofs.cells.Diagonals.{kept_at}
+use Rattle.ndarray.proofs.cells.Diagonals.{int_le-false, int_le-true, kept_at}
 use Rattle.ndarray.proofs.lists.Elements.{swap-swap}
 use Rattle.ndarray.proofs.views.Swaps.{InBox-swap}
 
 -- the last index of a list in the place of the one before it
 module _ (is : List ℕ) (axes : 2 ≤ length is) where
-  p : ℕ
+  abbrev p : ℕ
   p = length is - 2
 
-  q : ℕ
+  abbrev q : ℕ
   q = length is - 1
 
   pub diagonal-swapped : column_minus_row (swap is (length is - 2) (length is - 1)) ≡ neg_ℤ (column_minus_row is)
@@ -37,7 +38,7 @@ module _ (is : List ℕ) (axes : 2 ≤ length is) where
 
 -- what is kept of the diagonals in the other direction, of the array with its last two axes exchanged, and these exchanged back
 module _ {A : Type 0} (keeps mirrored : ℤ → Bool) (mirror : (d : ℤ) → mirrored (neg_ℤ d) ≡ keeps d) (zero_cell : A) (g h r : Grid A) (p q : ℕ) (axes : 2 ≤ length g.lengths) (first : p ≡ length g.lengths - 2) (last : q ≡ length g.lengths - 1) (swapped : h ≡ axes_swapped g p q) (whole : IsGrid h) (kept : r ≡ diagonals_kept mirrored zero_cell h) (full : IsGrid r) where
-  ns : List ℕ
+  abbrev ns : List ℕ
   ns = g.lengths
 
   lengths : h.lengths ≡ swap ns p q
@@ -75,4 +76,11 @@ pub between-mirrored : (first last d : ℤ) → (int_le (neg_ℤ last) (neg_ℤ 
 between-mirrored first last d = and_comm (int_le (neg_ℤ last) (neg_ℤ d)) (int_le (neg_ℤ d) (neg_ℤ first)) ∙ (ap (λ t. t && int_le (neg_ℤ last) (neg_ℤ d)) (negated d first) ∙ ap (λ t. int_le first d && t) (negated last d))
   where
     negated : (x y : ℤ) → int_le (neg_ℤ x) (neg_ℤ y) ≡ int_le y x
-    negated x y = ?
+    negated x y = decided (int_le y x) refl
+      where
+        below : (a b : ℤ) → int_le a b ≡ true → a ≤ℤ b
+        below a b e = record { le = T_from_true (int_le a b) e }
+
+        decided : (t : Bool) → int_le y x ≡ t → int_le (neg_ℤ x) (neg_ℤ y) ≡ int_le y x
+        decided true e = int_le-true (neg_ℤ x) (neg_ℤ y) (let h = below y x e in omega (arith, ints, h)) ∙ sym e
+        decided false e = int_le-false (neg_ℤ x) (neg_ℤ y) (λ h. false≢true (sym e ∙ int_le-true y x (omega (arith, ints, h)))) ∙ sym e

@@ -1,6 +1,6 @@
 -- Diagonals of the last two axes that are kept.
-use Rattle.std.proofs.Common.{◌≡◌, ◌-◌, ◌<◌, ◌≤◌, ◌^◌, inl, inr, ℕ, List, ◌∷◌, Option, Some, Bool, true, false, length, get_or, refl, sym, ◌∙◌, ap, arith}
-use Rattle.std.specs.Prelude.{ℤ, pos, negsuc, ◌≤ℤ◌, int_le, nat_lt, T, ◌&&◌, All, filter_map, if◌then◌else◌}
+use Rattle.std.proofs.Common.{◌≡◌, ◌-◌, ◌<◌, ◌≤◌, ◌^◌, inl, inr, ℕ, List, ◌∷◌, Option, Some, Bool, true, false, length, get_or, refl, sym, ◌∙◌, ap, arith, w64}
+use Rattle.std.specs.Prelude.{FitsSigned, ℤ, pos, negsuc, ◌≤ℤ◌, int_le, nat_lt, T, ◌&&◌, All, filter_map, if◌then◌else◌}
 use Rattle.std.proofs.Math.Bool.{and-true}
 use Rattle.std.proofs.lemmas.Bool.{cases_lt, false_from_ne_true, le-ltb, lt-ltb}
 use Rattle.std.proofs.lemmas.Float.{T_from_true}
@@ -80,13 +80,20 @@ module _ {A : Type 0} (keeps others : ℤ → Bool) (zero_cell : A) (g : Grid A)
 
 -- the difference of two indices is a signed word
 module _ (ns is : List ℕ) (limit : nonzero_size ns < 2 ^ 63) (b : InBox ns is) (axes : 2 ≤ length ns) where
-  pub difference-fits : (negsuc (2 ^ 63 - 1) ≤ℤ column_minus_row is) × (column_minus_row is ≤ℤ pos (2 ^ 63 - 1))
+  pub difference-fits : (negsuc (2 ^ 63 - 2) ≤ℤ column_minus_row is) × (column_minus_row is ≤ℤ pos (2 ^ 63 - 1))
   difference-fits =
       let l = InBox-length ns is b in
       let fit = indices-fit ns is limit b in
       let column : get_or is (length is - 1) 0 < 2 ^ 63 = fit (length is - 1) 0 (omega arith) in
       let row : get_or is (length is - 2) 0 < 2 ^ 63 = fit (length is - 2) 0 (omega arith) in
       (omega (arith, ints), omega (arith, ints))
+
+  pub difference-word : FitsSigned w64 (column_minus_row is)
+  difference-word = word (column_minus_row is) difference-fits.0 difference-fits.1
+    where
+      word : (z : ℤ) → negsuc (2 ^ 63 - 2) ≤ℤ z → z ≤ℤ pos (2 ^ 63 - 1) → FitsSigned w64 z
+      word (pos n) low high = record { sfits = omega (arith, ints, high) }
+      word (negsuc n) low high = record { sfits = omega (arith, ints, low) }
 
 -- what a test of whole numbers answers
 pub int_le-true : (x y : ℤ) → x ≤ℤ y → int_le x y ≡ true
@@ -108,9 +115,9 @@ module _ {A : Type 0} (k : ℤ) (zero_cell : A) (g : Grid A) (limit : nonzero_si
       let d : ℤ = column_minus_row is in
       ap (λ t. int_le k d && t) (int_le-true d (pos 9223372036854775807) (difference-fits g.lengths is limit b axes).1) ∙ and-true (int_le k d))
 
-  pub lower-is : diagonals_kept (λ d. int_le (negsuc 9223372036854775807) d && int_le d k) zero_cell g ≡ lower_triangle k zero_cell g
+  pub lower-is : diagonals_kept (λ d. int_le (negsuc 9223372036854775806) d && int_le d k) zero_cell g ≡ lower_triangle k zero_cell g
   lower-is =
-      diagonals-alike (λ d. int_le (negsuc 9223372036854775807) d && int_le d k) (λ d. int_le d k) zero_cell g
+      diagonals-alike (λ d. int_le (negsuc 9223372036854775806) d && int_le d k) (λ d. int_le d k) zero_cell g
       (λ is b axes.
       let d : ℤ = column_minus_row is in
-      ap (λ t. t && int_le d k) (int_le-true (negsuc 9223372036854775807) d (difference-fits g.lengths is limit b axes).0))
+      ap (λ t. t && int_le d k) (int_le-true (negsuc 9223372036854775806) d (difference-fits g.lengths is limit b axes).0))

@@ -35,6 +35,14 @@ module _ {X Y : Type 0} (f : X → Option Y) where
       let here = h 0 x (omega arith) in
       rw here.1 (ap (λ n. suc n) (length-filter_map_all xs (λ k d lt. h (suc k) d (omega arith))))
 
+  pub length-filter_map-most : (xs : List X) → length (filter_map f xs) ≤ length xs
+  length-filter_map-most [] = omega arith
+  length-filter_map-most (x ∷ xs) = let rest = length-filter_map-most xs in more (f x) rest
+    where
+      more : (o : Option Y) → length (filter_map f xs) ≤ length xs → length (cons_option o (filter_map f xs)) ≤ suc (length xs)
+      more None h = omega (arith, h)
+      more (Some y) h = omega (arith, h)
+
   pub slice_get-filter_map_all : (xs : List X) (k : ℕ) (d : X) → All (λ x. (y : Y) × (f x ≡ Some y)) xs → k < length xs → slice_get (filter_map f xs) k ≡ f (get_or xs k d)
   slice_get-filter_map_all [] k d h lt = absurd (omega arith)
   slice_get-filter_map_all (x ∷ xs) zero d h lt =

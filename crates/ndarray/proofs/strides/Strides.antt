@@ -92,7 +92,7 @@ parts-positive zero t h = absurd (omega (arith, h, zero-mul t))
 parts-positive (suc n) zero h = absurd (omega (arith, h, mul-zero (suc n)))
 parts-positive (suc n) (suc t) h = (omega arith, omega arith)
 
-first-index : (ns bs : List ℕ) → length bs ≡ length ns → 0 < size ns → (is : List ℕ) × (InBox ns is × ((dot bs is ≡ 0) × (rank ns is ≡ 0)))
+pub first-index : (ns bs : List ℕ) → length bs ≡ length ns → 0 < size ns → (is : List ℕ) × (InBox ns is × ((dot bs is ≡ 0) × (rank ns is ≡ 0)))
 unfolding dot rank
 first-index [] [] l some = ([], (tt, (refl, refl)))
 first-index [] (b ∷ bs) l some = absurd (omega arith)

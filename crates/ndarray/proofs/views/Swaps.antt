@@ -1,13 +1,15 @@
 -- Two axes exchanged.
-use Rattle.std.proofs.Common.{◌≡◌, ℕ, ◌+◌, ◌*◌, ◌%◌, ◌<◌, ◌^◌, List, length, get_or, set, swap, Option, sym, ◌∙◌, ap, arith, subst}
+use Rattle.std.proofs.Common.{◌≡◌, ℕ, ◌+◌, ◌*◌, ◌%◌, ◌<◌, ◌^◌, List, length, get_or, set, swap, Option, inl, inr, refl, sym, ◌∙◌, ap, arith, subst}
 use Rattle.std.proofs.lemmas.List.{length-set}
 use Rattle.std.proofs.lemmas.List.Edits.{length-swap, swap_is}
-use Rattle.ndarray.specs.Index.{InBox}
+use Rattle.std.proofs.lemmas.Bool.{cases_lt}
+use Rattle.ndarray.specs.Index.{InBox, size}
 use Rattle.ndarray.specs.base.Places.{dot, place, Reaches, Rearranges}
-use Rattle.ndarray.proofs.boxes.Boxes.{InBox-length, InBox-get, InBox-set_both}
+use Rattle.ndarray.proofs.boxes.Boxes.{InBox-length, InBox-get, InBox-set_both, InBox-some}
 use Rattle.ndarray.proofs.lists.Elements.{get_or-set_own, swap-swap}
 use Rattle.ndarray.proofs.strides.NestedMoves.{nested-swapped}
 use Rattle.ndarray.proofs.strides.Reach.{dot-set}
+use Rattle.ndarray.proofs.strides.Strides.{first-index}
 use Rattle.ndarray.proofs.boxes.Sizes.{nonzero-swap}
 
 dot-swap : (bs is : List ℕ) (i j : ℕ) → length bs ≡ length is → i < length is → j < length is → dot (swap bs i j) (swap is i j) ≡ dot bs is
@@ -30,6 +32,18 @@ InBox-swap ns is i j hi hj b =
     let once = InBox-set_both ns is i (get_or ns j 0) (get_or is j 0) b (InBox-get ns is j b hj) in
     let twice = InBox-set_both (set ns i (get_or ns j 0)) (set is i (get_or is j 0)) j (get_or ns i 0) (get_or is i 0) once (InBox-get ns is i b hi) in
     subst (λ ms. InBox ms (swap is i j)) (swap_is ns i j 0 hi hj) (subst (InBox _) (swap_is is i j 0 (omega arith) (omega arith)) twice)
+
+-- with two axes exchanged a box has as many index lists, so none where it had none
+pub size-swap_none : (ns : List ℕ) (i j : ℕ) → i < length ns → j < length ns → size ns ≡ 0 → size (swap ns i j) ≡ 0
+size-swap_none ns i j hi hj none = elim (cases_lt 0 (size (swap ns i j))) [
+  | inl some ↦
+      (let first = first-index (swap ns i j) (swap ns i j) refl some in
+      let l = length-swap ns i j in
+      let back = InBox-swap (swap ns i j) first.0 i j (omega (arith, l, hi)) (omega (arith, l, hj)) first.1.0 in
+      let there = InBox-some ns (swap first.0 i j) (subst (λ ms. InBox ms (swap first.0 i j)) (swap-swap ns i j hi hj) back) in
+      absurd (omega (arith, there, none)))
+  | inr none ↦ omega (arith, none)
+]
 
 pub rearranges-swapped : {A one : Type 0} (two : Type 0) (at : ℕ → Option A) (ns : List ℕ) (start : ℕ) (bs : List ℕ) (i j : ℕ) → Reaches one at ns start bs → i < length ns → j < length ns → Rearranges two ns start bs (swap ns i j) start (swap bs i j) (λ is. swap is i j)
 unfolding place

@@ -34,3 +34,7 @@ block_in ColumnMajor ns p = size (take p ns)
 abbrev pub row_from : List ℕ → ℕ → ℕ → List (List ℕ)
 row_from is axis zero = []
 row_from is axis (suc n) = is ∷ row_from (slice_set is axis (slice_index is axis + 1)) axis n
+
+-- the index list that comes c after one along an axis
+abbrev pub row_at : List ℕ → ℕ → ℕ → List ℕ
+row_at is axis c = slice_set is axis (slice_index is axis + c)

@@ -63,8 +63,8 @@ impl<A: Drop, D: Lengths> ArrayBuilder<A, D> {
         A: Clone,
         requires clones { ClonesAreEqual A.is_clone }
         requires room { length self.old.cells + length cells ≤ size self.old.lengths }
-        ensures pushed { IfOk result (λ _. self.new ≡ pushed_all self.old cells) }
-        ensures none { length cells ≡ 0 → IsOk result }
+        ensures pushed { IfOk result (λ _. self.new ≡ pushed_all self.old cells.entry) }
+        ensures none { length cells.entry ≡ 0 → IsOk result }
     {
         match cells.side_by_side() {
             Some(slice) => self.push_slice(slice),
@@ -93,8 +93,8 @@ impl<A: Drop, D: Lengths> ArrayBuilder<A, D> {
         A: Clone,
         requires clones { ClonesAreEqual A.is_clone }
         requires room { length self.old.cells + length cells ≤ size self.old.lengths }
-        ensures pushed { IfOk result (λ _. self.new ≡ pushed_all self.old cells) }
-        ensures none { length cells ≡ 0 → IsOk result }
+        ensures pushed { IfOk result (λ _. self.new ≡ pushed_all self.old cells.entry) }
+        ensures none { length cells.entry ≡ 0 → IsOk result }
     {
         for cell in cells {
             self.push(cell.clone()?);

@@ -1,15 +1,20 @@
--- What was pushed, with what is to come, is the whole.
-use Rattle.std.proofs.Common.{◌≡◌, All}
-use Rattle.std.specs.Prelude.{filter_map, int_le, ◌&&◌}
-use Rattle.ndarray.specs.Index.{InBox}
-use Rattle.ndarray.specs.base.Builder.{pushed_all}
+-- The cells that were pushed, with those of the rows to come, are those that are kept.
+use Rattle.std.proofs.Common.{◌≡◌, ◌<◌, ◌-◌, ◌++◌, ◌^◌, ℕ, List, Option, All, length}
+use Rattle.std.specs.Prelude.{filter_map, flat_map, int_le, ◌&&◌}
+use Rattle.ndarray.specs.Index.{InBox, row_order}
+use Rattle.ndarray.specs.base.Ranks.{row_from}
+use Rattle.ndarray.specs.declared.base.shape.Order.TheVariants.{RowMajor}
 use Rattle.ndarray.proofs.cells.Diagonals.{kept_at}
-use Rattle.ndarray.proofs.tri.diagonals_of_matrices.Given as goal
+use Rattle.ndarray.proofs.tri.diagonals_by_rows.Given as goal
 
 abbrev pub invariant-loop-index : goal.invariant-loop-index
 invariant-loop-index g l =
-    let f = kept_at (λ d. int_le l.first d && int_le d l.last) g.A.Zero.zero l.array in
+    let axis : ℕ = length l.array.lengths - 1 in
+    let kept : List ℕ → Option g.row.A.Denot = kept_at (λ d. int_le l.first d && int_le d l.last) g.A.Zero.zero l.array in
     record {
-      pushed : pushed_all l.kept (filter_map f l.index-iterator) ≡ pushed_all l.initial.kept (filter_map f l.initial.index-iterator);
-      within : All (InBox l.array.lengths) l.index-iterator;
+      lengths : l.kept.lengths ≡ l.array.lengths;
+      order : l.kept.order ≡ RowMajor;
+      cells : l.kept.cells ++ flat_map (λ is. filter_map kept (row_from is axis l.columns)) l.index-iterator ≡ filter_map kept (row_order l.array.lengths);
+      within : All (λ is. (0 < l.columns) × All (InBox l.array.lengths) (row_from is axis l.columns)) l.index-iterator;
+      fits : l.columns < 2 ^ 63;
     }
