@@ -1,6 +1,6 @@
 //! The iterator over cells.
 
-ghost use Rattle.std.specs.Prelude.{◌≡◌, [], ◌+◌, ◌<◌, ◌≤◌, ◌^◌, length, take, drop, ⊤, IfSome, MatchOption};
+ghost use Rattle.std.specs.Prelude.{◌≡◌, [], ◌+◌, ◌++◌, ◌<◌, ◌≤◌, ◌^◌, length, take, drop, ⊤, IfSome, MatchOption};
 ghost use Rattle.std.specs.Iterator.{YieldsFirstRef, YieldsLastRef, UpTo, item_count};
 ghost use Rattle.std.specs.Iterator.SizeHint.{IsExactHint, IsWithinCount};
 ghost use Rattle.ndarray.specs.Grid.{IsGrid, HasCells};
@@ -80,6 +80,25 @@ impl<'a, A, D: Lengths> ElementsBase<'a, A, D> {
             view: v,
             walk,
         }
+    }
+}
+
+impl<'a, A, D: Lengths> ElementsBase<'a, A, D> {
+    /// Takes the cells still to come that are on one row with the next one.
+    pub(crate) fn take_row(&mut self) -> Option<Strided<'a, A>>
+        ensures { MatchOption result ((self.old ≡ []) × (self.new ≡ [])) (λ row. (0 < length row) × (self.old ≡ row ++ self.new)) }
+    {
+        if self.row.len() > 0 {
+            let row = self.row.again();
+            self.row = self.view.no_cells();
+            return Some(row);
+        }
+        let Some(taken) = next_row(self.view.again(), self.walk.again()) else {
+            return None;
+        };
+        let RowAndRest { row, walk } = taken;
+        self.walk = walk;
+        Some(row)
     }
 }
 

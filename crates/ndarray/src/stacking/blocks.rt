@@ -66,18 +66,18 @@ fn push_blocks<A: Clone, D: Lengths, E: Lengths>(
     Ok(())
 }
 
-/// Pushes clones of cells.
+/// Pushes clones of cells, row by row.
 fn push_clones<A: Clone, D: Lengths, E: Lengths>(
     builder: &mut ArrayBuilder<A, E>,
-    cells: ElementsBase<'_, A, D>,
+    mut cells: ElementsBase<'_, A, D>,
 ) -> Result<(), AllocError>
     requires clones { ClonesAreEqual A.is_clone }
     requires room { length builder.old.cells + length cells ≤ size builder.old.lengths }
     ensures pushed { IfOk result (λ _. builder.new ≡ pushed_all builder.old cells.entry) }
     ensures none { length cells.entry ≡ 0 → IsOk result }
 {
-    for cell in cells {
-        builder.push(cell.clone()?);
+    while let Some(row) = cells.take_row() {
+        builder.push_clones(row)?;
     }
     Ok(())
 }
