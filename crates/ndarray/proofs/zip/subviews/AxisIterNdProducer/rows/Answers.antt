@@ -1,0 +1,10 @@
+use Rattle.std.proofs.Common.{◌≡◌, ◌∙◌, ap, arith, length, refl}
+use Rattle.ndarray.specs.Rows.{some_unless_none}
+use Rattle.ndarray.proofs.runs.OneAxisProducers.{YieldsInTurn-one_axis}
+use Rattle.ndarray.proofs.runs.Rows.{RowsInTurn-one}
+use Rattle.ndarray.proofs.zip.subviews.AxisIterNdProducer.rows.Goals as goal
+
+pub returns-clause-gives : goal.returns-clause-gives
+returns-clause-gives g c =
+    let one = c.bounded_len-len.ensures.value in
+    λ p o form. rw (← form) (RowsInTurn-one _ o (length c.args.ordered) _ c.args.ordered (YieldsInTurn-one_axis _ _ _ _ refl) (c.rows_of_axis.ensures ∙ ap (λ n. some_unless_none n c.args.ordered) one))
