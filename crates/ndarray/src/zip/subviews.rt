@@ -2,10 +2,11 @@
 
 ghost use Rattle.std.specs.Prelude.{◌≡◌, ◌∷◌, [], length, Some, map, filter_map, ⊤};
 ghost use Rattle.std.specs.Iterator.{YieldsFirst, item_count};
+ghost use Rattle.std.specs.Iterator.Adapters.{once_steps};
 ghost use Rattle.std.proofs.Common.{ap};
 ghost use Rattle.ndarray.specs.Grid.{cell, one_axis, IsGrid, HasCells};
 ghost use Rattle.ndarray.specs.Producers.{YieldsInTurn};
-ghost use Rattle.ndarray.specs.Rows.{rows_in};
+ghost use Rattle.ndarray.specs.Rows.{rows_in, RowsInTurn};
 
 use crate::base::array::ArrayView;
 use crate::base::axis::Axis;
@@ -174,27 +175,23 @@ impl<'a, A, D: Lengths> NdProducer for AxisWindows<'a, A, D> {
 
     ghost is_flat = { λ _. ⊤ };
 
-    type Ordered = Self;
+    type Ordered = Once<WindowsIter<'a, A, D>>;
 
-    ghost ordered_form = { λ s _ t. t ≡ s };
+    ghost ordered_form = { λ s o rows. RowsInTurn once_steps (λ is r. YieldsInTurn (YieldsFirst (λ rest. rest)) (λ i x. cell s i ≡ Some x) r is) rows (rows_in o s.lengths) };
 
-    ghost is_one = { λ _. ⊤ };
+    ghost is_one = { λ _. ⊥ };
 
-    fn in_order(self, _order: Order) -> Self {
-        self
+    fn in_order(self, order: Order) -> Once<WindowsIter<'a, A, D>> {
+        let len = self.pieces.raw_dim().size();
+        rows_of_axis(self.run(order), len)
     }
 
-    fn is_one_row(_ordered: &Self) -> bool {
-        true
+    fn one_row(_ordered: Once<WindowsIter<'a, A, D>>) -> Option<WindowsIter<'a, A, D>> {
+        None
     }
 
-    fn one_row(ordered: Self) -> Option<WindowsIter<'a, A, D>> {
-        Some(ordered.pieces.into_iter())
-    }
-
-    fn rows(ordered: Self) -> Once<WindowsIter<'a, A, D>> {
-        let len = ordered.pieces.raw_dim().size();
-        rows_of_axis(ordered.pieces.into_iter(), len)
+    fn rows(ordered: Once<WindowsIter<'a, A, D>>) -> Once<WindowsIter<'a, A, D>> {
+        ordered
     }
 
     fn is_flat_row(_row: &WindowsIter<'a, A, D>) -> bool {
@@ -249,27 +246,23 @@ impl<'a, A, D: Lengths> NdProducer for AxisIter<'a, A, D> {
 
     ghost is_flat = { λ _. ⊤ };
 
-    type Ordered = Self;
+    type Ordered = Once<AxisIter<'a, A, D>>;
 
-    ghost ordered_form = { λ s _ t. t ≡ s };
+    ghost ordered_form = { λ s o rows. RowsInTurn once_steps (λ is r. YieldsInTurn (YieldsFirst (λ rest. rest)) (λ i x. cell (one_axis s) i ≡ Some x) r is) rows (rows_in o (length s ∷ [])) };
 
-    ghost is_one = { λ _. ⊤ };
+    ghost is_one = { λ _. ⊥ };
 
-    fn in_order(self, _order: Order) -> Self {
-        self
+    fn in_order(self, order: Order) -> Once<AxisIter<'a, A, D>> {
+        let len = self.bounded_len();
+        rows_of_axis(self.run(order), len)
     }
 
-    fn is_one_row(_ordered: &Self) -> bool {
-        true
+    fn one_row(_ordered: Once<AxisIter<'a, A, D>>) -> Option<AxisIter<'a, A, D>> {
+        None
     }
 
-    fn one_row(ordered: Self) -> Option<AxisIter<'a, A, D>> {
-        Some(ordered)
-    }
-
-    fn rows(ordered: Self) -> Once<AxisIter<'a, A, D>> {
-        let len = ordered.bounded_len();
-        rows_of_axis(ordered, len)
+    fn rows(ordered: Once<AxisIter<'a, A, D>>) -> Once<AxisIter<'a, A, D>> {
+        ordered
     }
 
     fn is_flat_row(_row: &AxisIter<'a, A, D>) -> bool {

@@ -2,12 +2,13 @@
 
 ghost use Rattle.std.specs.Prelude.{◌≡◌, [], ◌∷◌, length, Some, map, filter_map, IsOk, MatchResult, ⊤};
 ghost use Rattle.std.specs.Iterator.{YieldsFirst, YieldsFirstBy, item_count};
+ghost use Rattle.std.specs.Iterator.Adapters.{once_steps};
 ghost use Rattle.ndarray.specs.Grid.{cell, one_axis, IsGrid, HasCells};
 ghost use Rattle.ndarray.specs.Limits.{IsWithinLimit};
 ghost use Rattle.ndarray.specs.Orders.{cells_in};
 ghost use Rattle.ndarray.specs.Producers.{YieldsInTurn};
 ghost use Rattle.ndarray.specs.RowCells.{row_cells_mut, IsSliceMut};
-ghost use Rattle.ndarray.specs.Rows.{rows_in};
+ghost use Rattle.ndarray.specs.Rows.{rows_in, RowsInTurn};
 
 use crate::base::array::{ArrayBase, ArrayViewMut};
 use crate::base::axis::Axis;
@@ -278,27 +279,23 @@ impl<'a, A, D: Lengths> NdProducer for AxisIterMut<'a, A, D> {
 
     ghost is_flat = { λ _. ⊤ };
 
-    type Ordered = Self;
+    type Ordered = Once<AxisIterMut<'a, A, D>>;
 
-    ghost ordered_form = { λ s _ t. t ≡ s };
+    ghost ordered_form = { λ s o rows. RowsInTurn once_steps (λ is r. YieldsInTurn (YieldsFirst (λ rest. rest)) (λ i x. cell (one_axis s) i ≡ Some x) r is) rows (rows_in o (length s ∷ [])) };
 
-    ghost is_one = { λ _. ⊤ };
+    ghost is_one = { λ _. ⊥ };
 
-    fn in_order(self, _order: Order) -> Self {
-        self
+    fn in_order(self, order: Order) -> Once<AxisIterMut<'a, A, D>> {
+        let len = self.raw_dim().size();
+        rows_of_axis(self.run(order), len)
     }
 
-    fn is_one_row(_ordered: &Self) -> bool {
-        true
+    fn one_row(_ordered: Once<AxisIterMut<'a, A, D>>) -> Option<AxisIterMut<'a, A, D>> {
+        None
     }
 
-    fn one_row(ordered: Self) -> Option<AxisIterMut<'a, A, D>> {
-        Some(ordered)
-    }
-
-    fn rows(ordered: Self) -> Once<AxisIterMut<'a, A, D>> {
-        let len = ordered.raw_dim().size();
-        rows_of_axis(ordered, len)
+    fn rows(ordered: Once<AxisIterMut<'a, A, D>>) -> Once<AxisIterMut<'a, A, D>> {
+        ordered
     }
 
     fn is_flat_row(_row: &AxisIterMut<'a, A, D>) -> bool {
