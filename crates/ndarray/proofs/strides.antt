@@ -12,6 +12,7 @@ pub mod NestedPlaces
 pub mod Nesting
 pub mod OneAxisSlices
 pub mod OtherElements
+pub mod PlacesInOrder
 pub mod Reach
 pub mod Rows
 pub mod SideBySide

@@ -27,8 +27,3 @@ both yields_at other_yields_at i t = yields_at i t.0 × other_yields_at i t.1
 pub record IsPart {X : Type 0} (axis from to : ℕ) (ns : List ℕ) (yields_at : List ℕ → X → Type 0) (ms : List ℕ) (other_yields_at : List ℕ → X → Type 0) : Type 0 where
   pub lengths : ms ≡ slice_set ns axis (to - from)
   pub items : (js : List ℕ) → InBox ms js → (x : X) → other_yields_at js x ↔ yields_at (slice_set js axis (from + slice_index js axis)) x
-
--- a producer that shows nothing that another does not, at the same lengths
-pub record IsRefinedBy {X : Type 0} (ns : List ℕ) (yields_at : List ℕ → X → Type 0) (ms : List ℕ) (other_yields_at : List ℕ → X → Type 0) : Type 0 where
-  pub lengths : ms ≡ ns
-  pub items : (is : List ℕ) (x : X) → other_yields_at is x → yields_at is x

@@ -7,7 +7,6 @@ use Rattle.std.proofs.lemmas.List.{reverse-reverse}
 use Rattle.ndarray.specs.Index.{InBox, size, row_order}
 use Rattle.ndarray.specs.Grid.{Grid, IsGrid, grid, cell}
 use Rattle.ndarray.specs.Orders.{box_in, cells_in, IsListOfCells}
-use Rattle.ndarray.specs.Producers.{IsRefinedBy}
 use Rattle.ndarray.specs.Views.{transpose_of}
 use Rattle.ndarray.specs.declared.base.shape.Order.{Order}
 use Rattle.ndarray.specs.declared.base.shape.Order.TheVariants.{RowMajor, ColumnMajor}
@@ -43,13 +42,6 @@ cells_in-known RowMajor g h wg wh e c = same g h e (sym (row-cells g wg) ∙ (c 
 cells_in-known ColumnMajor g h wg wh e c =
     sym (transpose_of-transpose_of g wg (transpose_of-whole g wg))
     ∙ (ap transpose_of (same (transpose_of g) (transpose_of h) (ap reverse e) (transpose_of-cells g ∙ (c ∙ sym (transpose_of-cells h)))) ∙ transpose_of-transpose_of h wh (transpose_of-whole h wh))
-
--- so one made of its cells in an order shows what it shows
-pub refined-in_order : {A X : Type 0} (value : X → A) (o : Order) (g h : Grid A) → IsGrid g → IsGrid h → h.lengths ≡ g.lengths → cells_in o h ≡ cells_in o g
-    → IsRefinedBy g.lengths (λ i x. cell g i ≡ Some (value x)) h.lengths (λ i x. cell h i ≡ Some (value x))
-refined-in_order value o g h wg wh e c =
-    let k = cells_in-known o h g wh wg e c in
-    record { lengths = e; items = λ is x s. ap (λ v. cell v is) (sym k) ∙ s }
 
 -- the cells in an order are the cells, each index list once
 pub cells_in-list : {A : Type 0} (o : Order) (g : Grid A) (xs : List A) → IsGrid g → xs ≡ cells_in o g → IsListOfCells g xs

@@ -4,8 +4,6 @@ use Rattle.std.specs.Iterator.{YieldsFirstBy}
 use Rattle.std.specs.declared.slice.IterMut.{IterMut}
 use Rattle.std.specs.Slice.Iter.{iter_steps, iter_mut_steps, iter_mut_rest}
 use Rattle.std.proofs.lemmas.List.{nil_from_length}
-use Rattle.std.specs.Iterator.Adapters.{zip_steps, zip_first, zip_second}
-use Rattle.std.specs.declared.iter.Zip.{Zip}
 use Rattle.std.specs.Prelude.{filter_map, slice_set, slice_index}
 use Rattle.ndarray.specs.Index.{InBox}
 use Rattle.ndarray.specs.Grid.{Grid, IsGrid, HasCells, cell}
@@ -31,13 +29,6 @@ module _ {P S T A B : Type 0} (first : P → S) (second : P → T) (next : S →
   YieldsInTurn-pairs {is} z k v w = record {
     from = pairs is z v.from (subst (λ l. YieldsInTurnFrom others other_yields_at (second z) l) (sym k) w.from);
   }
-
--- the same of the standard library's pairs of runs
-pub YieldsInTurn-both : {S T A B : Type 0} (next : S → Option A → S → Type 0) (others : T → Option B → T → Type 0) (yields_at : List ℕ → A → Type 0) (other_yields_at : List ℕ → B → Type 0)
-    {is is' : List (List ℕ)} (s : S) (t : T) (z : Zip S T) → zip_first z ≡ s → zip_second z ≡ t → is ≡ is'
-    → YieldsInTurn next yields_at s is → YieldsInTurn others other_yields_at t is' → YieldsInTurn (zip_steps next others) (both yields_at other_yields_at) z is
-YieldsInTurn-both next others yields_at other_yields_at {is} {is'} s t z e f k v w =
-    YieldsInTurn-pairs zip_first zip_second next others yields_at other_yields_at z k (subst (λ a. YieldsInTurn next yields_at a is) (sym e) v) (subst (λ b. YieldsInTurn others other_yields_at b is') (sym f) w)
 
 module _ {A B : Type 0} (view : A → B) (yields_at : List ℕ → A → Type 0) where
   -- each item that reads as the value beside an index list may be yielded there
@@ -107,18 +98,6 @@ iter_first t (Some x) u st = st
 pub iter_mut_first : {A : Type 0} (t : IterMut A) (r : Option (MutBor A)) (u : IterMut A) → iter_mut_steps t r u → YieldsFirstBy (λ x. x.now) iter_mut_rest t r u
 iter_mut_first t None u st = (nil_from_length (iter_mut_rest t) st.0, nil_from_length (iter_mut_rest u) st.1)
 iter_mut_first t (Some x) u st = st
-
--- the elements of a slice stand beside the index lists of an array whose cells they are
-pub YieldsInTurn-slice : {A : Type 0} (g : Grid A) (o : Order) (s : Iter A) → IsGrid g → s.rest.now ≡ cells_in o g
-    → YieldsInTurn iter_steps (λ i x. cell g i ≡ Some x.now) s (box_in o g.lengths)
-YieldsInTurn-slice {A} g o s whole e =
-    YieldsInTurn-steps iter_steps (YieldsFirstBy (λ x. x.now) (λ t. t.rest.now)) (λ i x. cell g i ≡ Some x.now) (λ t r u st. iter_first t r u st) (YieldsInTurn-cells (λ x. x.now) g (λ t. t.rest.now) o whole e)
-
--- the same of references to write to
-pub YieldsInTurn-slice_mut : {A : Type 0} (g : Grid A) (o : Order) (s : IterMut A) → IsGrid g → iter_mut_rest s ≡ cells_in o g
-    → YieldsInTurn iter_mut_steps (λ i x. cell g i ≡ Some x.now) s (box_in o g.lengths)
-YieldsInTurn-slice_mut {A} g o s whole e =
-    YieldsInTurn-steps iter_mut_steps (YieldsFirstBy (λ x. x.now) iter_mut_rest) (λ i x. cell g i ≡ Some x.now) (λ t r u st. iter_mut_first t r u st) (YieldsInTurn-cells (λ x. x.now) g iter_mut_rest o whole e)
 
 -- a run that counts down gives an item at as many index lists, where any item may stand at any of them
 module _ {S A : Type 0} (next : S → Option A → S → Type 0) (yields_at : List ℕ → A → Type 0) (count : S → ℕ)

@@ -187,16 +187,20 @@ module _ {P S T Q R : Type 0} (first : P → S) (second : P → T) (rows : S →
       → RowsInTurn (steps_of_both first second rows other_rows) (λ is r. is_row is r.0 × is_other is r.1) z iss
   RowsInTurn-pairs {iss} z k v w = record { from = pair-rows iss z v.from (subst (λ l. RowsInTurnFrom other_rows is_other (second z) l) (sym k) w.from) }
 
+-- one row
+pub RowsInTurn-once : {R : Type 0} (is_row : List (List ℕ) → R → Type 0) (is : List (List ℕ)) (t : Once R) (r : R) → is_row is r → once_item t ≡ Some r → RowsInTurn once_steps is_row t (is ∷ [])
+RowsInTurn-once is_row is t r form e = record {
+  from = (
+    (λ u st. let never : None ≡ Some r = st.0 ∙ e in cc),
+    (λ q u st. let same : Some q ≡ Some r = st.0 ∙ e in let here : q ≡ r = cc in (subst (is_row is) (sym here) form, (λ p v sv. let never : None ≡ Some p = sym st.1 ∙ sym sv.0 in cc))),
+  );
+}
+
 -- the one row of a box of one axis
 pub RowsInTurn-one : {R : Type 0} (is_row : List (List ℕ) → R → Type 0) (o : Order) (n : ℕ) (t : Once R) (r : R) → is_row (box_in o (n ∷ [])) r → once_item t ≡ some_unless_none n r
     → RowsInTurn once_steps is_row t (rows_in o (n ∷ []))
 RowsInTurn-one is_row o zero t r form e = record { from = subst (RowsInTurnFrom once_steps is_row t) (sym (rows_in-none o)) (λ q u st. let never : None ≡ Some q = sym e ∙ sym st.0 in cc) }
-RowsInTurn-one {R} is_row o (suc n) t r form e = record {
-  from = subst (RowsInTurnFrom once_steps is_row t) (sym (rows_in-one o n)) (
-    (λ u st. let never : None ≡ Some r = st.0 ∙ e in cc),
-    (λ q u st. let same : Some q ≡ Some r = st.0 ∙ e in let here : q ≡ r = cc in (subst (is_row (box_in o (suc n ∷ []))) (sym here) form, (λ p v sv. let never : None ≡ Some p = sym st.1 ∙ sym sv.0 in cc))),
-  );
-}
+RowsInTurn-one is_row o (suc n) t r form e = subst (RowsInTurn once_steps is_row t) (sym (rows_in-one o n)) (RowsInTurn-once is_row (box_in o (suc n ∷ [])) t r form e)
 
 -- rows that are given as something of each list of index lists
 module _ {R V : Type 0} (view : R → V) (h : List (List ℕ) → V) where

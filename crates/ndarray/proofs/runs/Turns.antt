@@ -2,11 +2,8 @@
 use Rattle.std.proofs.Common.{◌≡◌, ℕ, List, [], ◌∷◌, ◌++◌, Option, Some, None, Result, Ok, Err, refl, sym, subst, ◌∙◌, append-nil, inl, inr, append_assoc}
 use Rattle.std.proofs.lemmas.Fn.{FoldsTo-push}
 use Rattle.std.specs.List.{FoldsTo}
-use Rattle.ndarray.specs.Orders.{box_in}
-use Rattle.ndarray.specs.Producers.{YieldsInTurn, YieldsInTurnFrom, IsRefinedBy}
-use Rattle.ndarray.specs.declared.base.shape.Order.{Order}
+use Rattle.ndarray.specs.Producers.{YieldsInTurn, YieldsInTurnFrom}
 use Rattle.ndarray.specs.Runs.{MayTurnAt, TurnAt, TakesAt, StopsAt, EndsOrStops}
-use Rattle.ndarray.proofs.runs.RunsThrough.{may_via, runs_via}
 
 module _ {S A P : Type 0} (next : S → Option A → S → Type 0) (yields_at : List ℕ → A → Type 0) (turn : P → A → P → Type 0) where
   -- turns at the items so far led from p to q, and t gives those of the other index lists
@@ -81,17 +78,3 @@ ran-Ok turn stops p q is r =
       | inl h ↦ (let e : q ≡ last = cc in subst (λ l. FoldsTo turn p l q) h.0 (subst (λ s. FoldsTo turn p done s) (sym e) g))
       | inr h ↦ (let (i, rest, e, s) = h in let (x, same, stopped) = s in cc)
     ]
-
--- a producer that shows no more than another may be walked where the other may, and its turns are turns over the other
-module _ {P A : Type 0} (goes : P → A → P → Type 0) (o : Order) {ns ms : List ℕ} {yields_at shown : List ℕ → A → Type 0} (less : IsRefinedBy ns yields_at ms shown) (p : P) where
-  pub may-less : (can_take : P → A → Type 0) → MayTurnAt (TurnAt yields_at goes) (TakesAt yields_at can_take) p (box_in o ns) → MayTurnAt (TurnAt shown goes) (TakesAt shown can_take) p (box_in o ms)
-  may-less can_take m =
-      may_via (TurnAt shown goes) (TurnAt yields_at goes) (λ q. q) (λ q i r t. (t.0, less.items i t.0 t.1, t.2)) (TakesAt shown can_take) (TakesAt yields_at can_take) (λ q i h x s. h x (less.items i x s)) (box_in o ms) p
-      (subst (λ l. MayTurnAt (TurnAt yields_at goes) (TakesAt yields_at can_take) p (box_in o l)) (sym less.lengths) m)
-
-  pub ran-less : {E : Type 0} (stops : P → A → E → Type 0) (r : Result P E) → EndsOrStops (TurnAt shown goes) (StopsAt shown stops) p (box_in o ms) r → EndsOrStops (TurnAt yields_at goes) (StopsAt yields_at stops) p (box_in o ns) r
-  ran-less {E} stops r w =
-      subst (λ l. EndsOrStops (TurnAt yields_at goes) (StopsAt yields_at stops) p (box_in o l) r) less.lengths
-      (runs_via (TurnAt shown goes) (TurnAt yields_at goes) (λ q. q) (λ q i s t. (t.0, less.items i t.0 t.1, t.2))
-      (λ q i. (e : E) × (r ≡ Err e) × StopsAt shown stops q i e) (λ q i. (e : E) × (r ≡ Err e) × StopsAt yields_at stops q i e) (λ q. r ≡ Ok q) (λ q. r ≡ Ok q)
-      (λ q i v. let (e, same, (x, stands, stop)) = v in (e, same, (x, less.items i x stands, stop))) (λ q h. h) (box_in o ms) p w)

@@ -7,13 +7,18 @@ use Rattle.ndarray.specs.base.Strided.{places_from, HaveElements}
 use Rattle.ndarray.proofs.strides.Rows.{length-places_from}
 
 -- the k-th of places that follow one another
-pub place-one : (n p k d : ℕ) → p + n < 2 ^ 64 → k < n → get_or (places_from p 1 n) k d ≡ p + k
+pub place-one : (n p k d : ℕ) → p + k < 2 ^ 64 → k < n → get_or (places_from p 1 n) k d ≡ p + k
 place-one zero p k d fits lt = absurd (omega arith)
 place-one (suc n) p zero d fits lt = omega arith
 place-one (suc n) p (suc k) d fits lt =
     let next : (p + 1) % 2 ^ 64 ≡ p + 1 = omega arith in
     let ih = place-one n (p + 1) k d (omega arith) (omega arith) in
     ap (λ q. get_or (places_from q 1 n) k d) next ∙ (ih ∙ (let e : p + 1 + k ≡ p + suc k = omega arith in e))
+
+-- places that follow one another do so from the first of them on
+pub from-first : (n p s q : ℕ) → places_from p s n ≡ places_from q 1 n → places_from p 1 n ≡ places_from p s n
+from-first zero p s q e = refl
+from-first (suc n) p s q e = let here : p ≡ q = cc in ap (λ r. places_from r 1 (suc n)) here ∙ sym e
 
 module _ {A : Type 0} (at : ℕ → Option A) where
   there : (n p k : ℕ) → p + n < 2 ^ 64 → HaveElements at (places_from p 1 n) → k < n → IsTrue (is_some (at (p + k)))
@@ -48,7 +53,7 @@ module _ {A : Type 0} (at : ℕ → Option A) where
 
   -- where each place from p on has an element
   pub places-have : (n p : ℕ) → p + n < 2 ^ 64 → ((k : ℕ) → k < n → IsTrue (is_some (at (p + k)))) → HaveElements at (places_from p 1 n)
-  places-have n p fits h = λ k d lt. let l = length-places_from p 1 n in subst (λ q. IsTrue (is_some (at q))) (sym (place-one n p k d fits (omega arith))) (h k (omega arith))
+  places-have n p fits h = λ k d lt. let l = length-places_from p 1 n in subst (λ q. IsTrue (is_some (at q))) (sym (place-one n p k d (omega arith) (omega arith))) (h k (omega arith))
 
 -- a slice has an element at each place below its length
 pub slice-has : {A : Type 0} (xs : List A) (k : ℕ) → k < length xs → IsTrue (is_some (slice_get xs k))

@@ -62,6 +62,11 @@ dot-reverse (c ∷ bs) (j ∷ is) l =
     let p = dot-push (reverse bs) (reverse is) c j (let a = length-reverse bs in let b = length-reverse is in omega arith) in
     rw (reverse-cons c bs, reverse-cons j is) (omega arith)
 
+-- an index list lies where its reverse lies with the axes reversed
+pub place-reversed : (start : ℕ) (bs is : List ℕ) → length bs ≡ length is → place start (reverse bs) (reverse is) ≡ place start bs is
+unfolding place
+place-reversed start bs is l = ap (λ x. (start + x) % 2 ^ 64) (dot-reverse bs is l)
+
 pub rearranges-reversed : {A one : Type 0} (two : Type 0) (at : ℕ → Option A) (ns : List ℕ) (start : ℕ) (bs : List ℕ) → Reaches one at ns start bs → Rearranges two ns start bs (reverse ns) start (reverse bs) reverse
 unfolding place
 rearranges-reversed two at ns start bs h = record {

@@ -7,6 +7,8 @@ ghost use Rattle.ndarray.specs.Broadcast.{BroadcastsTo};
 ghost use Rattle.ndarray.specs.base.Places.{place};
 ghost use Rattle.ndarray.specs.base.Strides.{AreStridesOf, StretchedBy};
 ghost use Rattle.ndarray.specs.base.Ranks.{rank};
+ghost use Rattle.ndarray.specs.base.Strided.{LieSideBySide};
+ghost use Rattle.ndarray.specs.declared.base.shape.Order.TheVariants.{RowMajor};
 
 use crate::base::axis::Axis;
 use crate::base::dimension::{Dimension, Lengths, RemoveAxis};
@@ -101,13 +103,13 @@ impl<D: Lengths> Layout<D> {
         requires limit { IsWithinLimit (D.numbers self.now.dim) }
     {
         let ndim = self.dim.ndim();
-        if self.is_contiguous() {
+        if self.is_contiguous_in(Order::RowMajor) {
             return if self.has_long_axes() { 2 } else { 0 };
         }
         if ndim < 2 {
             return 0;
         }
-        if self.reversed_axes().is_contiguous() {
+        if self.is_contiguous_in(Order::ColumnMajor) {
             return -2;
         }
         if self.dim.axis(0) > 1 && self.strides.axis(0) == 1 {
@@ -119,10 +121,23 @@ impl<D: Lengths> Layout<D> {
         0
     }
 
-    /// Whether the cells lie side by side in row order, as no cells do.
+    /// Whether the cells are known to lie side by side in an order, as no cells do.
+    pub(crate) fn is_contiguous_in(&self, order: Order) -> bool
+        requires as_many { length (D.numbers self.now.strides) ≡ length (D.numbers self.now.dim) }
+        requires limit { IsWithinLimit (D.numbers self.now.dim) }
+        ensures { IsTrue result → LieSideBySide order (D.numbers self.now.dim) self.now.start (D.numbers self.now.strides) }
+    {
+        match order {
+            Order::RowMajor => self.is_contiguous(),
+            Order::ColumnMajor => self.reversed_axes().is_contiguous(),
+        }
+    }
+
+    /// The same in row order.
     fn is_contiguous(&self) -> bool
         requires as_many { length (D.numbers self.now.strides) ≡ length (D.numbers self.now.dim) }
         requires limit { IsWithinLimit (D.numbers self.now.dim) }
+        ensures { IsTrue result → LieSideBySide RowMajor (D.numbers self.now.dim) self.now.start (D.numbers self.now.strides) }
     {
         if self.dim.size() == 0 {
             return true;

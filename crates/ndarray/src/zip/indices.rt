@@ -1,10 +1,10 @@
 //! The index lists of a box as a producer of their patterns.
 
-ghost use Rattle.std.specs.Prelude.{◌≡◌, Some, filter_map, ⊤};
+ghost use Rattle.std.specs.Prelude.{◌≡◌, Some, map, filter_map, ⊤};
 ghost use Rattle.std.specs.Iterator.{YieldsFirst, YieldsFirstBy, item_count};
 ghost use Rattle.std.proofs.Common.{ap};
-ghost use Rattle.ndarray.specs.Grid.{cell, HasCells};
-ghost use Rattle.ndarray.specs.declared.base.shape.Order.TheVariants.{RowMajor};
+ghost use Rattle.ndarray.specs.Grid.{cell, IsGrid, HasCells};
+ghost use Rattle.ndarray.specs.Rows.{rows_in};
 
 use crate::base::axis::Axis;
 use crate::base::dimension::{Dimension, Lengths};
@@ -75,20 +75,6 @@ impl<D: Dimension> NdProducer for Indices<D> {
         Patterns { lists: self, walk }
     }
 
-    type Flat = Self;
-
-    type FlatRun = Patterns<D>;
-
-    ghost flat_form = { λ s o flat. (flat ≡ s) × (o ≡ RowMajor) };
-
-    fn from_flat(flat: Self) -> Self {
-        flat
-    }
-
-    fn run_flat(flat: Self) -> Patterns<D> {
-        flat.run(Order::RowMajor)
-    }
-
     type Row = IndexRow<D>;
 
     type Rows = PatternRows<D>;
@@ -101,9 +87,23 @@ impl<D: Dimension> NdProducer for Indices<D> {
 
     ghost is_flat = { λ _. ⊤ };
 
-    fn into_rows(self, order: Order) -> PatternRows<D> {
+    type Ordered = PatternRows<D>;
+
+    ghost ordered_form = { λ s o rows. (rows ≡ map (filter_map (cell s)) (rows_in o s.lengths)) × IsGrid s };
+
+    ghost is_one = { λ _. ⊥ };
+
+    fn in_order(self, order: Order) -> PatternRows<D> {
         let rows = BoxRows::new(self.raw_dim(), order);
         PatternRows { lists: self, rows }
+    }
+
+    fn one_row(_ordered: PatternRows<D>) -> Option<IndexRow<D>> {
+        None
+    }
+
+    fn rows(ordered: PatternRows<D>) -> PatternRows<D> {
+        ordered
     }
 
     fn is_flat_row(_row: &IndexRow<D>) -> bool {

@@ -1,11 +1,11 @@
 //! The places of an array's cells as a producer: what updates an array walks them beside the items that it takes.
 
-ghost use Rattle.std.specs.Prelude.{◌≡◌, ◌<◌, length, map, ⊤};
+ghost use Rattle.std.specs.Prelude.{◌≡◌, ◌<◌, ℕ, length, map};
 ghost use Rattle.std.specs.Iterator.{YieldsFirst, item_count};
 ghost use Rattle.ndarray.specs.Limits.{IsWithinLimit};
 ghost use Rattle.ndarray.specs.base.Places.{place};
+ghost use Rattle.ndarray.specs.base.Strided.{LieSideBySide, places_from};
 ghost use Rattle.ndarray.specs.places.ElementPlaces.{places_along};
-ghost use Rattle.ndarray.specs.declared.base.shape.Order.TheVariants.{RowMajor};
 
 use crate::base::axis::Axis;
 use crate::base::dimension::Lengths;
@@ -65,20 +65,6 @@ impl<D: Lengths> NdProducer for LayoutPlaces<D> {
         StridedPlaces::new(self.layout, order)
     }
 
-    type Flat = Self;
-
-    type FlatRun = StridedPlaces<D>;
-
-    ghost flat_form = { λ s o flat. (flat ≡ s) × (o ≡ RowMajor) };
-
-    fn from_flat(flat: Self) -> Self {
-        flat
-    }
-
-    fn run_flat(flat: Self) -> StridedPlaces<D> {
-        flat.run(Order::RowMajor)
-    }
-
     type Row = PlaceRow;
 
     type Rows = PlaceRows<D>;
@@ -89,23 +75,53 @@ impl<D: Lengths> NdProducer for LayoutPlaces<D> {
 
     ghost row_form = { λ s is r. r ≡ places_along s.layout.start (D.numbers s.layout.strides) is };
 
-    ghost is_flat = { λ _. ⊤ };
+    ghost is_flat = { λ r. (p : ℕ) × (r ≡ places_from p 1 (length r)) };
 
-    fn into_rows(self, order: Order) -> PlaceRows<D> {
-        let rows = BoxRows::new(self.raw_dim(), order);
+    type Ordered = (Self, Order);
+
+    ghost ordered_form = { λ s o r. (r.0 ≡ s) × (r.1 ≡ o) };
+
+    ghost is_one = { λ r. LieSideBySide r.1 (D.numbers r.0.layout.dim) r.0.layout.start (D.numbers r.0.layout.strides) };
+
+    fn in_order(self, order: Order) -> (Self, Order) {
+        (self, order)
+    }
+
+    fn is_one_row(ordered: &(Self, Order)) -> bool {
+        ordered.0.layout.is_contiguous_in(ordered.1)
+    }
+
+    fn one_row(ordered: (Self, Order)) -> Option<PlaceRow> {
+        let layout = ordered.0.layout;
+        Some(PlaceRow {
+            place: layout.start,
+            stride: 1,
+            left: layout.dim.size(),
+        })
+    }
+
+    fn rows(ordered: (Self, Order)) -> PlaceRows<D> {
+        let (places, order) = ordered;
+        let rows = BoxRows::new(places.raw_dim(), order);
         PlaceRows {
-            layout: self.layout,
+            layout: places.layout,
             rows,
         }
     }
 
-    fn is_flat_row(_row: &PlaceRow) -> bool {
-        true
+    #[inline(always)]
+    fn is_flat_row(row: &PlaceRow) -> bool {
+        row.stride == 1
     }
 
+    /// Its stride is a constant, so that a loop over it takes vectors of elements.
     #[inline(always)]
     fn flat_row(row: PlaceRow) -> PlaceRow {
-        row
+        PlaceRow {
+            place: row.place,
+            stride: 1,
+            left: row.left,
+        }
     }
 
     #[inline(always)]

@@ -8,7 +8,6 @@ use crate::base::axis::Axis;
 use crate::order::Order;
 use crate::zip::producer::{KeepsLengths, NdProducer, Shaped};
 use std::alloc::AllocError;
-use std::iter::Zip as Zipped;
 
 /// Two producers of the same lengths, as one of pairs of their items.
 #[derive(Drop)]
@@ -62,42 +61,8 @@ impl<P: NdProducer, Q: NdProducer> NdProducer for Pair<P, Q> {
         }
     }
 
-    type Flat = (P::Flat, Q::Flat);
-
-    type FlatRun = Zipped<P::FlatRun, Q::FlatRun>;
-
-    ghost flat_form = { λ s o flat. P.flat_form s.first o flat.0 × Q.flat_form s.second o flat.1 };
-
     fn tendency(&self) -> i32 {
         self.first.tendency().saturating_add(self.second.tendency())
-    }
-
-    #[inline(always)]
-    fn try_flat(self, order: Order) -> Result<(P::Flat, Q::Flat), Self> {
-        let Pair { first, second } = self;
-        match first.try_flat(order) {
-            Err(first) => Err(Pair { first, second }),
-            Ok(first) => match second.try_flat(order) {
-                Ok(second) => Ok((first, second)),
-                Err(second) => {
-                    let first = P::from_flat(first);
-                    Err(Pair { first, second })
-                }
-            },
-        }
-    }
-
-    #[inline(always)]
-    fn from_flat(flat: (P::Flat, Q::Flat)) -> Self {
-        let (first, second) = flat;
-        let first = P::from_flat(first);
-        let second = Q::from_flat(second);
-        Pair { first, second }
-    }
-
-    fn run_flat(flat: (P::Flat, Q::Flat)) -> Zipped<P::FlatRun, Q::FlatRun> {
-        let (first, second) = flat;
-        P::run_flat(first).zip(Q::run_flat(second))
     }
 
     type Row = (P::Row, Q::Row);
@@ -112,11 +77,40 @@ impl<P: NdProducer, Q: NdProducer> NdProducer for Pair<P, Q> {
 
     ghost is_flat = { λ r. P.is_flat r.0 × Q.is_flat r.1 };
 
-    fn into_rows(self, order: Order) -> PairRun<P::Rows, Q::Rows> {
+    type Ordered = (P::Ordered, Q::Ordered);
+
+    ghost ordered_form = { λ s o r. P.ordered_form s.first o r.0 × Q.ordered_form s.second o r.1 };
+
+    ghost is_one = { λ r. P.is_one r.0 × Q.is_one r.1 };
+
+    #[inline(always)]
+    fn in_order(self, order: Order) -> (P::Ordered, Q::Ordered) {
         let Pair { first, second } = self;
+        (first.in_order(order), second.in_order(order))
+    }
+
+    #[inline(always)]
+    fn is_one_row(ordered: &(P::Ordered, Q::Ordered)) -> bool {
+        P::is_one_row(&ordered.0) && Q::is_one_row(&ordered.1)
+    }
+
+    #[inline(always)]
+    fn one_row(ordered: (P::Ordered, Q::Ordered)) -> Option<(P::Row, Q::Row)> {
+        let (first, second) = ordered;
+        let Some(first) = P::one_row(first) else {
+            return None;
+        };
+        let Some(second) = Q::one_row(second) else {
+            return None;
+        };
+        Some((first, second))
+    }
+
+    fn rows(ordered: (P::Ordered, Q::Ordered)) -> PairRun<P::Rows, Q::Rows> {
+        let (first, second) = ordered;
         PairRun {
-            first: first.into_rows(order),
-            second: second.into_rows(order),
+            first: P::rows(first),
+            second: Q::rows(second),
         }
     }
 

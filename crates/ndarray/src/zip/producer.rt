@@ -1,12 +1,12 @@
 //! What can be walked together: producers, and what becomes one.
 
-ghost use Rattle.std.specs.Prelude.{◌≡◌, ℕ, ◌<◌, ◌≤◌, List, length, slice_index, IfOk, IfErr, IsTrue};
+ghost use Rattle.std.specs.Prelude.{◌≡◌, ℕ, ◌<◌, ◌≤◌, List, length, slice_index, MatchOption, IsTrue};
 ghost use Rattle.std.specs.Iterator.{IsFinite};
 ghost use Rattle.std.specs.Iterator.Adapters.{once_item};
 ghost use Rattle.ndarray.specs.Broadcast.{BroadcastsTo};
 ghost use Rattle.ndarray.specs.Limits.{IsWithinLimit};
 ghost use Rattle.ndarray.specs.Orders.{box_in};
-ghost use Rattle.ndarray.specs.Producers.{YieldsInTurn, IsPart, IsRefinedBy};
+ghost use Rattle.ndarray.specs.Producers.{YieldsInTurn, IsPart};
 ghost use Rattle.ndarray.specs.Rows.{rows_in, RowsInTurn, some_unless_none};
 ghost use Rattle.ndarray.specs.declared.base.shape.Order.{Order};
 
@@ -57,41 +57,11 @@ pub trait NdProducer: Shaped + Drop + Sized {
         ensures finite { IsFinite (Self.Run.remaining result) }
         ensures gives { YieldsInTurn Self.Run.next_gives (yields_at self) result (box_in order (Self.lengths self)) };
 
-    /// The same producer where its items lie side by side in an order, so that a run over them takes no
-    /// strides.
-    type Flat: Drop;
-
-    /// The items of such a producer, one after another.
-    type FlatRun: Iterator<Item = Self::Item>;
-
-    // Whether a flat form is that of a producer, with its items side by side in the order.
-    ghost flat_form: { Self → Order → Self.Flat → Type 0 };
-
     /// Which order is fast: row order where it is positive, column order where it is negative. No contract
     /// speaks of it. A producer without a fast order has 0.
     fn tendency(&self) -> i32 {
         0
     }
-
-    /// The flat form, where the items lie side by side in the order; else the producer. A producer that is never flat
-    /// is given back.
-    fn try_flat(self, order: Order) -> Result<Self::Flat, Self>
-        ensures flat { IfOk result (λ flat. flat_form self order flat) }
-        ensures back { IfErr result (λ p. IsRefinedBy (Self.lengths self) (yields_at self) (Self.lengths p) (yields_at p)) }
-    {
-        Err(self)
-    }
-
-    /// The producer of a flat form.
-    fn from_flat(flat: Self::Flat) -> Self
-        requires { (p : Self) × ((o : Order) × flat_form p o flat) }
-        ensures { (p : Self) (o : Order) → flat_form p o flat → IsRefinedBy (Self.lengths p) (yields_at p) (Self.lengths result) (yields_at result) };
-
-    /// An item at each index list, in the order in which they lie.
-    fn run_flat(flat: Self::Flat) -> Self::FlatRun
-        ensures can { Self.FlatRun.can_next result }
-        ensures finite { IsFinite (Self.FlatRun.remaining result) }
-        ensures gives { (p : Self) (o : Order) → flat_form p o flat → YieldsInTurn Self.FlatRun.next_gives (yields_at p) result (box_in o (Self.lengths p)) };
 
     /// A row: the items at some index lists, one after another along the axis that varies fastest in an order.
     type Row: Drop;
@@ -111,11 +81,36 @@ pub trait NdProducer: Shaped + Drop + Sized {
     // Whether the items of a row lie side by side.
     ghost is_flat: { Self.Row → Type 0 };
 
-    /// The rows, in the order.
-    fn into_rows(self, order: Order) -> Self::Rows
+    /// The producer to be walked in an order, with what is known of how its items lie.
+    type Ordered: Drop;
+
+    // Whether it is that of a producer and an order.
+    ghost ordered_form: { Self → Order → Self.Ordered → Type 0 };
+
+    // Whether all items are one row.
+    ghost is_one: { Self.Ordered → Type 0 };
+
+    /// The producer, to be walked in the order.
+    fn in_order(self, order: Order) -> Self::Ordered
+        ensures { ordered_form self order result };
+
+    /// Whether all items are known to be one row.
+    fn is_one_row(_ordered: &Self::Ordered) -> bool
+        ensures { IsTrue result → is_one _ordered.now }
+    {
+        false
+    }
+
+    /// All items as one row, where they are known to be one.
+    fn one_row(ordered: Self::Ordered) -> Option<Self::Row>
+        ensures { is_one ordered → MatchOption result ⊥ (λ row. (p : Self) (o : Order) → ordered_form p o ordered → row_form p (box_in o (Self.lengths p)) row) };
+
+    /// The rows, one after another.
+    fn rows(ordered: Self::Ordered) -> Self::Rows
+        requires { (p : Self) × ((o : Order) × ordered_form p o ordered) }
         ensures can { Self.Rows.can_next result }
         ensures finite { IsFinite (Self.Rows.remaining result) }
-        ensures gives { RowsInTurn Self.Rows.next_gives (row_form self) result (rows_in order (Self.lengths self)) };
+        ensures gives { (p : Self) (o : Order) → ordered_form p o ordered → RowsInTurn Self.Rows.next_gives (row_form p) result (rows_in o (Self.lengths p)) };
 
     /// Whether the items of a row are known to lie side by side.
     fn is_flat_row(row: &Self::Row) -> bool
@@ -199,8 +194,8 @@ pub(crate) fn preferred_order<P: NdProducer>(p: &P) -> Order {
     Order::by_tendency(p.tendency())
 }
 
-/// The one row of a producer of one axis. Where that is empty there is none.
-pub(crate) fn one_row<R: Drop>(row: R, len: usize) -> Once<R>
+/// The rows of a producer of one axis: the one, or none where the axis is empty.
+pub(crate) fn rows_of_axis<R: Drop>(row: R, len: usize) -> Once<R>
     ensures { once_item result ≡ some_unless_none len row }
 {
     if len == 0 {

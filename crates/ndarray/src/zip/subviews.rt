@@ -1,11 +1,12 @@
 //! Subviews as producers.
 
-ghost use Rattle.std.specs.Prelude.{◌≡◌, ◌∷◌, [], length, Some, filter_map, ⊤};
+ghost use Rattle.std.specs.Prelude.{◌≡◌, ◌∷◌, [], length, Some, map, filter_map, ⊤};
 ghost use Rattle.std.specs.Iterator.{YieldsFirst, item_count};
+ghost use Rattle.std.specs.Iterator.Adapters.{once_steps};
 ghost use Rattle.std.proofs.Common.{ap};
-ghost use Rattle.ndarray.specs.Grid.{cell, one_axis, HasCells};
+ghost use Rattle.ndarray.specs.Grid.{cell, one_axis, IsGrid, HasCells};
 ghost use Rattle.ndarray.specs.Producers.{YieldsInTurn};
-ghost use Rattle.ndarray.specs.declared.base.shape.Order.TheVariants.{RowMajor};
+ghost use Rattle.ndarray.specs.Rows.{rows_in, RowsInTurn};
 
 use crate::base::array::ArrayView;
 use crate::base::axis::Axis;
@@ -16,7 +17,7 @@ use crate::subviews::axis::AxisIter;
 use crate::subviews::piece_rows::PieceRow;
 use crate::subviews::pieces::{Pieces, PiecesIter};
 use crate::subviews::windows::{AxisWindows, WindowsIter};
-use crate::zip::producer::{KeepsLengths, NdProducer, Shaped, one_row};
+use crate::zip::producer::{KeepsLengths, NdProducer, Shaped, rows_of_axis};
 use std::iter::Once;
 use std::marker::Model;
 
@@ -45,20 +46,6 @@ impl<'a, A, P: Lengths, D: Lengths> NdProducer for Pieces<'a, A, P, D> {
         self.run(order)
     }
 
-    type Flat = Self;
-
-    type FlatRun = PiecesIter<'a, A, P, D>;
-
-    ghost flat_form = { λ s o flat. (flat ≡ s) × (o ≡ RowMajor) };
-
-    fn from_flat(flat: Self) -> Self {
-        flat
-    }
-
-    fn run_flat(flat: Self) -> PiecesIter<'a, A, P, D> {
-        flat.run(Order::RowMajor)
-    }
-
     type Row = PieceRow<'a, A, D>;
 
     type Rows = PieceRows<'a, A, P, D>;
@@ -71,9 +58,23 @@ impl<'a, A, P: Lengths, D: Lengths> NdProducer for Pieces<'a, A, P, D> {
 
     ghost is_flat = { λ _. ⊤ };
 
-    fn into_rows(self, order: Order) -> PieceRows<'a, A, P, D> {
+    type Ordered = PieceRows<'a, A, P, D>;
+
+    ghost ordered_form = { λ s o rows. (rows ≡ map (filter_map (cell s)) (rows_in o s.lengths)) × IsGrid s };
+
+    ghost is_one = { λ _. ⊥ };
+
+    fn in_order(self, order: Order) -> PieceRows<'a, A, P, D> {
         let rows = BoxRows::new(self.raw_dim(), order);
         PieceRows { pieces: self, rows }
+    }
+
+    fn one_row(_ordered: PieceRows<'a, A, P, D>) -> Option<PieceRow<'a, A, D>> {
+        None
+    }
+
+    fn rows(ordered: PieceRows<'a, A, P, D>) -> PieceRows<'a, A, P, D> {
+        ordered
     }
 
     fn is_flat_row(_row: &PieceRow<'a, A, D>) -> bool {
@@ -162,20 +163,6 @@ impl<'a, A, D: Lengths> NdProducer for AxisWindows<'a, A, D> {
         self.pieces.into_iter()
     }
 
-    type Flat = Self;
-
-    type FlatRun = WindowsIter<'a, A, D>;
-
-    ghost flat_form = { λ s o flat. (flat ≡ s) × (o ≡ RowMajor) };
-
-    fn from_flat(flat: Self) -> Self {
-        flat
-    }
-
-    fn run_flat(flat: Self) -> WindowsIter<'a, A, D> {
-        flat.run(Order::RowMajor)
-    }
-
     type Row = WindowsIter<'a, A, D>;
 
     type Rows = Once<WindowsIter<'a, A, D>>;
@@ -188,9 +175,23 @@ impl<'a, A, D: Lengths> NdProducer for AxisWindows<'a, A, D> {
 
     ghost is_flat = { λ _. ⊤ };
 
-    fn into_rows(self, order: Order) -> Once<WindowsIter<'a, A, D>> {
+    type Ordered = Once<WindowsIter<'a, A, D>>;
+
+    ghost ordered_form = { λ s o rows. RowsInTurn once_steps (λ is r. YieldsInTurn (YieldsFirst (λ rest. rest)) (λ i x. cell s i ≡ Some x) r is) rows (rows_in o s.lengths) };
+
+    ghost is_one = { λ _. ⊥ };
+
+    fn in_order(self, order: Order) -> Once<WindowsIter<'a, A, D>> {
         let len = self.pieces.raw_dim().size();
-        one_row(self.run(order), len)
+        rows_of_axis(self.run(order), len)
+    }
+
+    fn one_row(_ordered: Once<WindowsIter<'a, A, D>>) -> Option<WindowsIter<'a, A, D>> {
+        None
+    }
+
+    fn rows(ordered: Once<WindowsIter<'a, A, D>>) -> Once<WindowsIter<'a, A, D>> {
+        ordered
     }
 
     fn is_flat_row(_row: &WindowsIter<'a, A, D>) -> bool {
@@ -233,20 +234,6 @@ impl<'a, A, D: Lengths> NdProducer for AxisIter<'a, A, D> {
         self
     }
 
-    type Flat = Self;
-
-    type FlatRun = AxisIter<'a, A, D>;
-
-    ghost flat_form = { λ s o flat. (flat ≡ s) × (o ≡ RowMajor) };
-
-    fn from_flat(flat: Self) -> Self {
-        flat
-    }
-
-    fn run_flat(flat: Self) -> AxisIter<'a, A, D> {
-        flat.run(Order::RowMajor)
-    }
-
     type Row = AxisIter<'a, A, D>;
 
     type Rows = Once<AxisIter<'a, A, D>>;
@@ -259,9 +246,23 @@ impl<'a, A, D: Lengths> NdProducer for AxisIter<'a, A, D> {
 
     ghost is_flat = { λ _. ⊤ };
 
-    fn into_rows(self, order: Order) -> Once<AxisIter<'a, A, D>> {
-        let len = self.raw_dim().size();
-        one_row(self.run(order), len)
+    type Ordered = Once<AxisIter<'a, A, D>>;
+
+    ghost ordered_form = { λ s o rows. RowsInTurn once_steps (λ is r. YieldsInTurn (YieldsFirst (λ rest. rest)) (λ i x. cell (one_axis s) i ≡ Some x) r is) rows (rows_in o (length s ∷ [])) };
+
+    ghost is_one = { λ _. ⊥ };
+
+    fn in_order(self, order: Order) -> Once<AxisIter<'a, A, D>> {
+        let len = self.bounded_len();
+        rows_of_axis(self.run(order), len)
+    }
+
+    fn one_row(_ordered: Once<AxisIter<'a, A, D>>) -> Option<AxisIter<'a, A, D>> {
+        None
+    }
+
+    fn rows(ordered: Once<AxisIter<'a, A, D>>) -> Once<AxisIter<'a, A, D>> {
+        ordered
     }
 
     fn is_flat_row(_row: &AxisIter<'a, A, D>) -> bool {

@@ -58,24 +58,6 @@ impl<D: Lengths> NdProducer for Units<D> {
         repeat_n((), self.raw_dim().size())
     }
 
-    type Flat = Self;
-
-    type FlatRun = RepeatN<()>;
-
-    ghost flat_form = { λ s o flat. flat ≡ s };
-
-    fn try_flat(self, _order: Order) -> Result<Self, Self> {
-        Ok(self)
-    }
-
-    fn from_flat(flat: Self) -> Self {
-        flat
-    }
-
-    fn run_flat(flat: Self) -> RepeatN<()> {
-        repeat_n((), flat.raw_dim().size())
-    }
-
     type Row = RepeatN<()>;
 
     type Rows = UnitRows<D>;
@@ -88,9 +70,28 @@ impl<D: Lengths> NdProducer for Units<D> {
 
     ghost is_flat = { λ _. ⊤ };
 
-    fn into_rows(self, order: Order) -> UnitRows<D> {
+    type Ordered = (Self, Order);
+
+    ghost ordered_form = { λ s o r. (r.0 ≡ s) × (r.1 ≡ o) };
+
+    ghost is_one = { λ _. ⊤ };
+
+    fn in_order(self, order: Order) -> (Self, Order) {
+        (self, order)
+    }
+
+    fn is_one_row(_ordered: &(Self, Order)) -> bool {
+        true
+    }
+
+    fn one_row(ordered: (Self, Order)) -> Option<RepeatN<()>> {
+        Some(repeat_n((), ordered.0.raw_dim().size()))
+    }
+
+    fn rows(ordered: (Self, Order)) -> UnitRows<D> {
+        let (units, order) = ordered;
         UnitRows {
-            rows: BoxRows::new(self.raw_dim(), order),
+            rows: BoxRows::new(units.raw_dim(), order),
         }
     }
 

@@ -1,6 +1,6 @@
 //! Views and references to arrays as producers of their cells.
 
-ghost use Rattle.std.specs.Prelude.{◌≡◌, Some, filter_map};
+ghost use Rattle.std.specs.Prelude.{◌≡◌, Some, filter_map, IfSome, IsSome};
 ghost use Rattle.std.specs.Iterator.{YieldsFirstBy, item_count};
 ghost use Rattle.std.proofs.Common.{ap};
 ghost use Rattle.ndarray.specs.Grid.{cell, IsGrid, HasCells};
@@ -45,30 +45,8 @@ impl<'a, A, D: Lengths> NdProducer for ArrayView<'a, A, D> {
         ElementsBase::in_order(self, order)
     }
 
-    type Flat = (Self, &'a [A]);
-
-    type FlatRun = std::slice::Iter<'a, A>;
-
-    ghost flat_form = { λ v o flat. (flat.0 ≡ v) × (flat.1.now ≡ cells_in o v) × IsGrid v };
-
     fn tendency(&self) -> i32 {
         self.layout_tendency()
-    }
-
-    #[inline(always)]
-    fn try_flat(self, order: Order) -> Result<(Self, &'a [A]), Self> {
-        match self.slice_in(order) {
-            Some(slice) => Ok((self, slice)),
-            None => Err(self),
-        }
-    }
-
-    fn from_flat(flat: (Self, &'a [A])) -> Self {
-        flat.0
-    }
-
-    fn run_flat(flat: (Self, &'a [A])) -> std::slice::Iter<'a, A> {
-        flat.1.iter()
     }
 
     type Row = ViewRow<'a, A>;
@@ -83,9 +61,41 @@ impl<'a, A, D: Lengths> NdProducer for ArrayView<'a, A, D> {
 
     ghost is_flat = { IsSlice };
 
-    fn into_rows(self, order: Order) -> ViewRows<'a, A, D> {
-        let rows = BoxRows::new(self.raw_dim(), order);
-        ViewRows { view: self, rows }
+    type Ordered = OrderedView<'a, A, D>;
+
+    ghost ordered_form = { λ v o s. (s.view ≡ v) × (s.order ≡ o) × IsGrid v × IfSome s.slice (λ cells. cells.now ≡ cells_in o v) };
+
+    ghost is_one = { λ s. IsSome s.slice };
+
+    #[inline(always)]
+    fn in_order(self, order: Order) -> OrderedView<'a, A, D> {
+        let slice = self.slice_in(order);
+        OrderedView {
+            view: self,
+            order,
+            slice,
+        }
+    }
+
+    #[inline(always)]
+    fn is_one_row(ordered: &OrderedView<'a, A, D>) -> bool {
+        ordered.slice.is_some()
+    }
+
+    #[inline(always)]
+    fn one_row(ordered: OrderedView<'a, A, D>) -> Option<ViewRow<'a, A>> {
+        let Some(slice) = ordered.slice else {
+            return None;
+        };
+        Some(ViewRow::Slice(slice))
+    }
+
+    fn rows(ordered: OrderedView<'a, A, D>) -> ViewRows<'a, A, D> {
+        let rows = BoxRows::new(ordered.view.raw_dim(), ordered.order);
+        ViewRows {
+            view: ordered.view,
+            rows,
+        }
     }
 
     #[inline(always)]
@@ -111,6 +121,14 @@ impl<'a, A, D: Lengths> NdProducer for ArrayView<'a, A, D> {
             ViewRow::Stepped(cells) => cells,
         }
     }
+}
+
+/// A view to be walked in an order, and its cells as a slice where they lie side by side in it.
+#[derive(Drop)]
+pub struct OrderedView<'a, A, D: Lengths> {
+    view: ArrayView<'a, A, D>,
+    order: Order,
+    slice: Option<&'a [A]>,
 }
 
 /// A row of cells of a view.

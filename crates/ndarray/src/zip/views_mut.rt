@@ -1,13 +1,14 @@
 //! Views to write in, and what is yielded to write in, as producers.
 
-ghost use Rattle.std.specs.Prelude.{◌≡◌, [], ◌∷◌, length, Some, filter_map, ⊤};
+ghost use Rattle.std.specs.Prelude.{◌≡◌, [], ◌∷◌, length, Some, map, filter_map, IsOk, MatchResult, ⊤};
 ghost use Rattle.std.specs.Iterator.{YieldsFirst, YieldsFirstBy, item_count};
+ghost use Rattle.std.specs.Iterator.Adapters.{once_steps};
 ghost use Rattle.ndarray.specs.Grid.{cell, one_axis, IsGrid, HasCells};
 ghost use Rattle.ndarray.specs.Limits.{IsWithinLimit};
 ghost use Rattle.ndarray.specs.Orders.{cells_in};
 ghost use Rattle.ndarray.specs.Producers.{YieldsInTurn};
 ghost use Rattle.ndarray.specs.RowCells.{row_cells_mut, IsSliceMut};
-ghost use Rattle.ndarray.specs.declared.base.shape.Order.TheVariants.{RowMajor};
+ghost use Rattle.ndarray.specs.Rows.{rows_in, RowsInTurn};
 
 use crate::base::array::{ArrayBase, ArrayViewMut};
 use crate::base::axis::Axis;
@@ -23,7 +24,7 @@ use crate::places::strided_cells::StridedMut;
 use crate::subviews::axis_mut::AxisIterMut;
 use crate::subviews::piece_rows::{PieceRowMut, PieceRowsMut};
 use crate::subviews::pieces_mut::{EqualPiecesIterMut, PiecesMut};
-use crate::zip::producer::{IntoNdProducer, NdProducer, Shaped, one_row};
+use crate::zip::producer::{IntoNdProducer, NdProducer, Shaped, rows_of_axis};
 use std::iter::Once;
 use std::marker::{Model, PhantomData};
 use std::slice::IterMut;
@@ -49,31 +50,8 @@ impl<'a, A: 'a, D: Lengths> NdProducer for ArrayViewMut<'a, A, D> {
         ElementsBaseMut::in_order(self, order)
     }
 
-    type Flat = FlatCells<'a, A, D>;
-
-    type FlatRun = IterMut<'a, A>;
-
-    ghost flat_form = { λ v o flat. (flat.order ≡ o) × (flat.slice.now ≡ cells_in o v) × (D.numbers flat.dim ≡ v.lengths) × IsGrid v × IsWithinLimit v.lengths };
-
     fn tendency(&self) -> i32 {
         self.layout_tendency()
-    }
-
-    fn try_flat(self, order: Order) -> Result<FlatCells<'a, A, D>, Self> {
-        let dim = self.raw_dim();
-        match self.try_into_slice_in(order) {
-            Ok(slice) => Ok(FlatCells { slice, dim, order }),
-            Err(view) => Err(view),
-        }
-    }
-
-    fn from_flat(flat: FlatCells<'a, A, D>) -> Self {
-        let FlatCells { slice, dim, order } = flat;
-        ArrayBase::from_slice(slice, dim, order)
-    }
-
-    fn run_flat(flat: FlatCells<'a, A, D>) -> IterMut<'a, A> {
-        flat.slice.iter_mut()
     }
 
     type Row = ViewRowMut<'a, A>;
@@ -88,14 +66,50 @@ impl<'a, A: 'a, D: Lengths> NdProducer for ArrayViewMut<'a, A, D> {
 
     ghost is_flat = { IsSliceMut };
 
-    fn into_rows(self, order: Order) -> ViewRowsMut<'a, A, D> {
-        let rows = BoxRows::new(self.raw_dim(), order);
-        let ArrayBase { storage, layout } = self;
-        ViewRowsMut {
-            region: storage,
-            layout,
-            rows,
-            lifetime: PhantomData,
+    type Ordered = OrderedViewMut<'a, A, D>;
+
+    ghost ordered_form = { λ v o s. (s.order ≡ o) × IsGrid v × MatchResult s.cells (λ flat. (flat.slice.now ≡ cells_in o v) × (D.numbers flat.dim ≡ v.lengths) × IsWithinLimit v.lengths) (λ w. w ≡ v) };
+
+    ghost is_one = { λ s. IsOk s.cells };
+
+    fn in_order(self, order: Order) -> OrderedViewMut<'a, A, D> {
+        let dim = self.raw_dim();
+        let cells = match self.try_into_slice_in(order) {
+            Ok(slice) => Ok(FlatCells { slice, dim }),
+            Err(view) => Err(view),
+        };
+        OrderedViewMut { cells, order }
+    }
+
+    #[inline(always)]
+    fn is_one_row(ordered: &OrderedViewMut<'a, A, D>) -> bool {
+        ordered.cells.is_ok()
+    }
+
+    #[inline(always)]
+    fn one_row(ordered: OrderedViewMut<'a, A, D>) -> Option<ViewRowMut<'a, A>> {
+        let OrderedViewMut {
+            cells,
+            order: _order,
+        } = ordered;
+        match cells {
+            Ok(flat) => {
+                let FlatCells { slice, dim: _dim } = flat;
+                let row = ViewRowMut::Slice(slice);
+                Some(row)
+            }
+            Err(_view) => None,
+        }
+    }
+
+    fn rows(ordered: OrderedViewMut<'a, A, D>) -> ViewRowsMut<'a, A, D> {
+        let OrderedViewMut { cells, order } = ordered;
+        match cells {
+            Ok(flat) => {
+                let FlatCells { slice, dim } = flat;
+                ArrayBase::from_slice(slice, dim, order).into_rows(order)
+            }
+            Err(view) => view.into_rows(order),
         }
     }
 
@@ -180,12 +194,35 @@ impl<'a, A, D: Lengths> Iterator for ViewRowsMut<'a, A, D> {
     }
 }
 
-/// The cells of a view to write in, side by side in an order.
+/// A view to write in, to be walked in an order: its cells as a slice where they lie side by side in it.
+#[derive(Drop)]
+pub struct OrderedViewMut<'a, A, D: Lengths> {
+    cells: Result<FlatCells<'a, A, D>, ArrayViewMut<'a, A, D>>,
+    order: Order,
+}
+
+/// The cells of a view to write in, side by side in an order, and its lengths.
 #[derive(Drop)]
 pub struct FlatCells<'a, A, D> {
     slice: &'a mut [A],
     dim: D,
-    order: Order,
+}
+
+impl<'a, A, D: Lengths> ArrayViewMut<'a, A, D> {
+    /// The cells row by row, in an order.
+    fn into_rows(self, order: Order) -> ViewRowsMut<'a, A, D>
+        ensures rows { result ≡ map (filter_map (cell self.entry)) (rows_in order self.entry.lengths) }
+        ensures whole { IsGrid self.entry }
+    {
+        let rows = BoxRows::new(self.raw_dim(), order);
+        let ArrayBase { storage, layout } = self;
+        ViewRowsMut {
+            region: storage,
+            layout,
+            rows,
+            lifetime: PhantomData,
+        }
+    }
 }
 
 impl<'b, S: DataMut, D: Lengths> IntoNdProducer for &'b mut ArrayBase<S, D>
@@ -230,20 +267,6 @@ impl<'a, A, D: Lengths> NdProducer for AxisIterMut<'a, A, D> {
         self
     }
 
-    type Flat = Self;
-
-    type FlatRun = AxisIterMut<'a, A, D>;
-
-    ghost flat_form = { λ s o flat. (flat ≡ s) × (o ≡ RowMajor) };
-
-    fn from_flat(flat: Self) -> Self {
-        flat
-    }
-
-    fn run_flat(flat: Self) -> AxisIterMut<'a, A, D> {
-        flat.run(Order::RowMajor)
-    }
-
     type Row = AxisIterMut<'a, A, D>;
 
     type Rows = Once<AxisIterMut<'a, A, D>>;
@@ -256,9 +279,23 @@ impl<'a, A, D: Lengths> NdProducer for AxisIterMut<'a, A, D> {
 
     ghost is_flat = { λ _. ⊤ };
 
-    fn into_rows(self, order: Order) -> Once<AxisIterMut<'a, A, D>> {
+    type Ordered = Once<AxisIterMut<'a, A, D>>;
+
+    ghost ordered_form = { λ s o rows. RowsInTurn once_steps (λ is r. YieldsInTurn (YieldsFirst (λ rest. rest)) (λ i x. cell (one_axis s) i ≡ Some x) r is) rows (rows_in o (length s ∷ [])) };
+
+    ghost is_one = { λ _. ⊥ };
+
+    fn in_order(self, order: Order) -> Once<AxisIterMut<'a, A, D>> {
         let len = self.raw_dim().size();
-        one_row(self.run(order), len)
+        rows_of_axis(self.run(order), len)
+    }
+
+    fn one_row(_ordered: Once<AxisIterMut<'a, A, D>>) -> Option<AxisIterMut<'a, A, D>> {
+        None
+    }
+
+    fn rows(ordered: Once<AxisIterMut<'a, A, D>>) -> Once<AxisIterMut<'a, A, D>> {
+        ordered
     }
 
     fn is_flat_row(_row: &AxisIterMut<'a, A, D>) -> bool {
@@ -301,20 +338,6 @@ impl<'a, A, P: Lengths, D: Lengths> NdProducer for PiecesMut<'a, A, P, D> {
         self.run(order)
     }
 
-    type Flat = Self;
-
-    type FlatRun = EqualPiecesIterMut<'a, A, P, D>;
-
-    ghost flat_form = { λ s o flat. (flat ≡ s) × (o ≡ RowMajor) };
-
-    fn from_flat(flat: Self) -> Self {
-        flat
-    }
-
-    fn run_flat(flat: Self) -> EqualPiecesIterMut<'a, A, P, D> {
-        flat.run(Order::RowMajor)
-    }
-
     type Row = PieceRowMut<'a, A, D>;
 
     type Rows = PieceRowsMut<'a, A, P, D>;
@@ -327,8 +350,22 @@ impl<'a, A, P: Lengths, D: Lengths> NdProducer for PiecesMut<'a, A, P, D> {
 
     ghost is_flat = { λ _. ⊤ };
 
-    fn into_rows(self, order: Order) -> PieceRowsMut<'a, A, P, D> {
+    type Ordered = PieceRowsMut<'a, A, P, D>;
+
+    ghost ordered_form = { λ s o rows. (rows ≡ map (filter_map (cell s)) (rows_in o s.lengths)) × IsGrid s };
+
+    ghost is_one = { λ _. ⊥ };
+
+    fn in_order(self, order: Order) -> PieceRowsMut<'a, A, P, D> {
         self.into_rows(order)
+    }
+
+    fn one_row(_ordered: PieceRowsMut<'a, A, P, D>) -> Option<PieceRowMut<'a, A, D>> {
+        None
+    }
+
+    fn rows(ordered: PieceRowsMut<'a, A, P, D>) -> PieceRowsMut<'a, A, P, D> {
+        ordered
     }
 
     fn is_flat_row(_row: &PieceRowMut<'a, A, D>) -> bool {

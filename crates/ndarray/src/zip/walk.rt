@@ -1,13 +1,15 @@
-//! The one walk over all items of a producer: at once where they lie side by side, else row by row.
+//! The one walk over all items of a producer, row by row. Where they lie evenly, all are one row.
 
 ghost use Rattle.std.specs.Prelude.{List, ℕ, MatchResult};
 ghost use Rattle.std.specs.Iterator.{IsFinite};
 ghost use Rattle.ndarray.specs.Orders.{box_in};
 ghost use Rattle.ndarray.specs.Producers.{YieldsInTurn};
+ghost use Rattle.ndarray.specs.Rows.{RowsInTurn, joined};
 ghost use Rattle.ndarray.specs.Runs.{MayTurnAt, TurnAt, TakesAt, StopsAt, EndsOrStops};
 
 use crate::order::Order;
 use crate::zip::producer::NdProducer;
+use std::iter::once;
 
 /// What takes items one after another, up to one at which it stops.
 pub(crate) trait Turn<X>: Sized {
@@ -38,19 +40,28 @@ pub(crate) fn take_items<P: NdProducer, T: Turn<P::Item>>(
     requires can { MayTurnAt (TurnAt (P.yields_at p) T.goes) (TakesAt (P.yields_at p) T.can_take) turn (box_in order (P.lengths p)) }
     ensures ran { EndsOrStops (TurnAt (P.yields_at p) T.goes) (StopsAt (P.yields_at p) T.stops) turn (box_in order (P.lengths p)) result }
 {
-    match p.try_flat(order) {
-        Ok(flat) => take_run::<P, _, _>(P::run_flat(flat), turn),
-        Err(p) => take_rows(p, order, turn),
+    let ordered = p.in_order(order);
+    if P::is_one_row(&ordered) {
+        let Some(row) = P::one_row(ordered) else {
+            unreachable!()
+        };
+        take_rows::<P, _, _>(once(row), turn)
+    } else {
+        take_rows::<P, _, _>(P::rows(ordered), turn)
     }
 }
 
-/// The same row by row.
-fn take_rows<P: NdProducer, T: Turn<P::Item>>(p: P, order: Order, turn: T) -> Result<T, T::Stop>
-    requires can { MayTurnAt (TurnAt (P.yields_at p) T.goes) (TakesAt (P.yields_at p) T.can_take) turn (box_in order (P.lengths p)) }
-    ensures ran { EndsOrStops (TurnAt (P.yields_at p) T.goes) (StopsAt (P.yields_at p) T.stops) turn (box_in order (P.lengths p)) result }
+/// Has the items of rows taken, one row after another.
+fn take_rows<P: NdProducer, R: Iterator<Item = P::Row>, T: Turn<P::Item>>(
+    mut rows: R,
+    turn: T,
+) -> Result<T, T::Stop>
+    requires can_next { R.can_next rows }
+    requires finite { IsFinite (R.remaining rows) }
+    requires can { (p : P) × ((iss : List (List (List ℕ))) × (RowsInTurn R.next_gives (P.row_form p) rows iss × MayTurnAt (TurnAt (P.yields_at p) T.goes) (TakesAt (P.yields_at p) T.can_take) turn (joined iss))) }
+    ensures ran { (p : P) (iss : List (List (List ℕ))) → RowsInTurn R.next_gives (P.row_form p) rows iss → EndsOrStops (TurnAt (P.yields_at p) T.goes) (StopsAt (P.yields_at p) T.stops) turn (joined iss) result }
 {
     let mut turn = turn;
-    let mut rows = p.into_rows(order);
     while let Some(row) = rows.next() {
         if P::is_flat_row(&row) {
             match take_run::<P, _, _>(P::flat_row(row), turn) {

@@ -1,14 +1,38 @@
-use Rattle.ndarray.proofs.runs.Turns.{may-less, ran-less}
+use Rattle.std.proofs.Common.{append-nil, refl, sym, subst}
+use Rattle.ndarray.specs.Orders.{box_in}
+use Rattle.ndarray.specs.Rows.{rows_in}
+use Rattle.ndarray.specs.Runs.{MayTurnAt, TurnAt, TakesAt, StopsAt, EndsOrStops}
+use Rattle.ndarray.proofs.boxes.Rows.{rows-joined}
+use Rattle.ndarray.proofs.runs.Rows.{RowsInTurn-once}
 use Rattle.ndarray.proofs.zip.walk.take_items.Goals as goal
 
-pub take_run-requires-clause-can : goal.take_run-requires-clause-can
-take_run-requires-clause-can g c = (c.args.p, (_, (c.run_flat.ensures.gives _ _ c.in-Ok.ensures.flat, c.requires.can)))
+pub take_rows-requires-clause-can : goal.take_rows-requires-clause-can
+take_rows-requires-clause-can g c =
+    let p = c.args.p in
+    let is = box_in c.args.order (g.P.Shaped.lengths p) in
+    let form = c.in-Some.ensures (c.if-is_one_row.ensures refl) p c.args.order c.in_order-ordered.ensures in
+    (p, (_, (RowsInTurn-once (g.P.NdProducer.row_form p) is c.once.result c.in-Some.row form c.once.ensures.item, subst (MayTurnAt (TurnAt (g.P.NdProducer.yields_at p) g.T.Turn.goes) (TakesAt (g.P.NdProducer.yields_at p) g.T.Turn.can_take) c.args.turn) (sym (append-nil is)) c.requires.can)))
 
-pub returns-in-Ok : goal.returns-in-Ok
-returns-in-Ok g c = record { ran = c.take_run.ensures.ran c.args.p _ (c.run_flat.ensures.gives _ _ c.in-Ok.ensures.flat) }
+pub take_rows-requires-else-is_one_row-clause-can : goal.take_rows-requires-else-is_one_row-clause-can
+take_rows-requires-else-is_one_row-clause-can g c =
+    let p = c.args.p in
+    let joined = rows-joined c.args.order (g.P.Shaped.lengths p) in
+    (p, (_, (c.rows.ensures.gives p c.args.order c.in_order-ordered.ensures, subst (MayTurnAt (TurnAt (g.P.NdProducer.yields_at p) g.T.Turn.goes) (TakesAt (g.P.NdProducer.yields_at p) g.T.Turn.can_take) c.args.turn) (sym joined) c.requires.can)))
 
-pub take_rows-requires : goal.take_rows-requires
-take_rows-requires g c = record { can = may-less g.T.Turn.goes c.args.order c.in-Err.ensures.back c.args.turn g.T.Turn.can_take c.requires.can }
+pub returns-in-Some : goal.returns-in-Some
+returns-in-Some g c =
+    let p = c.args.p in
+    let is = box_in c.args.order (g.P.Shaped.lengths p) in
+    let form = c.in-Some.ensures (c.if-is_one_row.ensures refl) p c.args.order c.in_order-ordered.ensures in
+    record {
+      ran = subst (λ l. EndsOrStops (TurnAt (g.P.NdProducer.yields_at p) g.T.Turn.goes) (StopsAt (g.P.NdProducer.yields_at p) g.T.Turn.stops) c.args.turn l c.take_rows.result) (append-nil is)
+          (c.take_rows.ensures.ran p _ (RowsInTurn-once (g.P.NdProducer.row_form p) is c.once.result c.in-Some.row form c.once.ensures.item));
+    }
 
-pub returns-in-Err : goal.returns-in-Err
-returns-in-Err g c = record { ran = ran-less g.T.Turn.goes c.args.order c.in-Err.ensures.back c.args.turn g.T.Turn.stops _ c.take_rows.ensures.ran }
+pub returns-else-is_one_row : goal.returns-else-is_one_row
+returns-else-is_one_row g c =
+    let p = c.args.p in
+    record {
+      ran = subst (λ l. EndsOrStops (TurnAt (g.P.NdProducer.yields_at p) g.T.Turn.goes) (StopsAt (g.P.NdProducer.yields_at p) g.T.Turn.stops) c.args.turn l c.take_rows-else-is_one_row.result) (rows-joined c.args.order (g.P.Shaped.lengths p))
+          (c.take_rows-else-is_one_row.ensures.ran p (rows_in c.args.order (g.P.Shaped.lengths p)) (c.rows.ensures.gives p c.args.order c.in_order-ordered.ensures));
+    }

@@ -1,4 +1,5 @@
-use Rattle.ndarray.specs.Orders.{box_in}
+use Rattle.std.proofs.Common.{List, ℕ}
+use Rattle.ndarray.specs.Rows.{RowsInTurn, joined}
 use Rattle.ndarray.proofs.runs.Rows.{RowsReached}
 use Rattle.ndarray.proofs.zip.walk.take_rows.Given as goal
 
@@ -6,5 +7,5 @@ abbrev pub invariant-loop-row : goal.invariant-loop-row
 invariant-loop-row g l =
     (goal.iterator-loop-row g).can_next l.rows
     × (goal.iterator-loop-row g).is_finite l.rows
-    × RowsReached (goal.iterator-loop-row g).next_gives (g.P.NdProducer.row_form l.fn.p) (g.P.NdProducer.yields_at l.fn.p) g.T.Turn.goes
-    (box_in l.fn.order (g.P.Shaped.lengths l.fn.p)) l.rows l.fn.turn l.turn
+    × ((p : g.row.P.Denot) (iss : List (List (List ℕ))) → RowsInTurn (goal.iterator-loop-row g).next_gives (g.P.NdProducer.row_form p) l.fn.rows iss
+    → RowsReached (goal.iterator-loop-row g).next_gives (g.P.NdProducer.row_form p) (g.P.NdProducer.yields_at p) g.T.Turn.goes (joined iss) l.rows l.fn.turn l.turn)
