@@ -26,6 +26,7 @@ pub mod Limits
 pub mod Matrices
 pub mod MatrixLaws
 pub mod Orders
+pub mod PartialFolds
 pub mod Producers
 pub mod Products
 pub mod RowCells

@@ -24,7 +24,7 @@ dot-swap bs is i j l hi hj =
     let e : dot (set bs1 j (get_or bs i 0)) (set is1 j (get_or is i 0)) ≡ dot bs is = omega arith in
     ap (λ x. dot x (swap is i j)) (sym (swap_is bs i j 0 (omega arith) (omega arith))) ∙ (ap (λ x. dot (set bs1 j (get_or bs i 0)) x) (sym (swap_is is i j 0 hi hj)) ∙ e)
 
-InBox-swap : (ns is : List ℕ) (i j : ℕ) → i < length ns → j < length ns → InBox ns is → InBox (swap ns i j) (swap is i j)
+pub InBox-swap : (ns is : List ℕ) (i j : ℕ) → i < length ns → j < length ns → InBox ns is → InBox (swap ns i j) (swap is i j)
 InBox-swap ns is i j hi hj b =
     let l = InBox-length ns is b in
     let once = InBox-set_both ns is i (get_or ns j 0) (get_or is j 0) b (InBox-get ns is j b hj) in

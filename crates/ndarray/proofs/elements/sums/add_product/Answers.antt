@@ -1,6 +1,6 @@
 -- The product is that of the values, and so is the sum.
 use Rattle.std.proofs.Common.{◌∙◌, ap, subst, sym}
-use Rattle.ndarray.proofs.linalg.inner.add_product.Goals as goal
+use Rattle.ndarray.proofs.elements.sums.add_product.Goals as goal
 
 pub add-requires : goal.add-requires
 add-requires g c =
