@@ -33,6 +33,7 @@ pub mod RowCells
 pub mod Rows
 pub mod Runs
 pub mod Scans
+pub mod SignedSums
 pub mod Slices
 pub mod Subviews
 pub mod Sums

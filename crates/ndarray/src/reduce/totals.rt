@@ -13,8 +13,8 @@ use crate::base::dimension::{Dimension, Ix1, Lengths};
 use crate::base::storage::Data;
 use crate::base::strided::Strided;
 use crate::elements::{ProductElem, SumElem};
+use crate::iter::runs::CellRuns;
 use crate::order::Order;
-use crate::order::rows::BoxRows;
 use crate::unrolled::unrolled_fold;
 use crate::zip::calls::ItemCall;
 use crate::zip::collecting::collect_items;
@@ -104,11 +104,12 @@ pub(crate) fn total<T: TotalOperation<A>, A: Copy, D: Lengths>(array: &ArrayView
     requires { IsSummableBy T.operation T.InRange T.meaning array.now.cells }
     ensures { T.meaning result ≡ total_by T.operation T.meaning array.now.cells }
 {
-    let view = array.view().in_memory_order();
-    match view.to_slice() {
-        Some(cells) => total_of::<T, A>(cells),
-        None => total_by_rows::<T, A, D>(&view),
+    let mut total = T::of_none();
+    let mut runs = CellRuns::of(array.view());
+    while let Some(run) = runs.next() {
+        total = T::of_two(total, total_of_run::<T, A>(run));
     }
+    total
 }
 
 /// The total of the elements of a slice.
@@ -128,22 +129,8 @@ fn total_of<T: TotalOperation<A>, A: Copy>(cells: &[A]) -> A
     )
 }
 
-/// The total of all cells, row by row.
-fn total_by_rows<T: TotalOperation<A>, A: Copy, D: Lengths>(array: &ArrayView<'_, A, D>) -> A
-    requires { IsSummableBy T.operation T.InRange T.meaning array.now.cells }
-    ensures { T.meaning result ≡ total_by T.operation T.meaning array.now.cells }
-{
-    let mut total = T::of_none();
-    let mut rows = BoxRows::new(array.raw_dim(), Order::RowMajor);
-    while let Some(row) = rows.next() {
-        let cells = array.cells_along(&row.first, row.axis, row.count);
-        total = T::of_two(total, total_of_row::<T, A>(cells));
-    }
-    total
-}
-
-/// The total of the cells of a row.
-fn total_of_row<T: TotalOperation<A>, A: Copy>(cells: Strided<'_, A>) -> A
+/// The total of the cells of a run.
+fn total_of_run<T: TotalOperation<A>, A: Copy>(cells: Strided<'_, A>) -> A
     requires { IsSummableBy T.operation T.InRange T.meaning cells }
     ensures { T.meaning result ≡ total_by T.operation T.meaning cells.entry }
 {

@@ -1,6 +1,6 @@
 use Rattle.std.proofs.Common.{length, map}
 use Rattle.ndarray.proofs.sums.RunningSum.{RunningSum}
-use Rattle.ndarray.proofs.reduce.totals.total_of_row.Given as goal
+use Rattle.ndarray.proofs.reduce.totals.total_of_run.Given as goal
 
 abbrev pub invariant-loop-x : goal.invariant-loop-x
 invariant-loop-x g l =

@@ -1,7 +1,7 @@
 use Rattle.std.proofs.Common.{◌∙◌, ap, map, refl, sym}
 use Rattle.ndarray.proofs.sums.RunningSum.{RunningSum-end, RunningSum-in_range, RunningSum-start, RunningSum-step}
 use Rattle.ndarray.proofs.sums.Selections.{IsSummableBy-map, total_by-map}
-use Rattle.ndarray.proofs.reduce.totals.total_of_row.Goals as goal
+use Rattle.ndarray.proofs.reduce.totals.total_of_run.Goals as goal
 
 pub loop-x-init : goal.loop-x-init
 loop-x-init g c =
