@@ -6,6 +6,7 @@ pub mod convolution
 pub mod joining
 pub mod lists
 pub mod moving
+pub mod parts
 pub mod pieces
 pub mod regions
 pub mod runs

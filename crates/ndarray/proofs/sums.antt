@@ -5,6 +5,7 @@ pub mod IntegerSelections
 pub mod MagnitudeSums
 pub mod NonzeroProducts
 pub mod Rearrangements
+pub mod RunningRuns
 pub mod RunningSum
 pub mod Selections
 pub mod SignedSums

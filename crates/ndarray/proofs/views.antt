@@ -5,5 +5,6 @@ pub mod Cuts
 pub mod Images
 pub mod Items
 pub mod OwnLengths
+pub mod SameCells
 pub mod Slices
 pub mod Swaps

@@ -26,12 +26,14 @@ pub mod Limits
 pub mod Matrices
 pub mod MatrixLaws
 pub mod Orders
+pub mod PartialFolds
 pub mod Producers
 pub mod Products
 pub mod RowCells
 pub mod Rows
 pub mod Runs
 pub mod Scans
+pub mod SignedSums
 pub mod Slices
 pub mod Subviews
 pub mod Sums

@@ -1,7 +1,7 @@
 -- The two orders of a box by their names.
-use Rattle.std.specs.Prelude.{◌≡◌, ℕ, List, Some, map, filter_map, IsPermutation}
+use Rattle.std.specs.Prelude.{◌≡◌, ℕ, List, Some, length, map, filter_map, IsPermutation}
 use Rattle.ndarray.specs.Index.{row_order, column_order, IsRowOrder, IsColumnOrder}
-use Rattle.ndarray.specs.Grid.{Grid, cell}
+use Rattle.ndarray.specs.Grid.{Grid, IsGrid, cell}
 use Rattle.ndarray.specs.declared.base.shape.Order.{Order}
 use Rattle.ndarray.specs.declared.base.shape.Order.TheVariants.{RowMajor, ColumnMajor}
 
@@ -28,3 +28,9 @@ pub record IsListOfCells {A : Type 0} (g : Grid A) (xs : List A) : Type 0 where
   pub indices : List (List ℕ)
   pub once : IsPermutation (row_order g.lengths) indices
   pub cells : map (cell g) indices ≡ map Some xs
+
+-- h has the cells of g, in some order, and as many axes
+pub record HasSameCells {A : Type 0} (g h : Grid A) : Type 0 where
+  pub cells : IsPermutation g.cells h.cells
+  pub axes : length h.lengths ≡ length g.lengths
+  pub whole : IsGrid h

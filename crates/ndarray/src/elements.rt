@@ -5,6 +5,7 @@ ghost use Rattle.ndarray.specs.Algebra.{CommutativeMonoid};
 
 mod integers;
 mod ranges;
+pub(crate) mod sums;
 mod whole_values;
 
 pub use crate::elements::ranges::IntegerElem;

@@ -42,6 +42,7 @@ pub mod reduce;
 pub mod stacking;
 pub mod subviews;
 mod tri;
+pub mod unrolled;
 pub mod zip;
 
 pub use crate::base::array::{

@@ -17,7 +17,7 @@ use crate::base::axis::Axis;
 use crate::base::dimension::{Dimension, Lengths};
 use crate::base::storage::Data;
 use crate::elements::{ProductElem, SumElem};
-pub use crate::reduce::range_tests::dot_fits;
+pub use crate::reduce::range_tests::{checked_dot, dot_fits};
 use crate::reduce::totals::{Product, Sum, total, totals_along};
 use std::alloc::{AllocError, Global};
 

@@ -1,6 +1,7 @@
 -- What a test's answer says of its condition.
-use Rattle.std.proofs.Common.{true, false, rules, ◌↔◌}
-use Rattle.std.specs.Prelude.{IsTrue}
+use Rattle.std.proofs.Common.{true, false, rules, ◌↔◌, Option, None, Some}
+use Rattle.std.specs.Option.{is_some}
+use Rattle.std.specs.Prelude.{IsTrue, MatchOption}
 
 pub says_no : (P : Type 0) → (P → ⊥) → IsTrue false ↔ P
 says_no P h = (λ b. absurd (search rules), λ p. absurd (h p))
@@ -10,3 +11,8 @@ says_yes P p = (λ _. p, λ _. search rules)
 
 pub from_yes : (P : Type 0) → IsTrue true ↔ P → P
 from_yes P h = h.0 (search rules)
+
+-- what returns a value or none decides, too
+pub says_some : {S : Type 0} (P : Type 0) (Q : S → Type 0) → ((s : S) → Q s → P) → (r : Option S) → MatchOption r (P → ⊥) Q → IsTrue (is_some r) ↔ P
+says_some P Q holds None h = says_no P h
+says_some P Q holds (Some s) h = says_yes P (holds s h)

@@ -35,7 +35,7 @@ module _ {X : Type 0} where
       ]
 
   module _ (R S : X → X → Type 0) (r : (x : X) → R x x → ⊥) (s : (x : X) → S x x → ⊥) where
-    rearranged : (xs ys : List X) → AllPairs R xs → AllPairs S ys → ((z : X) → Contains xs z → Contains ys z) → ((z : X) → Contains ys z → Contains xs z) → IsPermutation xs ys
+    pub rearranged : (xs ys : List X) → AllPairs R xs → AllPairs S ys → ((z : X) → Contains xs z → Contains ys z) → ((z : X) → Contains ys z → Contains xs z) → IsPermutation xs ys
     rearranged [] [] up vp f g = IsPermutation-refl []
     rearranged [] (y ∷ ys) up vp f g = absurd (omega (arith, (g y (Contains-first y ys)).1))
     rearranged (x ∷ xs) ys up vp f g =

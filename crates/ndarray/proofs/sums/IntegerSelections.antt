@@ -1,10 +1,10 @@
 -- The sums of all selections of a list of whole numbers.
-use Rattle.std.proofs.Common.{◌≡◌, ℕ, suc, Bool, true, false, cond, List, [], ◌∷◌, refl, ap, subst, arith, ◌↔◌}
+use Rattle.std.proofs.Common.{◌≡◌, ℕ, suc, Bool, true, false, cond, List, [], ◌∷◌, map, refl, ap, subst, arith, ◌↔◌}
 use Rattle.std.specs.Prelude.{ℤ, pos, negsuc, ◌+ℤ◌, ◌≤ℤ◌, IsTrue}
 use Rattle.std.proofs.lemmas.Int.{ints}
-use Rattle.ndarray.specs.Sums.{total, select, IsSummable}
+use Rattle.ndarray.specs.Sums.{total, select, IsSummable, IsSummableBy}
 use Rattle.ndarray.specs.Integers.{int_sums, positive_sum, negative_sum}
-use Rattle.ndarray.proofs.sums.Selections.{at_front}
+use Rattle.ndarray.proofs.sums.Selections.{at_front, IsSummableBy-map}
 
 -- ---- the sums of all selections
 
@@ -44,3 +44,10 @@ module _ (fits : ℤ → Type 0) (between : (x y z : ℤ) → fits x → fits z 
   tells_summable zs b h =
       let e = IsSummable-exactly zs in
       ((λ t. e.1 (h.0 t)), (λ s. h.1 (e.0 s)))
+
+  -- and the same of the numbers of elements
+  pub tells_summable_by : {A : Type 0} (value : A → ℤ) (xs : List A) (b : Bool) → IsTrue b ↔ (fits (positive_sum (map value xs)) × fits (negative_sum (map value xs))) → IsTrue b ↔ IsSummableBy int_sums fits value xs
+  tells_summable_by value xs b h =
+      let s = tells_summable (map value xs) b h in
+      let m = IsSummableBy-map int_sums value fits xs in
+      ((λ t. m.1 (s.0 t)), (λ f. s.1 (m.0 f)))

@@ -8,6 +8,7 @@ use Rattle.ndarray.specs.Integers.{int_sums}
 use Rattle.ndarray.specs.Products.{magnitude_sum}
 use Rattle.ndarray.specs.Sums.{total, select, IsSummable}
 use Rattle.ndarray.proofs.sums.NonzeroProducts.{NegativeFits, negative-product, within}
+use Rattle.ndarray.proofs.sums.Selections.{op_unit}
 
 own-negative : (fits : ℤ → Type 0) (z : ℤ) → fits z → NegativeFits fits z
 unfolding NegativeFits
@@ -52,8 +53,8 @@ module _ (fits : ℤ → Type 0) where
 
 -- the sum of the absolute values of whole before rest is n, and fits; and a type that has a negative number where one of rest is negative has one where one of whole is
 pub record AddedSoFar (fits : ℤ → Type 0) (whole rest : List ℤ) (sum : ℤ) : Type 0 where
-  number : ℕ
-  is_number : sum ≡ pos number
+  pub number : ℕ
+  pub is_number : sum ≡ pos number
   pub in_range : fits sum
   total_is : number + magnitude_sum rest ≡ magnitude_sum whole
   signs : AllByRecursion (NegativeFits fits) rest → AllByRecursion (NegativeFits fits) whole
@@ -108,3 +109,50 @@ module _ (fits : ℤ → Type 0) (whole now rest : List ℤ) (z sum : ℤ) (next
 pub checked-sum : {A : Type 0} (value : A → ℤ) (fits : ℤ → Type 0) (sum size : ℤ) (n : ℕ) (r : Option A) → size ≡ pos n → fits (pos n) → Checks value fits (sum +ℤ size) r → Checks value (λ z. fits (pos n) × fits z) (sum +ℤ pos n) r
 checked-sum value fits sum size n None e f h = λ both. h (subst (λ t. fits (sum +ℤ t)) (sym e) both.1)
 checked-sum value fits sum size n (Some y) e f h = ((f, subst (λ t. fits (sum +ℤ t)) e h.0), h.1 ∙ ap (λ t. sum +ℤ t) e)
+
+-- ---- the signed sum next to that of the absolute values
+
+-- sum is what the numbers of whole before rest add up to, and magnitude what their absolute values do, which fits
+pub record SignedSoFar (fits : ℤ → Type 0) (whole rest : List ℤ) (magnitude sum : ℤ) : Type 0 where
+  pub magnitudes : AddedSoFar fits whole rest magnitude
+  pub total_is : sum +ℤ total int_sums rest ≡ total int_sums whole
+  pub small : unsigned_abs sum ≤ unsigned_abs magnitude
+  pub negative : NegativeFits fits sum
+
+pub signed-start : (fits : ℤ → Type 0) (whole rest : List ℤ) (magnitude sum : ℤ) → rest ≡ whole → magnitude ≡ pos 0 → sum ≡ pos 0 → fits (pos 0) → SignedSoFar fits whole rest magnitude sum
+signed-start fits whole rest magnitude sum e none zero h = record {
+  magnitudes = added-start fits whole rest magnitude e none h;
+  total_is = ap (λ s. s +ℤ total int_sums rest) zero ∙ (int_sums.unit_op (total int_sums rest) ∙ ap (total int_sums) e);
+  small = (let s = ap unsigned_abs zero in omega (arith, s));
+  negative = subst (NegativeFits fits) (sym zero) (none-negative fits);
+}
+
+pub signed-end : (fits : ℤ → Type 0) (whole rest : List ℤ) (magnitude sum : ℤ) → rest ≡ [] → SignedSoFar fits whole rest magnitude sum → sum ≡ total int_sums whole
+signed-end fits whole rest magnitude sum none h =
+    sym (ap (λ l. sum +ℤ total int_sums l) none ∙ op_unit int_sums sum) ∙ h.total_is
+
+-- the next number is z, whose absolute value may be added
+module _ (fits : ℤ → Type 0) (whole now rest : List ℤ) (z magnitude sum : ℤ) (next : now ≡ z ∷ rest) (sign : NegativeFits fits z) (h : SignedSoFar fits whole now magnitude sum) where
+  larger : magnitude +ℤ pos (unsigned_abs z) ≡ pos (unsigned_abs magnitude + unsigned_abs z)
+  larger =
+      let n = h.magnitudes.is_number in
+      ap (λ t. t +ℤ pos (unsigned_abs z)) n ∙ ap (λ t. pos (unsigned_abs t + unsigned_abs z)) (sym n)
+
+  smaller : unsigned_abs (sum +ℤ z) ≤ unsigned_abs magnitude + unsigned_abs z
+  smaller = let a = abs-sum sum z in let s = h.small in omega (arith, a, s)
+
+  module _ (between : (x y z : ℤ) → fits x → fits z → x ≤ℤ y → y ≤ℤ z → fits y) (negated : (m n : ℕ) → fits (negsuc m) → fits (pos n) → fits (neg_ℤ (pos n))) (zero_fits : fits (pos 0)) where
+    -- so it may be added itself
+    pub signed-fits : fits (magnitude +ℤ pos (unsigned_abs z)) → fits (sum +ℤ z)
+    signed-fits f = within fits between negated zero_fits (sum +ℤ z) (unsigned_abs magnitude + unsigned_abs z) smaller (subst fits larger f) (negative-sum fits sum z h.negative sign)
+
+    pub number-fits : fits (pos (unsigned_abs z)) → fits z
+    number-fits f = within fits between negated zero_fits z (unsigned_abs z) (omega arith) f sign
+
+  pub signed-next : (more added : ℤ) → more ≡ magnitude +ℤ pos (unsigned_abs z) → fits (magnitude +ℤ pos (unsigned_abs z)) → added ≡ sum +ℤ z → SignedSoFar fits whole rest more added
+  signed-next more added e f a = record {
+    magnitudes = added-next fits whole now rest z magnitude next sign h.magnitudes more e f;
+    total_is = ap (λ t. t +ℤ total int_sums rest) a ∙ (int_sums.associates sum z (total int_sums rest) ∙ (ap (λ l. sum +ℤ total int_sums l) (sym next) ∙ h.total_is));
+    small = (let s = smaller in let x = ap unsigned_abs a in let y = ap unsigned_abs (e ∙ larger) in omega (arith, s, x, y));
+    negative = subst (NegativeFits fits) (sym a) (negative-sum fits sum z h.negative sign);
+  }

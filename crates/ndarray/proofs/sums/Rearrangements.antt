@@ -1,17 +1,11 @@
 -- A list that is rearranged keeps its sum, and the sums of its selections.
-use Rattle.std.proofs.Common.{◌≡◌, ℕ, suc, zero, ◌<◌, Bool, true, false, List, [], ◌∷◌, length, map, set, get_or, Option, Some, None, refl, sym, ap, ◌∙◌, arith, subst}
+use Rattle.std.proofs.Common.{◌≡◌, ℕ, suc, zero, ◌<◌, Bool, true, false, List, [], ◌∷◌, length, map, set, get_or, refl, sym, ap, ◌∙◌, arith, subst}
 use Rattle.std.specs.Prelude.{IsPermutation, if◌then◌else◌}
 use Rattle.std.specs.List.{swap}
 use Rattle.std.proofs.lemmas.List.Sorted.{IsPermutation-keeps, IsPermutation-map}
-use Rattle.ndarray.specs.Index.{row_order}
-use Rattle.ndarray.specs.Grid.{Grid, IsGrid, cell}
-use Rattle.ndarray.specs.Orders.{IsListOfCells}
 use Rattle.ndarray.specs.Algebra.{CommutativeMonoid}
-use Rattle.ndarray.specs.Sums.{total, select, IsSummable}
-use Rattle.ndarray.specs.declared.base.shape.Order.TheVariants.{RowMajor}
-use Rattle.ndarray.proofs.cells.Cells.{cells_in-HasInOrder}
-use Rattle.ndarray.proofs.boxes.Orders.{box_in-is}
-use Rattle.ndarray.proofs.strides.ContiguousCells.{row-cells}
+use Rattle.ndarray.specs.Sums.{total, total_by, select, IsSummable, IsSummableBy}
+use Rattle.ndarray.proofs.sums.Selections.{IsSummableBy-map, total_by-map}
 
 -- b for the first place, and keep for those behind it
 abbrev first_then : Bool → (ℕ → Bool) → ℕ → Bool
@@ -111,21 +105,12 @@ module _ {C : Type 0} (M : CommutativeMonoid C) where
       step [] i j p q e = e
       step (d ∷ l) i j p q e = λ keep. let k = select-exchanged d (d ∷ l) i j p q keep in subst P (sym k.1) (e k.0)
 
--- the cells in some order have the values of the cells, rearranged
-module _ {A C : Type 0} (value : A → C) (none : C) where
-  value_or : Option A → C
-  value_or None = none
-  value_or (Some x) = value x
+-- the same of the values of elements
+module _ {A C : Type 0} (M : CommutativeMonoid C) (value : A → C) where
+  pub total_by-rearranged : (xs ys : List A) → IsPermutation xs ys → total_by M value ys ≡ total_by M value xs
+  total_by-rearranged xs ys h =
+      total_by-map M value ys ∙ (total-rearranged M (map value xs) (map value ys) (IsPermutation-map value xs ys h) ∙ sym (total_by-map M value xs))
 
-  map-value_or : (xs : List A) → map value_or (map Some xs) ≡ map value xs
-  unfolding value_or
-  map-value_or [] = refl
-  map-value_or (x ∷ xs) = ap (λ l. value x ∷ l) (map-value_or xs)
-
-  pub values-rearranged : (g : Grid A) (xs : List A) → IsGrid g → IsListOfCells g xs → IsPermutation (map value g.cells) (map value xs)
-  values-rearranged g xs whole h =
-      let in_row : map (cell g) (row_order g.lengths) ≡ map Some g.cells = cells_in-HasInOrder RowMajor g whole (row_order g.lengths) (box_in-is RowMajor g.lengths) ∙ ap (map Some) (row-cells g whole) in
-      let moved = IsPermutation-map value_or _ _ (IsPermutation-map (cell g) (row_order g.lengths) h.indices h.once) in
-      let e : map value_or (map (cell g) (row_order g.lengths)) ≡ map value g.cells = ap (map value_or) in_row ∙ map-value_or g.cells in
-      let f : map value_or (map (cell g) h.indices) ≡ map value xs = ap (map value_or) h.cells ∙ map-value_or xs in
-      subst (λ l. IsPermutation l (map value xs)) e (subst (IsPermutation (map value_or (map (cell g) (row_order g.lengths)))) f moved)
+  pub summable_by-rearranged : (P : C → Type 0) (xs ys : List A) → IsPermutation xs ys → IsSummableBy M P value xs → IsSummableBy M P value ys
+  summable_by-rearranged P xs ys h s =
+      (IsSummableBy-map M value P ys).1 (IsSummable-rearranged M P (map value xs) (map value ys) (IsPermutation-map value xs ys h) ((IsSummableBy-map M value P xs).0 s))

@@ -1,5 +1,5 @@
 -- Selections of a list, and what they tell of a summable one.
-use Rattle.std.proofs.Common.{◌≡◌, ℕ, zero, suc, Bool, true, false, cond, List, [], ◌∷◌, refl, sym, ap, ◌∙◌, subst, map, ◌↔◌}
+use Rattle.std.proofs.Common.{◌≡◌, ℕ, zero, suc, Bool, true, false, cond, List, [], ◌∷◌, ◌++◌, refl, sym, ap, ◌∙◌, subst, map, ◌↔◌}
 use Rattle.ndarray.specs.Algebra.{CommutativeMonoid}
 use Rattle.ndarray.specs.Sums.{total, total_by, select, IsSummable, IsSummableBy}
 
@@ -11,6 +11,13 @@ at_front b keep (suc i) = keep i
 pub select-none : {A : Type 0} (xs : List A) → select (λ _. false) xs ≡ []
 select-none [] = refl
 select-none (x ∷ xs) = select-none xs
+
+-- a selection of the first elements
+pub select-append : {A : Type 0} (keep : ℕ → Bool) (xs ys : List A) → (kept : ℕ → Bool) × (select kept (xs ++ ys) ≡ select keep xs)
+select-append keep [] ys = ((λ _. false), select-none ys)
+select-append keep (x ∷ xs) ys =
+    let w = select-append (λ i. keep (suc i)) xs ys in
+    (at_front (keep 0) w.0, ap (λ l. cond (keep 0) (x ∷ l) l) w.1)
 
 module _ {C : Type 0} (M : CommutativeMonoid C) where
   pub op_unit : (a : C) → M.op a M.unit ≡ a

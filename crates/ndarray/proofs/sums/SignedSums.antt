@@ -1,8 +1,16 @@
 -- Positive and negative whole numbers that are added apart, one after the other.
-use Rattle.std.proofs.Common.{◌≡◌, List, [], ◌∷◌, refl, sym, ap, ◌∙◌, ◌⊎◌, inl, inr, subst, arith}
-use Rattle.std.specs.Prelude.{ℤ, pos, negsuc, ◌+ℤ◌, ◌≤ℤ◌, ◌<ℤ◌}
+use Rattle.std.proofs.Common.{◌≡◌, ◌↔◌, List, [], ◌∷◌, Option, None, Some, map, refl, sym, ap, ◌∙◌, ◌⊎◌, inl, inr, subst, arith}
+use Rattle.std.specs.Prelude.{ℤ, pos, negsuc, ◌+ℤ◌, ◌≤ℤ◌, ◌<ℤ◌, IfSome, IsTrue}
+use Rattle.std.specs.Option.{is_some}
+use Rattle.num_traits.specs.Laws.{Checks}
 use Rattle.std.proofs.lemmas.Int.{ints}
-use Rattle.ndarray.specs.Integers.{positive_sum, negative_sum}
+use Rattle.std.specs.Prelude.{IsPermutation}
+use Rattle.std.proofs.lemmas.List.Sorted.{IsPermutation-map}
+use Rattle.ndarray.specs.Integers.{int_sums, negative_sum, positive_sum}
+use Rattle.ndarray.specs.SignedSums.{AddedApart}
+use Rattle.ndarray.specs.Sums.{total}
+use Rattle.ndarray.proofs.lists.Decisions.{says_yes}
+use Rattle.ndarray.proofs.sums.Rearrangements.{total-rearranged}
 
 positive_sum-positive : (zs : List ℤ) → pos 0 ≤ℤ positive_sum zs
 positive_sum-positive [] = omega (arith, ints)
@@ -25,15 +33,6 @@ down_front (negsuc n) zs h = (refl, refl)
 either-sign : (z : ℤ) → (pos 0 ≤ℤ z) ⊎ (z <ℤ pos 0)
 either-sign (pos n) = inl (omega (arith, ints))
 either-sign (negsuc n) = inr (omega (arith, ints))
-
--- up and down are the sums of the positive and of the negative numbers of whole before rest, and both fit
-pub record AddedApart (fits : ℤ → Type 0) (whole rest : List ℤ) (up down : ℤ) : Type 0 where
-  pub up_sum : up +ℤ positive_sum rest ≡ positive_sum whole
-  pub up_positive : pos 0 ≤ℤ up
-  pub up_fits : fits up
-  pub down_sum : down +ℤ negative_sum rest ≡ negative_sum whole
-  pub down_negative : down ≤ℤ pos 0
-  pub down_fits : fits down
 
 pub AddedApart-start : (fits : ℤ → Type 0) (whole rest : List ℤ) (up down : ℤ) → rest ≡ whole → fits (pos 0) → up ≡ pos 0 → down ≡ pos 0 → AddedApart fits whole rest up down
 AddedApart-start fits whole rest up down r h e f =
@@ -111,3 +110,68 @@ module _ (fits : ℤ → Type 0) (whole now rest : List ℤ) (z up down : ℤ) (
     pub AddedApart-excess : (pos 0 ≤ℤ z → fits (up +ℤ z) → ⊥) → (z <ℤ pos 0 → fits (down +ℤ z) → ⊥) → fits (positive_sum whole) × fits (negative_sum whole) → ⊥
     AddedApart-excess positive negative both =
         elim (either-sign z) [ inl p ↦ AddedApart-up_excess p (positive p) both.0 | inr n ↦ AddedApart-down_excess n (negative n) both.1 ]
+
+-- ---- in another order
+
+positive_part : ℤ → ℤ
+positive_part (pos n) = pos n
+positive_part (negsuc n) = pos 0
+
+negative_part : ℤ → ℤ
+negative_part (pos n) = pos 0
+negative_part (negsuc n) = negsuc n
+
+positive_sum-total : (zs : List ℤ) → positive_sum zs ≡ total int_sums (map positive_part zs)
+unfolding positive_part
+positive_sum-total [] = refl
+positive_sum-total (pos n ∷ zs) = ap (λ t. pos n +ℤ t) (positive_sum-total zs)
+positive_sum-total (negsuc n ∷ zs) = positive_sum-total zs ∙ sym (int_sums.unit_op (total int_sums (map positive_part zs)))
+
+negative_sum-total : (zs : List ℤ) → negative_sum zs ≡ total int_sums (map negative_part zs)
+unfolding negative_part
+negative_sum-total [] = refl
+negative_sum-total (pos n ∷ zs) = negative_sum-total zs ∙ sym (int_sums.unit_op (total int_sums (map negative_part zs)))
+negative_sum-total (negsuc n ∷ zs) = ap (λ t. negsuc n +ℤ t) (negative_sum-total zs)
+
+module _ (xs ys : List ℤ) (moved : IsPermutation xs ys) where
+  pub positive_sum-rearranged : positive_sum ys ≡ positive_sum xs
+  positive_sum-rearranged =
+      positive_sum-total ys ∙ (total-rearranged int_sums (map positive_part xs) (map positive_part ys) (IsPermutation-map positive_part xs ys moved) ∙ sym (positive_sum-total xs))
+
+  pub negative_sum-rearranged : negative_sum ys ≡ negative_sum xs
+  negative_sum-rearranged =
+      negative_sum-total ys ∙ (total-rearranged int_sums (map negative_part xs) (map negative_part ys) (IsPermutation-map negative_part xs ys moved) ∙ sym (negative_sum-total xs))
+
+  pub AddedApart-rearranged : (fits : ℤ → Type 0) (rest : List ℤ) (up down : ℤ) → AddedApart fits ys rest up down → AddedApart fits xs rest up down
+  AddedApart-rearranged fits rest up down h = record {
+    up_sum = h.up_sum ∙ positive_sum-rearranged;
+    up_positive = h.up_positive;
+    up_fits = h.up_fits;
+    down_sum = h.down_sum ∙ negative_sum-rearranged;
+    down_negative = h.down_negative;
+    down_fits = h.down_fits;
+  }
+
+-- ---- both together
+
+-- the sum of all numbers is that of the positive and that of the negative ones
+pub signs-total : (zs : List ℤ) → positive_sum zs +ℤ negative_sum zs ≡ total int_sums zs
+signs-total [] = refl
+signs-total (pos n ∷ zs) = let h = signs-total zs in omega (arith, ints)
+signs-total (negsuc n ∷ zs) = let h = signs-total zs in omega (arith, ints)
+
+-- it fits where both do
+pub AddedApart-both_fit : (fits : ℤ → Type 0) (whole rest : List ℤ) (up down : ℤ) → ((x y z : ℤ) → fits x → fits z → x ≤ℤ y → y ≤ℤ z → fits y) → AddedApart fits whole rest up down → fits (up +ℤ down)
+AddedApart-both_fit fits whole rest up down between h =
+    between down (up +ℤ down) up h.down_fits h.up_fits (omega (arith, ints, h.up_positive)) (omega (arith, ints, h.down_negative))
+
+-- what a checked sum of both answers
+pub checked-both : {A : Type 0} (value : A → ℤ) (fits : ℤ → Type 0) (whole : List ℤ) (up down : ℤ) (r : Option A) → ((x y z : ℤ) → fits x → fits z → x ≤ℤ y → y ≤ℤ z → fits y)
+    → AddedApart fits whole [] up down → Checks value fits (up +ℤ down) r → (IsTrue (is_some r) ↔ (fits (positive_sum whole) × fits (negative_sum whole))) × IfSome r (λ s. value s ≡ total int_sums whole)
+checked-both value fits whole up down None between h c = absurd (c (AddedApart-both_fit fits whole [] up down between h))
+checked-both value fits whole up down (Some s) between h c =
+    let p = h.up_sum in
+    let n = h.down_sum in
+    let t = signs-total whole in
+    let sum : up +ℤ down ≡ positive_sum whole +ℤ negative_sum whole = omega (arith, ints, p, n) in
+    (says_yes _ (AddedApart-end fits whole [] up down refl h), c.1 ∙ (sum ∙ t))

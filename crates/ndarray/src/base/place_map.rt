@@ -17,7 +17,7 @@ use crate::base::storage::OwnedRepr;
 use std::marker::Model;
 
 /// A stride without its sign.
-fn magnitude(stride: usize) -> usize
+pub(crate) fn magnitude(stride: usize) -> usize
     ensures { result ≡ magnitude stride }
 {
     stride.min(stride.wrapping_neg())
@@ -63,6 +63,17 @@ fn axis_of_largest_stride<D: Lengths>(dim: &D, strides: &D) -> Option<usize>
 }
 
 impl<D: Lengths> Layout<D> {
+    /// How far apart the places along an axis are, signs left out; the most of all for an axis of at most one place.
+    pub(crate) fn step_size(&self, axis: usize) -> usize
+        requires as_many { length (D.numbers self.now.strides) ≡ length (D.numbers self.now.dim) }
+        requires axis { axis < length (D.numbers self.now.dim) }
+    {
+        if self.dim.axis(axis) <= 1 {
+            return usize::MAX;
+        }
+        magnitude(self.strides.axis(axis))
+    }
+
     /// How far the lowest place of a box that is not empty lies below the first.
     fn below_start(&self) -> usize
         requires as_many { length (D.numbers self.now.strides) ≡ length (D.numbers self.now.dim) }

@@ -10,7 +10,9 @@ use crate::base::axis::Axis;
 use crate::base::dimension::{Dimension, Ix1, Ix2};
 use crate::base::strided::Strided;
 use crate::elements::LinalgScalar;
+use crate::elements::sums::add_product;
 use crate::linalg::entries::Entries;
+use crate::unrolled::unrolled_dot;
 
 /// The sum of the products of two vectors' cells, place by place, and zero where they have none. It allocates nothing.
 pub(crate) fn inner<A: LinalgScalar>(x: &ArrayView<'_, A, Ix1>, y: &ArrayView<'_, A, Ix1>) -> A
@@ -20,7 +22,7 @@ pub(crate) fn inner<A: LinalgScalar>(x: &ArrayView<'_, A, Ix1>, y: &ArrayView<'_
 {
     if let Some(xs) = x.as_slice() {
         if let Some(ys) = y.as_slice() {
-            return inner_of_slices(xs, ys);
+            return unrolled_dot(xs, ys);
         }
     }
     let mut sum = A::zero();
@@ -45,29 +47,6 @@ fn cells_of<'a, A>(vector: ArrayView<'a, A, Ix1>) -> Strided<'a, A>
         return vector.no_cells();
     }
     vector.cells_along(&Ix1(0), 0, len)
-}
-
-/// The same of two slices.
-fn inner_of_slices<A: LinalgScalar>(xs: &[A], ys: &[A]) -> A
-    requires same { length xs.now ≡ length ys.now }
-    requires sums { IsSummable A.addition A.InRange (products_of A.multiplication A.meaning xs.now ys.now) }
-    ensures { A.meaning result ≡ total A.addition (products_of A.multiplication A.meaning xs.now ys.now) }
-{
-    let mut sum = A::zero();
-    for k in 0..xs.len() {
-        sum = add_product(sum, xs[k], ys[k]);
-    }
-    sum
-}
-
-/// A sum, and a product added to it.
-#[inline(always)]
-pub(crate) fn add_product<A: LinalgScalar>(sum: A, x: A, y: A) -> A
-    requires product { A.InRange (A.multiplication.op (A.meaning x) (A.meaning y)) }
-    requires added { A.InRange (A.addition.op (A.meaning sum) (A.multiplication.op (A.meaning x) (A.meaning y))) }
-    ensures { A.meaning result ≡ A.addition.op (A.meaning sum) (A.multiplication.op (A.meaning x) (A.meaning y)) }
-{
-    sum + x * y
 }
 
 /// The inner sums of the rows of a matrix with the columns of another.

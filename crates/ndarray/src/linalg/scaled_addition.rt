@@ -8,7 +8,7 @@ use crate::base::array::{ArrayBase, ArrayView};
 use crate::base::dimension::Lengths;
 use crate::base::storage::{Data, DataMut};
 use crate::elements::LinalgScalar;
-use crate::linalg::inner::add_product;
+use crate::elements::sums::add_product;
 use crate::zip::producer::IntoBroadcast;
 use crate::zip::updating::{CellCall, try_update};
 use std::alloc::AllocError;

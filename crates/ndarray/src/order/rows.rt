@@ -59,6 +59,19 @@ impl<D: Lengths> BoxRows<D> {
         }
     }
 
+    /// No row.
+    pub(crate) fn none(dim: D) -> Self
+        requires { IsWithinLimit (D.numbers dim) }
+        ensures { result ≡ [] }
+    {
+        let index = D::zeros(dim.ndim());
+        BoxRows {
+            firsts: Walk::starting_at(dim, Order::RowMajor, index, 0),
+            axis: 0,
+            count: 0,
+        }
+    }
+
     /// The next row.
     #[inline(always)]
     pub(crate) fn next(&mut self) -> Option<Row<D>>

@@ -1,15 +1,18 @@
 //! Whether the sums and the products of an array's cells stay in their integer type.
 
-ghost use Rattle.std.specs.Prelude.{◌≡◌, ◌↔◌, ◌+ℤ◌, ◌*ℤ◌, ◌<ℤ◌, ◌≤ℤ◌, IfSome, IsTrue, map, pos, unsigned_abs};
+ghost use Rattle.std.specs.Prelude.{◌≡◌, ◌↔◌, ◌+ℤ◌, ◌*ℤ◌, ◌<ℤ◌, ◌≤ℤ◌, ◌++◌, [], ℤ, List, IfSome, IsSome, IsTrue, MatchOption, map, pos, unsigned_abs};
 ghost use Rattle.num_traits.specs.Laws.{Checks};
 ghost use Rattle.ndarray.specs.Products.{magnitude_sum, products_of};
-ghost use Rattle.ndarray.specs.Sums.{IsSummable, IsSummableBy};
+ghost use Rattle.ndarray.specs.SignedSums.{AddedApart};
+ghost use Rattle.ndarray.specs.Sums.{IsSummable, IsSummableBy, total, total_by};
 ghost use Rattle.ndarray.specs.Integers.{int_products, int_sums, magnitude_product, negative_sum, nonzero_magnitude, positive_sum};
 
 use crate::base::array::{ArrayBase, ArrayView};
 use crate::base::dimension::{Dimension, Ix1, Lengths};
 use crate::base::storage::Data;
+use crate::base::strided::Strided;
 use crate::elements::IntegerElem;
+use crate::iter::runs::CellRuns;
 use crate::zip::pair::PairRun;
 use num_traits::{CheckedAdd, Zero};
 
@@ -28,7 +31,28 @@ impl<A: Zero + CheckedAdd, S: Data<Elem = A>, D: Lengths> ArrayBase<S, D> {
         ensures bounds { IsTrue result ↔ (A.fits (positive_sum (map A.value self.now.cells))
             × A.fits (negative_sum (map A.value self.now.cells))) }
     {
-        sums_stay_in_range(&self.view())
+        signed_sums(&self.view()).is_some()
+    }
+
+    /// The sum of all cells, where every selection of them has its sum in the type; else `None`. So it is `Some` exactly where
+    /// [`sums_fit`](Self::sums_fit) is true, and then the value is that of [`sum`](Self::sum): the test and the sum in one walk.
+    ///
+    /// Requires nothing, and allocates nothing.
+    ///
+    /// ```
+    /// assert_eq!(ArrayView::from_shape(2, &[127i8, -128])?.checked_sum(), Some(-1));
+    /// assert_eq!(ArrayView::from_shape(3, &[127i8, -1, 1])?.checked_sum(), None);
+    /// ```
+    pub fn checked_sum(&self) -> Option<A>
+        ensures selections { IsSome result ↔ IsSummableBy int_sums A.fits A.value self.now.cells }
+        ensures bounds { IsSome result ↔ (A.fits (positive_sum (map A.value self.now.cells))
+            × A.fits (negative_sum (map A.value self.now.cells))) }
+        ensures sum { IfSome result (λ s. A.value s ≡ total_by int_sums A.value self.now.cells) }
+    {
+        let Some(sums) = signed_sums(&self.view()) else {
+            return None;
+        };
+        sums.up.checked_add(&sums.down)
     }
 }
 
@@ -51,23 +75,40 @@ impl<A: IntegerElem, S: Data<Elem = A>, D: Lengths> ArrayBase<S, D> {
     }
 }
 
-/// The same of a view, for [`ArrayBase::sums_fit`].
-fn sums_stay_in_range<A: Zero + CheckedAdd, D: Lengths>(array: &ArrayView<'_, A, D>) -> bool
-    ensures selections { IsTrue result ↔ IsSummableBy int_sums A.fits A.value array.now.cells }
-    ensures bounds { IsTrue result ↔ (A.fits (positive_sum (map A.value array.now.cells))
-        × A.fits (negative_sum (map A.value array.now.cells))) }
+/// The sum of the positive and that of the negative cells, where the type has both.
+fn signed_sums<A: Zero + CheckedAdd, D: Lengths>(
+    array: &ArrayView<'_, A, D>,
+) -> Option<SignedSums<A>>
+    ensures { MatchOption result (A.fits (positive_sum (map A.value array.now.cells)) × A.fits (negative_sum (map A.value array.now.cells)) → ⊥) (λ sums. AddedApart A.fits (map A.value array.now.cells) [] (A.value sums.up) (A.value sums.down)) }
 {
     let mut sums = SignedSums {
         up: A::zero(),
         down: A::zero(),
     };
-    for x in array.iter() {
-        let Some(more) = add_by_sign(sums, x) else {
-            return false;
+    let mut runs = CellRuns::of(array.view());
+    while let Some(run) = runs.next() {
+        let Some(more) = add_run(sums, run) else {
+            return None;
         };
         sums = more;
     }
-    true
+    Some(sums)
+}
+
+/// The sums with the cells of a run added, each to that of its sign, where the type has them.
+fn add_run<A: Zero + CheckedAdd>(sums: SignedSums<A>, run: Strided<'_, A>) -> Option<SignedSums<A>>
+    ensures { (whole rest : List ℤ) → AddedApart A.fits whole (map A.value run.entry ++ rest) (A.value sums.up) (A.value sums.down)
+        → MatchOption result (A.fits (positive_sum whole) × A.fits (negative_sum whole) → ⊥) (λ more. AddedApart A.fits whole rest (A.value more.up) (A.value more.down)) }
+{
+    let mut sums = sums;
+    let mut run = run;
+    while let Some(x) = run.next() {
+        let Some(more) = add_by_sign(sums, x) else {
+            return None;
+        };
+        sums = more;
+    }
+    Some(sums)
 }
 
 /// The sum of positive numbers, and that of negative ones.
@@ -78,6 +119,7 @@ struct SignedSums<A> {
 }
 
 /// The sums with a number added to that of its sign, where the type has it.
+#[inline(always)]
 fn add_by_sign<A: Zero + CheckedAdd>(sums: SignedSums<A>, x: &A) -> Option<SignedSums<A>>
     ensures up { pos 0 ≤ℤ A.value x.now → Checks (λ s. A.value s.up) A.fits (A.value sums.up +ℤ A.value x.now) result × IfSome result (λ s. s.down ≡ sums.down) }
     ensures down { A.value x.now <ℤ pos 0 → Checks (λ s. A.value s.down) A.fits (A.value sums.down +ℤ A.value x.now) result × IfSome result (λ s. s.up ≡ sums.up) }
@@ -144,20 +186,41 @@ pub fn dot_fits<A: IntegerElem, S: Data<Elem = A>, S2: Data<Elem = A>>(
     ensures magnitudes { IsTrue result ↔ ((x.now.lengths ≡ y.now.lengths) × A.fits (pos (magnitude_sum (products_of int_products A.value x.now.cells y.now.cells)))) }
     ensures selections { IsTrue result → (x.now.lengths ≡ y.now.lengths) × IsSummable int_sums A.fits (products_of int_products A.value x.now.cells y.now.cells) }
 {
-    dot_stays_in_range(&x.view(), &y.view())
+    checked_dot(x, y).is_some()
 }
 
-/// The same of views, for [`dot_fits`].
-fn dot_stays_in_range<A: IntegerElem>(x: &ArrayView<'_, A, Ix1>, y: &ArrayView<'_, A, Ix1>) -> bool
-    ensures magnitudes { IsTrue result ↔ ((x.now.lengths ≡ y.now.lengths) × A.fits (pos (magnitude_sum (products_of int_products A.value x.now.cells y.now.cells)))) }
-    ensures selections { IsTrue result → (x.now.lengths ≡ y.now.lengths) × IsSummable int_sums A.fits (products_of int_products A.value x.now.cells y.now.cells) }
+/// The sum of the products of two vectors' cells, place by place, where [`dot_fits`] is true of them; else `None`. So it is the
+/// value of their `dot`: the test and the product in one walk.
+///
+/// Requires nothing, and allocates nothing.
+///
+/// ```
+/// let sum = checked_dot(&ArrayView::from_shape(2, &[127i8, 1])?, &ArrayView::from_shape(2, &[-1i8, 0])?); // Some(-127)
+/// let none = checked_dot(&ArrayView::from_shape(2, &[100i8, 100])?, &ArrayView::from_shape(2, &[1i8, -1])?); // None
+/// ```
+pub fn checked_dot<A: IntegerElem, S: Data<Elem = A>, S2: Data<Elem = A>>(
+    x: &ArrayBase<S, Ix1>,
+    y: &ArrayBase<S2, Ix1>,
+) -> Option<A>
+    ensures magnitudes { IsSome result ↔ ((x.now.lengths ≡ y.now.lengths) × A.fits (pos (magnitude_sum (products_of int_products A.value x.now.cells y.now.cells)))) }
+    ensures selections { IsSome result → (x.now.lengths ≡ y.now.lengths) × IsSummable int_sums A.fits (products_of int_products A.value x.now.cells y.now.cells) }
+    ensures sum { IfSome result (λ s. A.value s ≡ total int_sums (products_of int_products A.value x.now.cells y.now.cells)) }
+{
+    checked_dot_of(&x.view(), &y.view())
+}
+
+/// The same of views.
+fn checked_dot_of<A: IntegerElem>(x: &ArrayView<'_, A, Ix1>, y: &ArrayView<'_, A, Ix1>) -> Option<A>
+    ensures magnitudes { IsSome result ↔ ((x.now.lengths ≡ y.now.lengths) × A.fits (pos (magnitude_sum (products_of int_products A.value x.now.cells y.now.cells)))) }
+    ensures selections { IsSome result → (x.now.lengths ≡ y.now.lengths) × IsSummable int_sums A.fits (products_of int_products A.value x.now.cells y.now.cells) }
+    ensures sum { IfSome result (λ s. A.value s ≡ total int_sums (products_of int_products A.value x.now.cells y.now.cells)) }
 {
     let n = x.raw_dim().into_pattern();
     let m = y.raw_dim().into_pattern();
     if n != m {
-        return false;
+        return None;
     }
-    inner_stays_in_range(x, y)
+    checked_inner(x, y)
 }
 
 /// Whether the absolute values of the products of two arrays' cells, one after another in row order, add up to at most the type's greatest number.
@@ -168,21 +231,50 @@ pub(crate) fn inner_stays_in_range<A: IntegerElem, D: Lengths>(
     ensures magnitudes { IsTrue result ↔ A.fits (pos (magnitude_sum (products_of int_products A.value x.now.cells y.now.cells))) }
     ensures selections { IsTrue result → IsSummable int_sums A.fits (products_of int_products A.value x.now.cells y.now.cells) }
 {
+    checked_inner(x, y).is_some()
+}
+
+/// The sum of the products of two arrays' cells, one after another in row order, where their absolute values add up to at most the type's greatest number.
+fn checked_inner<A: IntegerElem, D: Lengths>(
+    x: &ArrayView<'_, A, D>,
+    y: &ArrayView<'_, A, D>,
+) -> Option<A>
+    ensures magnitudes { IsSome result ↔ A.fits (pos (magnitude_sum (products_of int_products A.value x.now.cells y.now.cells))) }
+    ensures selections { IsSome result → IsSummable int_sums A.fits (products_of int_products A.value x.now.cells y.now.cells) }
+    ensures sum { IfSome result (λ s. A.value s ≡ total int_sums (products_of int_products A.value x.now.cells y.now.cells)) }
+{
+    let mut magnitude = A::zero();
     let mut sum = A::zero();
     let mut pairs = PairRun {
         first: x.iter(),
         second: y.iter(),
     };
     while let Some((a, b)) = pairs.next() {
-        let Some(more) = add_product_magnitude(sum, *a, *b) else {
-            return false;
+        let Some(more) = add_product_magnitude(magnitude, *a, *b) else {
+            return None;
         };
-        sum = more;
+        magnitude = more;
+        let Some(added) = add_checked_product(sum, *a, *b) else {
+            unreachable!()
+        };
+        sum = added;
     }
-    true
+    Some(sum)
+}
+
+/// A sum and a product, where the type has both.
+#[inline(always)]
+fn add_checked_product<A: IntegerElem>(sum: A, x: A, y: A) -> Option<A>
+    ensures { Checks A.value (λ z. A.fits (A.value x *ℤ A.value y) × A.fits z) (A.value sum +ℤ (A.value x *ℤ A.value y)) result }
+{
+    let Some(product) = x.checked_mul(&y) else {
+        return None;
+    };
+    sum.checked_add(&product)
 }
 
 /// A sum and the absolute value of a product, where the type has both.
+#[inline(always)]
 fn add_product_magnitude<A: IntegerElem>(sum: A, x: A, y: A) -> Option<A>
     ensures sum { Checks A.value (λ z. A.fits (pos (unsigned_abs (A.value x *ℤ A.value y))) × A.fits z) (A.value sum +ℤ pos (unsigned_abs (A.value x *ℤ A.value y))) result }
     ensures first { A.fits (A.value x) }

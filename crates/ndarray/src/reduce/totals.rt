@@ -11,8 +11,11 @@ use crate::base::array::{Array, ArrayBase, ArrayView};
 use crate::base::axis::Axis;
 use crate::base::dimension::{Dimension, Ix1, Lengths};
 use crate::base::storage::Data;
+use crate::base::strided::Strided;
 use crate::elements::{ProductElem, SumElem};
+use crate::iter::runs::CellRuns;
 use crate::order::Order;
+use crate::unrolled::unrolled_fold;
 use crate::zip::calls::ItemCall;
 use crate::zip::collecting::collect_items;
 use std::alloc::{AllocError, Global};
@@ -38,6 +41,12 @@ pub(crate) trait TotalOperation<A: Copy> {
     fn of_two(x: A, y: A) -> A
         requires { InRange (operation.op (meaning x) (meaning y)) }
         ensures { meaning result ≡ operation.op (meaning x) (meaning y) };
+
+    // A total in range is that of an element, and elements of one value are equal.
+    ghost has_total: { (x y : A) → InRange (operation.op (meaning x) (meaning y))
+        → (r : A) × (meaning r ≡ operation.op (meaning x) (meaning y)) };
+
+    ghost same_meaning: { (x y : A) → meaning x ≡ meaning y → x ≡ y };
 }
 
 /// Addition.
@@ -59,6 +68,10 @@ impl<A: SumElem> TotalOperation<A> for Sum {
     fn of_two(x: A, y: A) -> A {
         x + y
     }
+
+    ghost has_total = { λ x y h. (let r = A.add_answers x y h in (r.0, A.add_meaning x y r.0 h r.1)) };
+
+    ghost same_meaning = { A.same_meaning };
 }
 
 /// Multiplication.
@@ -80,6 +93,10 @@ impl<A: ProductElem> TotalOperation<A> for Product {
     fn of_two(x: A, y: A) -> A {
         x * y
     }
+
+    ghost has_total = { λ x y h. (let r = A.mul_answers x y h in (r.0, A.mul_meaning x y r.0 h r.1)) };
+
+    ghost same_meaning = { A.same_meaning };
 }
 
 /// The total of all cells.
@@ -87,23 +104,42 @@ pub(crate) fn total<T: TotalOperation<A>, A: Copy, D: Lengths>(array: &ArrayView
     requires { IsSummableBy T.operation T.InRange T.meaning array.now.cells }
     ensures { T.meaning result ≡ total_by T.operation T.meaning array.now.cells }
 {
-    if let Some(cells) = array.as_slice_memory_order() {
-        return total_of::<T, A>(cells);
-    }
     let mut total = T::of_none();
-    for x in array.iter() {
-        total = T::of_two(total, *x);
+    let mut runs = CellRuns::of(array.view());
+    while let Some(run) = runs.next() {
+        total = T::of_two(total, total_of_run::<T, A>(run));
     }
     total
 }
 
-/// The total of the elements of a slice, in their order.
+/// The total of the elements of a slice.
 fn total_of<T: TotalOperation<A>, A: Copy>(cells: &[A]) -> A
     requires { IsSummableBy T.operation T.InRange T.meaning cells.now }
     ensures { T.meaning result ≡ total_by T.operation T.meaning cells.now }
 {
+    unrolled_fold(
+        cells,
+        || -> A
+            ensures { T.meaning result ≡ T.operation.unit }
+        { T::of_none() },
+        |x: A, y: A| -> A
+            requires { T.InRange (T.operation.op (T.meaning x) (T.meaning y)) }
+            ensures { T.meaning result ≡ T.operation.op (T.meaning x) (T.meaning y) }
+        { T::of_two(x, y) },
+    )
+}
+
+/// The total of the cells of a run.
+fn total_of_run<T: TotalOperation<A>, A: Copy>(cells: Strided<'_, A>) -> A
+    requires { IsSummableBy T.operation T.InRange T.meaning cells }
+    ensures { T.meaning result ≡ total_by T.operation T.meaning cells.entry }
+{
+    if let Some(slice) = cells.side_by_side() {
+        return total_of::<T, A>(slice);
+    }
+    let mut cells = cells;
     let mut total = T::of_none();
-    for x in cells {
+    while let Some(x) = cells.next() {
         total = T::of_two(total, *x);
     }
     total

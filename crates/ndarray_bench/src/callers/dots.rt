@@ -51,7 +51,7 @@ pub fn dynamic_product<A: LinalgScalar>(
 
 /// The product of two arrays of any integer type and any number of axes, or `None` where their shapes do not multiply or, at some
 /// index list of the product, the absolute values of the products of the two lanes add up to more than the type's greatest number.
-pub fn checked_dot<A: IntegerScalar, S: Data<Elem = A>, T: Data<Elem = A>>(
+pub fn checked_dynamic_product<A: IntegerScalar, S: Data<Elem = A>, T: Data<Elem = A>>(
     alloc: Global,
     a: &ArrayBase<S, IxDyn>,
     b: &ArrayBase<T, IxDyn>,

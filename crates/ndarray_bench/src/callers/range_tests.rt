@@ -11,7 +11,7 @@ ghost use Rattle.ndarray.specs.Sums.{IsSummableBy, total, total_by};
 ghost use Rattle.ndarray.specs.WholeValues.{HasMagnitudesInRange, whole_numbers};
 
 use ndarray::linalg::entries_fit;
-use ndarray::reduce::dot_fits;
+use ndarray::reduce::{checked_dot, dot_fits};
 use ndarray::{Array, ArrayBase, Data, DataMut, DimMax, IntegerScalar, Ix1, Ix2, Lengths, Valued};
 use std::alloc::{AllocError, Global};
 
@@ -193,4 +193,29 @@ pub fn checked_matrix_times_vector<A: IntegerScalar, S: Data<Elem = A>, T: Data<
     }
     let product = a.dot(alloc, &x)?;
     Ok(Some(product))
+}
+
+/// Whether two arrays of any layouts have the same sum; `None` where some selection of the cells of one has a sum that is no `i64`.
+pub fn have_equal_sums<S: Data<Elem = i64>, T: Data<Elem = i64>, D: Lengths, E: Lengths>(
+    a: &ArrayBase<S, D>,
+    b: &ArrayBase<T, E>,
+) -> Option<bool>
+    ensures when { IsSome result ↔ (IsSummableBy int_sums (FitsSigned w64) (λ x. x) a.now.cells × IsSummableBy int_sums (FitsSigned w64) (λ x. x) b.now.cells) }
+    ensures equal { IfSome result (λ same. IsTrue same ↔ (total_by int_sums (λ x. x) a.now.cells ≡ total_by int_sums (λ x. x) b.now.cells)) }
+{
+    let Some(first) = a.checked_sum() else {
+        return None;
+    };
+    let Some(second) = b.checked_sum() else {
+        return None;
+    };
+    Some(first == second)
+}
+
+/// The sum of the squares of a vector's cells, or `None` where it is no `i64`.
+pub fn squared_length<S: Data<Elem = i64>>(x: &ArrayBase<S, Ix1>) -> Option<i64>
+    ensures when { IsSome result ↔ FitsSigned w64 (pos (magnitude_sum (products_of int_products (λ x. x) x.now.cells x.now.cells))) }
+    ensures sum { IfSome result (λ sum. sum ≡ total int_sums (products_of int_products (λ x. x) x.now.cells x.now.cells)) }
+{
+    checked_dot(x, x)
 }

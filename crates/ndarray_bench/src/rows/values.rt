@@ -60,6 +60,7 @@ fn of_view(alloc: Global, view: &View<'_>, name: &str) -> Result<Option<String>,
         "len" => view.len().to_string(alloc).map(Some),
         "sums_fit" => view.sums_fit().to_string(alloc).map(Some),
         "sum" => sum(alloc, view).map(Some),
+        "checked_sum" => checked_sum(alloc, view).map(Some),
         "products_fit" => view.products_fit().to_string(alloc).map(Some),
         "product" => product(alloc, view).map(Some),
         _ => Ok(None),
@@ -161,6 +162,14 @@ fn sum(alloc: Global, view: &View<'_>) -> Result<String, AllocError> {
         view.sum().to_string(alloc)
     } else {
         "refused".to_string(alloc)
+    }
+}
+
+/// The sum of the cells, with its test at once; `none` where one of their selections may be out of range.
+fn checked_sum(alloc: Global, view: &View<'_>) -> Result<String, AllocError> {
+    match view.checked_sum() {
+        Some(sum) => sum.to_string(alloc),
+        None => "none".to_string(alloc),
     }
 }
 

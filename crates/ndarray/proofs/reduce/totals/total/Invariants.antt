@@ -1,8 +1,11 @@
-use Rattle.std.proofs.Common.{map}
-use Rattle.ndarray.proofs.sums.RunningSum.{RunningSum}
+use Rattle.std.proofs.Common.{length}
+use Rattle.ndarray.proofs.sums.RunningRuns.{RunningRuns}
 use Rattle.ndarray.proofs.reduce.totals.total.Given as goal
 
-abbrev pub invariant-loop-x : goal.invariant-loop-x
-invariant-loop-x g l =
+abbrev pub invariant-loop-run : goal.invariant-loop-run
+invariant-loop-run g l =
     let v = g.T.TotalOperation in
-    RunningSum v.operation v.InRange (map v.meaning l.array.cells) (map v.meaning l.x-iterator) (v.meaning l.total)
+    RunningRuns v.operation v.InRange v.meaning l.array.cells l.runs (v.meaning l.total)
+
+abbrev pub decreases-loop-run : goal.decreases-loop-run
+decreases-loop-run g l = length l.runs

@@ -1,0 +1,19 @@
+use Rattle.std.proofs.Common.{◌↔◌, [], map, refl, subst, sym}
+use Rattle.std.specs.Prelude.{IsTrue}
+use Rattle.ndarray.specs.Integers.{int_sums, negative_sum, positive_sum}
+use Rattle.ndarray.specs.Sums.{IsSummableBy}
+use Rattle.ndarray.proofs.lists.Decisions.{says_some}
+use Rattle.ndarray.proofs.sums.IntegerSelections.{tells_summable_by}
+use Rattle.ndarray.proofs.sums.SignedSums.{AddedApart-end}
+use Rattle.ndarray.proofs.base.array.ArrayBase.sums_fit.Goals as goal
+
+pub returns-clause-selections : goal.returns-clause-selections
+returns-clause-selections g c =
+    let v = g.A.Number.value in
+    let fits = g.A.Number.fits in
+    let cells = c.view.result.cells in
+    let exact = g.met.A.Integral.exact_law in
+    let both = says_some (fits (positive_sum (map v cells)) × fits (negative_sum (map v cells))) _ (λ s h. AddedApart-end fits (map v cells) [] (v s.up) (v s.down) refl h) c.signed_sums-2.result c.signed_sums-2.ensures in
+    subst (λ a. IsTrue c.is_some.result ↔ IsSummableBy int_sums fits v a.cells) c.view.ensures.same
+    (tells_summable_by fits (λ x y z. g.A.Number.between_law x y z exact) v cells c.is_some.result
+    (subst (λ b. IsTrue b ↔ (fits (positive_sum (map v cells)) × fits (negative_sum (map v cells)))) (sym c.is_some.ensures) both))
