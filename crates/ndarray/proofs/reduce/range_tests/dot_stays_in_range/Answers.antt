@@ -1,4 +1,4 @@
-use Rattle.std.proofs.Common.{◌≡◌, ◌∙◌, ◌∷◌, [], ap, arith, get_or, sym}
+use Rattle.std.proofs.Common.{◌∙◌, ◌∷◌, [], ap, arith, get_or, sym}
 use Rattle.ndarray.proofs.lists.Decisions.{says_no}
 use Rattle.ndarray.proofs.reduce.range_tests.dot_stays_in_range.Goals as goal
 
