@@ -9,6 +9,7 @@ pub mod elements_mut;
 pub mod indexed;
 pub mod indexed_mut;
 pub mod into_iter;
+pub(crate) mod row_elements;
 pub(crate) mod runs;
 mod updates;
 pub mod vectors;

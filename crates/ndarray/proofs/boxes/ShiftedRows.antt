@@ -1,5 +1,5 @@
 -- Index lists of a row counted from a start: they are a row too.
-use Rattle.std.proofs.Common.{◌≡◌, ℕ, ◌+◌, ◌-◌, ◌<◌, ◌≤◌, ◌^◌, suc, zero, List, [], ◌∷◌, length, map, set, get_or, Some, refl, sym, ◌∙◌, ap, arith}
+use Rattle.std.proofs.Common.{◌≡◌, ℕ, ◌+◌, ◌<◌, ◌≤◌, ◌^◌, suc, zero, List, [], ◌∷◌, length, map, set, get_or, Some, refl, sym, ◌∙◌, ap, arith}
 use Rattle.std.specs.Prelude.{All, filter_map}
 use Rattle.std.proofs.lemmas.List.{get_or-set_same, length-set}
 use Rattle.std.proofs.lemmas.List.Elements.{All-head, All-tail}

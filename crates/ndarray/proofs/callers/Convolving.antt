@@ -1,15 +1,14 @@
 -- Arrays that convolutions made: as lists of values, and two filters one after another.
-use Rattle.std.proofs.Common.{◌≡◌, ℕ, ◌≤◌, List, [], ◌∷◌, Option, None, Some, filter_map, length, map, refl, rules, sym, ap, ◌∙◌, arith, subst}
+use Rattle.std.proofs.Common.{◌≡◌, ℕ, ◌≤◌, List, [], ◌∷◌, Option, None, Some, length, map, refl, rules, sym, ap, ◌∙◌, arith, subst}
 use Rattle.std.specs.Prelude.{All, slice_index}
 use Rattle.std.specs.List.{range_with_len}
 use Rattle.std.proofs.lemmas.List.{length-map}
 use Rattle.std.proofs.lemmas.Simd.{map-map}
 use Rattle.ndarray.specs.Algebra.{CommutativeMonoid}
-use Rattle.ndarray.specs.Convolution.{convolution_products, filtered, filtered_by, full_convolution, full_convolution_by, full_length, valid_convolution_by, valid_counts, valid_products}
+use Rattle.ndarray.specs.Convolution.{convolution_products, filtered, full_convolution, full_length, valid_convolution_by, valid_counts, valid_products}
 use Rattle.ndarray.specs.ConvolutionLaws.{FiltersCompose}
-use Rattle.ndarray.specs.Grid.{Grid, IsGrid, array_by, cell, one_axis}
-use Rattle.ndarray.specs.Index.{InBox, row_order, size}
-use Rattle.ndarray.specs.Matrices.{values_below}
+use Rattle.ndarray.specs.Grid.{Grid, IsGrid, cell, one_axis}
+use Rattle.ndarray.specs.Index.{InBox, row_order}
 use Rattle.ndarray.specs.Products.{HasValues}
 use Rattle.ndarray.specs.Subviews.{ArePositive}
 use Rattle.ndarray.specs.Sums.{total}

@@ -1,5 +1,5 @@
 -- Answers that are written over the cells that they were computed from.
-use Rattle.std.proofs.Common.{◌≡◌, ◌≢◌, ℕ, List, [], ◌∷◌, ◌++◌, length, map, drop, Option, Some, None, Result, Ok, Err, inl, inr, refl, sym, subst, ap, ◌∙◌, arith, append-nil, append_assoc, length-append}
+use Rattle.std.proofs.Common.{◌≡◌, ◌≢◌, ℕ, List, [], ◌∷◌, ◌++◌, length, map, drop, Option, Some, Result, Ok, Err, inl, inr, refl, sym, subst, ap, ◌∙◌, arith, append-nil, append_assoc, length-append}
 use Rattle.std.specs.Prelude.{All, IsTrue, filter_map, ⊤}
 use Rattle.std.specs.Option.{is_some}
 use Rattle.std.specs.List.{FoldsTo}
@@ -9,7 +9,7 @@ use Rattle.ndarray.specs.Index.{InBox}
 use Rattle.ndarray.specs.Grid.{Grid, IsGrid, cell}
 use Rattle.ndarray.specs.Orders.{box_in, cells_in}
 use Rattle.ndarray.specs.Producers.{both}
-use Rattle.ndarray.specs.Runs.{MayTurnAt, TurnAt, TakesAt, StopsAt, EndsOrStops, GatherTurn, MayGather}
+use Rattle.ndarray.specs.Runs.{MayTurnAt, TurnAt, TakesAt, StopsAt, GatherTurn, MayGather}
 use Rattle.ndarray.specs.Updates.{answers, is_cell_beside, UpdatesUntil}
 use Rattle.ndarray.specs.Writes.{with_cell}
 use Rattle.ndarray.specs.base.Places.{place, Reaches, grid_at}

@@ -1,7 +1,7 @@
 -- A test of each window says what it says of all positions.
-use Rattle.std.proofs.Common.{◌≡◌, ◌∙◌, ℕ, List, Bool, false, true, Some, ap, rules, sym, subst}
+use Rattle.std.proofs.Common.{◌≡◌, ◌∙◌, ℕ, List, Bool, false, Some, ap, rules, subst}
 use Rattle.std.specs.Prelude.{ℤ, pos, IsTrue, ◌↔◌}
-use Rattle.ndarray.specs.Convolution.{HasWindowMagnitudesInRange, TestsProducts, single_steps, valid_counts, window_products}
+use Rattle.ndarray.specs.Convolution.{TestsProducts, single_steps, valid_counts, window_products}
 use Rattle.ndarray.specs.Grid.{Grid, array_by, cell}
 use Rattle.ndarray.specs.Index.{InBox}
 use Rattle.ndarray.specs.Integers.{int_products, int_sums}

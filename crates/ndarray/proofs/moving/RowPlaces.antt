@@ -5,7 +5,6 @@ use Rattle.std.proofs.lemmas.List.{map-append, get_or_append_left, get_or-append
 use Rattle.std.proofs.lemmas.List.Elements.{All-head, All-tail}
 use Rattle.ndarray.specs.Grid.{cell}
 use Rattle.ndarray.specs.Index.{InBox}
-use Rattle.ndarray.specs.Orders.{box_in}
 use Rattle.ndarray.specs.Rows.{rows_in, joined}
 use Rattle.ndarray.specs.base.Places.{place, Reaches, grid_at}
 use Rattle.ndarray.specs.base.Ranks.{row_from}
@@ -16,7 +15,7 @@ use Rattle.ndarray.proofs.boxes.Boxes.{InBox-length}
 use Rattle.ndarray.proofs.boxes.Rows.{rows-joined, rows-within}
 use Rattle.ndarray.proofs.lists.Elements.{filter_map-same, map-same}
 use Rattle.ndarray.proofs.moving.BorrowedCells.{AreDistinctPlaces-all}
-use Rattle.ndarray.proofs.moving.SomePlaces.{places-first, found-moved}
+use Rattle.ndarray.proofs.moving.SomePlaces.{found-moved}
 use Rattle.ndarray.proofs.strides.ContiguousCells.{filter_map-map}
 use Rattle.ndarray.proofs.strides.Reach.{cell-at}
 use Rattle.ndarray.proofs.strides.Rows.{row-first, row-places}

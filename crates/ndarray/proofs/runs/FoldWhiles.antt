@@ -1,5 +1,5 @@
 -- A run of a fold with stop, from turns that stop with what is done.
-use Rattle.std.proofs.Common.{◌≡◌, ℕ, List, Result, Ok, Err, MatchResult, sym, ◌∙◌, ap}
+use Rattle.std.proofs.Common.{◌≡◌, ℕ, List, Result, Ok, Err, MatchResult, ◌∙◌, ap}
 use Rattle.ndarray.specs.Runs.{TurnAt, StopsAt, EndsOrStops, GoTurn, FoldsWhile}
 use Rattle.ndarray.specs.declared.zip.fold_while.FoldWhile.{FoldWhile}
 use Rattle.ndarray.specs.declared.zip.fold_while.FoldWhile.TheVariants.{Continue, Done}

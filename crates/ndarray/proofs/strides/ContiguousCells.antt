@@ -11,7 +11,7 @@ use Rattle.ndarray.specs.declared.base.shape.Order.TheVariants.{RowMajor, Column
 use Rattle.ndarray.specs.base.Ranks.{rank}
 use Rattle.ndarray.specs.base.Places.{place, cells_at, Reaches}
 use Rattle.ndarray.specs.base.Slots.{held_at, IsRun}
-use Rattle.ndarray.proofs.lists.Elements.{same_from_slice_get, some-of, slice_get-take}
+use Rattle.ndarray.proofs.lists.Elements.{same_from_slice_get, some-of}
 use Rattle.ndarray.proofs.cells.Cells.{along-row_order}
 use Rattle.ndarray.proofs.boxes.Orders.{row_order-back}
 use Rattle.ndarray.proofs.strides.Reach.{length-cells_at, slice_get-cells_at}

@@ -11,7 +11,7 @@ ghost use Rattle.ndarray.specs.stacking.Blocks.{HasBlockAt, MayJoin, all_blocks,
 use crate::base::array::{Array, ArrayView};
 use crate::base::builder::ArrayBuilder;
 use crate::base::dimension::Lengths;
-use crate::iter::ElementsBase;
+use crate::iter::row_elements::RowElements;
 use crate::order::{Order, Walk};
 use crate::stacking::shapes::JoinedShape;
 use std::alloc::{AllocError, Global};
@@ -60,7 +60,7 @@ fn push_blocks<A: Clone, D: Lengths, E: Lengths>(
 {
     for array in arrays {
         let count = block_len(axis, &array.raw_dim());
-        let cells = ElementsBase::starting_at(array.again(), index.copied(), count);
+        let cells = RowElements::starting_at(array.again(), index.copied(), count);
         push_clones(builder, cells)?;
     }
     Ok(())
@@ -69,7 +69,7 @@ fn push_blocks<A: Clone, D: Lengths, E: Lengths>(
 /// Pushes clones of cells, row by row.
 fn push_clones<A: Clone, D: Lengths, E: Lengths>(
     builder: &mut ArrayBuilder<A, E>,
-    mut cells: ElementsBase<'_, A, D>,
+    mut cells: RowElements<'_, A, D>,
 ) -> Result<(), AllocError>
     requires clones { ClonesAreEqual A.is_clone }
     requires room { length builder.old.cells + length cells ≤ size builder.old.lengths }

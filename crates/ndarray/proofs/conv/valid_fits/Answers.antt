@@ -1,11 +1,10 @@
 use Rattle.std.proofs.Common.{◌≡◌, ◌∙◌, List, ℕ, ap, reverse, subst, sym}
 use Rattle.std.specs.Prelude.{pos}
-use Rattle.ndarray.specs.Convolution.{valid_counts, valid_products, window_products}
+use Rattle.ndarray.specs.Convolution.{valid_counts, window_products}
 use Rattle.ndarray.specs.Grid.{IsGrid}
 use Rattle.ndarray.specs.Index.{InBox}
 use Rattle.ndarray.specs.Integers.{int_products, int_sums}
 use Rattle.ndarray.specs.Products.{magnitude_sum}
-use Rattle.ndarray.specs.Subviews.{window}
 use Rattle.ndarray.specs.Sums.{IsSummable}
 use Rattle.ndarray.proofs.convolution.WindowSums.{window_products-valid}
 use Rattle.ndarray.proofs.conv.valid_fits.Goals as goal

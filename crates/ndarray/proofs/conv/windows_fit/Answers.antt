@@ -1,4 +1,4 @@
-use Rattle.std.proofs.Common.{◌≡◌, ◌∙◌, List, ℕ, Bool, true, false, ap, subst}
+use Rattle.std.proofs.Common.{◌≡◌, ◌∙◌, List, ℕ, true, false, ap, subst}
 use Rattle.std.specs.Prelude.{IsTrue, pos, ◌↔◌}
 use Rattle.ndarray.specs.Convolution.{single_steps, valid_counts, window_products}
 use Rattle.ndarray.specs.Grid.{array_by}
