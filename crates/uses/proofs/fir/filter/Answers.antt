@@ -9,7 +9,7 @@ use Rattle.ndarray.proofs.callers.Joining.{one_axis-is}
 use Rattle.ndarray.proofs.cells.Cells.{cell-inside}
 use Rattle.ndarray.proofs.convolution.KernelSums.{single-sum}
 use Rattle.ndarray.proofs.convolution.OneAxis.{valid_counts-one}
-use Rattle.ndarray_bench.proofs.callers.filters.filter_signal.Goals as goal
+use Rattle.uses.proofs.fir.filter.Goals as goal
 
 -- how many places there are
 counts : {A : Type 0} (signal taps : Grid A) → length signal.lengths ≡ 1 → IsGrid signal → length taps.lengths ≡ 1 → IsGrid taps → valid_counts signal.lengths taps.lengths ≡ valid_length (length signal.cells) (length taps.cells) ∷ []

@@ -1,9 +1,16 @@
-use Rattle.std.proofs.Common.{◌≡◌, ◌∙◌, ◌∷◌, [], ℕ, sym}
+use Rattle.std.proofs.Common.{◌≡◌, ◌∙◌, ◌∷◌, ◌-◌, [], ℕ, zero, suc, ap, arith, refl, sym}
 use Rattle.ndarray.specs.Grid.{cell}
-use Rattle.ndarray_bench.specs.Uses.{before, living}
-use Rattle.ndarray_bench.proofs.Uses.{before-none, before-some}
-use Rattle.ndarray_bench.proofs.callers.uses.count_in_row.Goals as goal
-use Rattle.ndarray_bench.proofs.callers.uses.count_in_row.Goals.{then-j-eq0, else-j-eq0}
+use Rattle.uses.specs.Life.{before, living}
+use Rattle.uses.proofs.life.count_in_row.Goals as goal
+use Rattle.uses.proofs.life.count_in_row.Goals.{then-j-eq0, else-j-eq0}
+
+before-none : (f : ℕ → ℕ) (n : ℕ) → n ≡ 0 → before f n ≡ 0
+before-none f zero e = refl
+before-none f (suc n) e = absurd (omega (arith, e))
+
+before-some : (f : ℕ → ℕ) (n : ℕ) → (n ≡ 0 → ⊥) → before f n ≡ f (n - 1)
+before-some f zero some = absurd (some refl)
+before-some f (suc n) some = ap f (omega arith)
 
 pub returns-clause-count : goal.returns-clause-count
 returns-clause-count c =

@@ -8,7 +8,7 @@ use Rattle.ndarray.proofs.callers.Elementwise.{array_by-follows}
 use Rattle.ndarray.proofs.cells.Cells.{cell-inside}
 use Rattle.ndarray.proofs.convolution.KernelSums.{double-sum}
 use Rattle.ndarray.proofs.convolution.OneAxis.{valid_counts-two}
-use Rattle.ndarray_bench.proofs.callers.filters.filter_image.Goals as goal
+use Rattle.uses.proofs.picture.filter.Goals as goal
 
 pub returns-clause-pixels : goal.returns-clause-pixels
 returns-clause-pixels g c =

@@ -5,7 +5,7 @@ use Rattle.ndarray.specs.declared.base.error.ErrorKind.{ErrorKind}
 use Rattle.ndarray.specs.declared.stacking.error.StackError.TheVariants.{Shape}
 use Rattle.ndarray.specs.Joining.{concatenate_error, concatenation, shapes_of}
 use Rattle.ndarray.specs.Views.{axis_inserted}
-use Rattle.ndarray_bench.proofs.callers.uses.with_row_below.Goals as goal
+use Rattle.uses.proofs.report.with_row_below.Goals as goal
 
 pub returns-clause-cells : goal.returns-clause-cells
 returns-clause-cells c =

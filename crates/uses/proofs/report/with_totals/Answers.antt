@@ -1,4 +1,4 @@
-use Rattle.std.proofs.Common.{rules, ◌≡◌, ◌∙◌, ◌+◌, ◌<◌, ◌∷◌, [], Some, ap, arith, length, refl, remove, subst, sym}
+use Rattle.std.proofs.Common.{rules, ◌≡◌, ◌∙◌, ◌+◌, ◌<◌, ◌∷◌, [], Some, ap, arith, length, refl, pos, remove, subst, sym}
 use Rattle.std.specs.Prelude.{Err, FitsSigned, slice_index}
 use Rattle.std.specs.Int.{w64}
 use Rattle.ndarray.specs.AlongAxis.{IsTotalOf}
@@ -7,15 +7,15 @@ use Rattle.ndarray.specs.Errors.{shape_error}
 use Rattle.ndarray.specs.Grid.{array_by, cell}
 use Rattle.ndarray.specs.Integers.{int_sums}
 use Rattle.ndarray.specs.Joining.{concatenate_error}
+use Rattle.ndarray.specs.Products.{value_or}
 use Rattle.ndarray.specs.Subviews.{lane}
 use Rattle.ndarray.specs.Sums.{total}
 use Rattle.ndarray.specs.declared.stacking.error.StackError.TheVariants.{Shape}
 use Rattle.ndarray.proofs.callers.Collecting.{lanes_of-some}
 use Rattle.ndarray.proofs.callers.Lanes.{lane-maps, lanes-summable}
 use Rattle.ndarray.proofs.callers.RowsBelow.{first-and-rest, row-below}
-use Rattle.ndarray_bench.specs.Callers.{whole_number}
-use Rattle.ndarray_bench.specs.Uses.{total_below}
-use Rattle.ndarray_bench.proofs.callers.uses.with_totals.Goals as goal
+use Rattle.uses.specs.Report.{total_below}
+use Rattle.uses.proofs.report.with_totals.Goals as goal
 
 pub sum_axis-requires-clause-lanes : goal.sum_axis-requires-clause-lanes
 sum_axis-requires-clause-lanes g c =
@@ -33,8 +33,8 @@ returns-clause-totals g c =
     let some : 0 < length v.lengths = omega (arith, two, same) in
     let lengths : row.lengths ≡ remove v.lengths 0 = ap (λ w. w.lengths) c.view.ensures.same ∙ (totals.lengths ∙ ap (λ w. w.lengths) (lanes_of-some v.lengths v 0 some)) in
     let long : v.lengths ≡ slice_index v.lengths 0 ∷ row.lengths = first-and-rest v.lengths some ∙ ap (λ ms. slice_index v.lengths 0 ∷ ms) (sym lengths) in
-    row-below v row (slice_index v.lengths 0) c.view.ensures.whole long (λ is. whole_number (cell v is)) (λ js. total int_sums (lane v 0 js).cells)
-    (λ is x e. ap whole_number (sym e))
+    row-below v row (slice_index v.lengths 0) c.view.ensures.whole long (λ is. value_or (λ x. x) (pos 0) (cell v is)) (λ js. total int_sums (lane v 0 js).cells)
+    (λ is x e. ap (value_or (λ x. x) (pos 0)) (sym e))
     (λ js x e. lane-maps v 0 some (IsTotalOf int_sums (λ x. x)) c.in_ok-totals.totals totals js x (ap (λ w. cell w js) (sym c.view.ensures.same) ∙ e))
     c.in_ok-made.made c.in_ok-made.ensures.whole c.in_ok-made.ensures.cells
     ∙ (ap (λ ms. array_by ((slice_index v.lengths 0 + 1) ∷ ms) (total_below v)) lengths

@@ -5,8 +5,8 @@ use Rattle.std.specs.Int.{int_shr}
 use Rattle.ndarray.specs.Grid.{array_by}
 use Rattle.ndarray.proofs.callers.Mapping.{maps-follow-twice}
 use Rattle.ndarray_bench.specs.Callers.{whole_number}
-use Rattle.ndarray_bench.specs.Uses.{amplified_at}
-use Rattle.ndarray_bench.proofs.callers.uses.amplify.Goals as goal
+use Rattle.ndarray_bench.specs.RangeTests.{amplified_at}
+use Rattle.ndarray_bench.proofs.callers.range_tests.amplify.Goals as goal
 
 pub returns-then-not-mul_scalar_fits-clause-when : goal.returns-then-not-mul_scalar_fits-clause-when
 returns-then-not-mul_scalar_fits-clause-when g c = (λ off. absurd (search rules), λ can. c.if-not-mul_scalar_fits.ensures.exact.1 (λ is x here. search (rules, can is x here)))

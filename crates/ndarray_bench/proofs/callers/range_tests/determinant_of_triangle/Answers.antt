@@ -4,8 +4,8 @@ use Rattle.std.proofs.lemmas.Bool.{cases_eq}
 use Rattle.std.proofs.lemmas.Int.{to_z-of_z}
 use Rattle.ndarray.specs.Grid.{Grid, cell}
 use Rattle.ndarray_bench.specs.Callers.{whole_number}
-use Rattle.ndarray_bench.specs.Uses.{diagonal_product}
-use Rattle.ndarray_bench.proofs.callers.uses.determinant_of_triangle.Goals as goal
+use Rattle.ndarray_bench.specs.RangeTests.{diagonal_product}
+use Rattle.ndarray_bench.proofs.callers.range_tests.determinant_of_triangle.Goals as goal
 
 next-product : (a : Grid ℤ) (n : ℕ) (p x : ℤ) → p ≡ diagonal_product a n → whole_number (cell a (n ∷ n ∷ [])) ≡ x → diagonal_product a (n + 1) ≡ p *ℤ x
 next-product a n p x before here =
