@@ -6,7 +6,7 @@
 //! that rests on it, as `mat_assoc::<A>();`. The clause is then known in the proof of that function, as `c.mat_assoc.ensures`;
 //! when the program runs, the call does nothing.
 //!
-//! The laws of products are on matrices of values (`specs/MatrixLaws.antt`), those of convolutions on lists of values
+//! The laws of products are on matrices of values (`specs/MatrixLaws.antt`, `specs/MatrixPowers.antt`), those of convolutions on lists of values
 //! (`specs/ConvolutionLaws.antt`), the others on arrays (`specs/Laws.antt`, and of `dot` `specs/DotLaws.antt`).
 //! `proofs/callers/SameMatrices.antt` has the lemmas that lead from an array that `dot` or `kron` made to its matrix and back.
 
@@ -15,6 +15,7 @@ ghost use Rattle.ndarray.specs.ConvolutionLaws.{ArrayFiltersCompose, Convolution
 ghost use Rattle.ndarray.specs.DotLaws.{DotIsMatrixProduct, LaneSumsAreMatrixSums, ShapesMultiplyAsMatrices};
 ghost use Rattle.ndarray.specs.Laws.{AxisSumArraysAddUp, AxisSumsAddUp, AxisSumsStayInRange, CellsHaveEqualTotals, ColumnOrderRearranges, DifferencesAdd, DifferencesCanBeTaken, OrdersHaveEqualTotals, StackIsConcatenation, TriangleSumsAddUp, TrianglesPart};
 ghost use Rattle.ndarray.specs.MatrixLaws.{KroneckersAssociate, KroneckersMultiply, KroneckersTranspose, ProductsAssociate, ProductsTranspose};
+ghost use Rattle.ndarray.specs.MatrixPowers.{IdentityIsNeutral, PowersAdd};
 
 use crate::elements::{LinalgScalar, Valued};
 use std::ops::Sub;
@@ -38,6 +39,13 @@ pub fn column_order<A: Valued>()
 /// ```
 pub fn mat_assoc<A: LinalgScalar>()
     ensures { ProductsAssociate A.addition A.multiplication }
+{}
+
+/// Powers of a square matrix: the identity matrix changes nothing, and the product of power i and power j is power i + j. So
+/// power 2i is the square of power i.
+pub fn mat_powers<A: LinalgScalar>()
+    ensures identity { IdentityIsNeutral A.addition A.multiplication }
+    ensures adds { PowersAdd A.addition A.multiplication }
 {}
 
 /// The transpose of AB is the transpose of B times the transpose of A, where the inner lengths are equal.

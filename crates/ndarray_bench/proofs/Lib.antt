@@ -1,4 +1,2 @@
 mod Grants
-pub mod FibonacciPowers
 pub mod PairedProducts
-pub mod Uses

@@ -9,7 +9,7 @@ use Rattle.ndarray.specs.Subviews.{lane, window}
 use Rattle.ndarray.specs.Sums.{total}
 use Rattle.ndarray.specs.Views.{broadcast_to}
 use Rattle.ndarray_bench.specs.PairedProducts.{number}
-use Rattle.ndarray_bench.specs.Residue.{Below, modulus_pos, residue_products, residue_sums}
+use Rattle.residue.specs.Residue.{Below, modulus_pos, residue_products, residue_sums}
 
 -- half of the cell at an index list
 abbrev pub half_at : Grid ℕ → List ℕ → ℕ

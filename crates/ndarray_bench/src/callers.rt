@@ -7,7 +7,6 @@ pub mod laws;
 pub mod range_tests;
 pub mod reading;
 pub mod updating;
-pub mod uses;
 pub mod writing;
 
 ghost use Rattle.std.specs.Prelude.{◌≡◌, ◌≢◌, ◌↔◌, ◌<◌, ◌≤◌, ◌^◌, ◌∷◌, [], ◌++◌, ◌+ℤ◌, ◌-ℤ◌, ◌/◌, ◌*◌, ℕ, ℤ, List, Some, length, map, max, nat_lt, pos, replicate, slice_index, false, IfErr, IfOk, IfSome, IsOk, IsSome, IsTrue, FitsSigned};
@@ -26,9 +25,8 @@ ghost use Rattle.ndarray.specs.Subviews.{window_counts};
 ghost use Rattle.ndarray.specs.Sums.{IsSummable, total, total_by};
 ghost use Rattle.ndarray.specs.WholeValues.{HasMagnitudesInRange};
 ghost use Rattle.ndarray_bench.specs.Callers.{greater_at, greatest_in_square, half_at, multiple_added, off_diagonal, product_added, rest_at, row_total, sum_at, sum_below};
-ghost use Rattle.ndarray_bench.specs.Residue.{Below, modulus, modulus_pos, residue_products, residue_sums};
+ghost use Rattle.residue.specs.Residue.{Below, modulus, modulus_pos, residue_products, residue_sums};
 
-use crate::residue::Residue;
 use ndarray::iter::{to_vec, to_vec_mapped};
 use ndarray::linalg::{
     dot_ok, entries_fit, general_mat_mul, general_mat_vec_mul, mat_mul_ok, mat_vec_ok,
@@ -39,6 +37,7 @@ use ndarray::{
     StackError, Valued, Zip, concatenate, scalar_left, stack,
 };
 use num_traits::{One, Zero};
+use residue::Residue;
 use std::alloc::{AllocError, Global};
 
 /// Half of each cell, rounded down, whatever keeps the cells and however they lie.

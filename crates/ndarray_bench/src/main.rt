@@ -7,9 +7,7 @@
 
 pub mod callers;
 mod counts;
-pub mod fibonacci;
 pub mod refusing;
-pub mod residue;
 mod rows;
 pub mod walks;
 

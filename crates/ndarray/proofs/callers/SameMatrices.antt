@@ -2,7 +2,7 @@
 use Rattle.std.proofs.Common.{◌≡◌, ◌∙◌, ◌<◌, ◌*◌, ◌/◌, ◌%◌, ℕ, zero, suc, List, [], ◌∷◌, Some, ap, arith, get_or, length, refl, subst, sym, reverse}
 use Rattle.std.proofs.lemmas.List.{length-reverse}
 use Rattle.ndarray.specs.Chains.{HasColumn, HasMatrix}
-use Rattle.ndarray.specs.Grid.{Grid, IsGrid, cell}
+use Rattle.ndarray.specs.Grid.{Grid, IsGrid, array_by, cell}
 use Rattle.ndarray.specs.Index.{InBox}
 use Rattle.ndarray.specs.Matrices.{IsSameMatrix, Matrix, inner_products, kronecker_product, transpose, values_below}
 use Rattle.ndarray.specs.Products.{HasProductsInRange, HasSumsInRange, column_entries, column_of, matrix_entries, matrix_of, product_of, value_or}
@@ -10,7 +10,7 @@ use Rattle.ndarray.specs.Sums.{IsSummable, total}
 use Rattle.ndarray.specs.Views.{transpose_of}
 use Rattle.ndarray.specs.declared.elements.Valued.{Ghosts as ValuedGhosts}
 use Rattle.ndarray.proofs.boxes.ProductShapes.{quotient-below}
-use Rattle.ndarray.proofs.cells.Cells.{cell-Some, cell-inside, same_grid, tabulate-cell}
+use Rattle.ndarray.proofs.cells.Cells.{array_by-cell, array_by-whole, cell-Some, cell-inside, same_grid, tabulate-cell}
 use Rattle.ndarray.proofs.cells.Matrices.{below-same, two-lengths}
 
 -- ---- the same matrix
@@ -85,6 +85,31 @@ module _ {A : Type 0} (e : ValuedGhosts A) where
             let b : InBox r.lengths (i ∷ j ∷ []) = subst (λ ns. InBox ns (i ∷ j ∷ [])) (sym made.lengths) (subst (λ n. i < n) rows l, (subst (λ n. j < n) columns k, tt)) in
             let (x, at) = cell-Some r made.whole (i ∷ j ∷ []) b in
             ap (value_or e.meaning e.addition.unit) at ∙ made.cells (i ∷ j ∷ []) x at;
+      }
+
+  -- an array of two axes has the values of its matrix
+  pub own-matrix : (g : Grid A) → IsGrid g → length g.lengths ≡ 2 → HasMatrix e (matrix_of e g) g
+  own-matrix g whole two = record {
+    lengths = two-lengths g.lengths two;
+    whole = whole;
+    cells = λ is x at.
+        let (i, j, here, l, k) = two-indices (get_or g.lengths 0 0) (get_or g.lengths 1 0) is (subst (λ ns. InBox ns is) (two-lengths g.lengths two) (cell-inside g is x at)) in
+        sym (ap (λ js. matrix_entries (matrix_of e g) js) here ∙ ap (value_or e.meaning e.addition.unit) (sym (ap (cell g) here) ∙ at));
+  }
+
+  -- an array made by a function of the index list has the values of a matrix where the function gives them
+  pub matrix-by : (m : Matrix e.Carrier) (f : List ℕ → A) → ((i j : ℕ) → i < m.rows → j < m.columns → e.meaning (f (i ∷ j ∷ [])) ≡ m.cell i j) → (r : Grid A) → r ≡ array_by (m.rows ∷ m.columns ∷ []) f → HasMatrix e m r
+  matrix-by m f each r made =
+      let lengths : r.lengths ≡ m.rows ∷ m.columns ∷ [] = ap (λ w. w.lengths) made in
+      record {
+        lengths = lengths;
+        whole = subst IsGrid (sym made) (array_by-whole (m.rows ∷ m.columns ∷ []) f);
+        cells = λ is x at.
+            let b : InBox (m.rows ∷ m.columns ∷ []) is = subst (λ ns. InBox ns is) lengths (cell-inside r is x at) in
+            let (i, j, here, l, k) = two-indices m.rows m.columns is b in
+            let there : Some x ≡ Some (f is) = sym at ∙ (ap (λ w. cell w is) made ∙ array_by-cell (m.rows ∷ m.columns ∷ []) f is b) in
+            let own : x ≡ f is = cc in
+            ap e.meaning own ∙ (ap (λ js. e.meaning (f js)) here ∙ (each i j l k ∙ sym (ap (matrix_entries m) here)));
       }
 
   -- two arrays with the values of the same matrix are equal

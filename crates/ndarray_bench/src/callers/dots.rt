@@ -6,12 +6,12 @@ ghost use Rattle.ndarray.specs.DotRanges.{HasLaneMagnitudesInRange};
 ghost use Rattle.ndarray.specs.Index.{size};
 ghost use Rattle.ndarray.specs.Products.{HasSumsInRange, HasValues, ShapesMultiply, dot_entries, product_lengths};
 
-use crate::residue::Residue;
 use ndarray::laws::dot_agrees;
 use ndarray::linalg::{Dot, dot_ok, entries_fit};
 use ndarray::{
     Array, ArrayBase, ArrayView, Data, IntegerScalar, IxDyn, Lengths, LinalgScalar, Valued,
 };
+use residue::Residue;
 use std::alloc::{AllocError, Global};
 
 /// The product of two arrays of residues modulo 97, which never leaves the range, or `None` where their shapes do not multiply.

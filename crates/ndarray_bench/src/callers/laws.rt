@@ -2,9 +2,8 @@
 
 ghost use Rattle.std.specs.Prelude.{◌≡◌, ◌≢◌, ◌↔◌, ◌≤◌, ◌<◌, ◌∷◌, [], ◌+◌, ◌-◌, ◌^◌, pos, negsuc, ◌<ℤ◌, ◌+ℤ◌, length, reverse, slice_index, Err, None, IfErr, IfOk, IfSome, IsOk, IsSome, FitsSigned};
 ghost use Rattle.std.specs.Int.{w64};
-ghost use Rattle.ndarray.specs.AlongAxis.{IsDifferenceOf, IsTotalOf};
+ghost use Rattle.ndarray.specs.AlongAxis.{IsDifferenceOf};
 ghost use Rattle.ndarray.specs.Chains.{HasColumn, HasMatrix, ShapesChain, ShapesMultiplyInPairs};
-ghost use Rattle.ndarray.specs.Elementwise.{Maps};
 ghost use Rattle.ndarray.specs.Errors.{shape_error};
 ghost use Rattle.ndarray.specs.Grid.{IsGrid};
 ghost use Rattle.ndarray.specs.Index.{size};
@@ -14,22 +13,21 @@ ghost use Rattle.ndarray.specs.Laws.{ArePartsOf, CanTakeDifference};
 ghost use Rattle.ndarray.specs.Limits.{IsWithinLimit};
 ghost use Rattle.ndarray.specs.Matrices.{kronecker_product, transpose};
 ghost use Rattle.ndarray.specs.Products.{HasSumsInRange, MakesMatrix, column_of, matrix_of, product_lengths, product_of};
-ghost use Rattle.ndarray.specs.Subviews.{lanes_of};
 ghost use Rattle.ndarray.specs.Sums.{IsSummable, total};
 ghost use Rattle.ndarray.specs.Views.{transpose_of};
 ghost use Rattle.ndarray.specs.declared.base.error.ErrorKind.{ErrorKind};
 ghost use Rattle.ndarray.specs.declared.stacking.error.StackError.TheVariants.{Shape};
 ghost use Rattle.ndarray_bench.specs.Chains.{HasBothChainsInRange, ShapesMultiplyInTurn};
 
-use crate::residue::Residue;
 use ndarray::laws::{
-    axis_sums, column_order, diff_adds, mat_assoc, mat_transpose, stack_is_concat, triangles_part,
+    column_order, diff_adds, mat_assoc, mat_transpose, stack_is_concat, triangles_part,
 };
 use ndarray::linalg::{chain_ok, kron_dot, kron_dot_ok, mat_vec_chain};
 use ndarray::{
     Array, ArrayBase, ArrayView, Axis, Data, Ix1, Ix2, Lengths, LinalgScalar, StackError, Valued,
     concatenate,
 };
+use residue::Residue;
 use std::alloc::{AllocError, Global};
 use std::ops::Sub;
 
@@ -46,29 +44,6 @@ pub fn sum_by_columns<S: Data<Elem = i64>, D: Lengths>(array: &ArrayBase<S, D>) 
     } else {
         None
     }
-}
-
-/// The sums of a table's rows, those of its columns, and the sum of all cells, which is added up from the sums of the rows; or `None`
-/// where some of its numbers add up to more than an `i64`. The error is allocation failure.
-pub fn table_totals<S: Data<Elem = i64>>(
-    alloc: Global,
-    table: &ArrayBase<S, Ix2>,
-) -> Result<Option<(Array<i64, Ix1>, Array<i64, Ix1>, i64)>, AllocError>
-    ensures fits { IfOk result (λ made. IsSome made ↔ IsSummable int_sums (FitsSigned w64) table.now.cells) }
-    ensures rows { IfOk result (λ made. IfSome made (λ t. Maps (IsTotalOf int_sums (λ x. x)) (lanes_of table.now 1) t.0)) }
-    ensures columns { IfOk result (λ made. IfSome made (λ t. Maps (IsTotalOf int_sums (λ x. x)) (lanes_of table.now 0) t.1)) }
-    ensures all { IfOk result (λ made. IfSome made (λ t. t.2 ≡ total int_sums table.now.cells)) }
-    ensures error { IfErr result (λ _. IsSummable int_sums (FitsSigned w64) table.now.cells × (slice_index table.now.lengths 0 + slice_index table.now.lengths 1 ≢ 0)) }
-{
-    axis_sums::<i64>();
-    let table = table.view();
-    if !table.sums_fit() {
-        return Ok(None);
-    }
-    let rows = table.sum_axis(alloc, Axis(1))?;
-    let columns = table.sum_axis(alloc, Axis(0))?;
-    let all = rows.sum();
-    Ok(Some((rows, columns, all)))
 }
 
 /// (AB)C and A(BC), which are equal arrays. The error is allocation failure.

@@ -1,18 +1,22 @@
 //! Functions on integers that ask first whether the results are in range, so that none requires anything.
 
-ghost use Rattle.std.specs.Prelude.{◌≡◌, ◌≢◌, ◌↔◌, ◌+ℤ◌, ◌-ℤ◌, ◌*ℤ◌, ◌*◌, ◌-◌, ◌∷◌, [], map, pos, neg_ℤ, false, FitsSigned, IfErr, IfOk, IfSome, IsOk, IsSome, IsTrue, slice_index};
+ghost use Rattle.std.specs.Prelude.{◌≡◌, ◌≢◌, ◌↔◌, ◌<◌, ◌+ℤ◌, ◌-ℤ◌, ◌*ℤ◌, ◌*◌, ◌-◌, ◌∷◌, [], map, pos, neg_ℤ, false, FitsSigned, IfErr, IfOk, IfSome, IsOk, IsSome, IsTrue, slice_index};
 ghost use Rattle.std.specs.Int.{w64};
 ghost use Rattle.ndarray.specs.Broadcast.{broadcast_lengths};
 ghost use Rattle.ndarray.specs.Elementwise.{Assigns, CanAssign, CanCombine, CanMap, Combines, Maps};
+ghost use Rattle.ndarray.specs.Grid.{array_by};
 ghost use Rattle.ndarray.specs.Index.{size};
 ghost use Rattle.ndarray.specs.Integers.{int_products, int_sums, magnitude_product};
 ghost use Rattle.ndarray.specs.Products.{HasValues, ShapesMultiply, column_entries, column_of, magnitude_sum, matrix_entries, matrix_of, product_of, products_of};
 ghost use Rattle.ndarray.specs.Sums.{IsSummableBy, total, total_by};
 ghost use Rattle.ndarray.specs.WholeValues.{HasMagnitudesInRange, whole_numbers};
+ghost use Rattle.ndarray_bench.specs.RangeTests.{HasDiagonalInRange, amplified_at, diagonal_product};
 
 use ndarray::linalg::entries_fit;
 use ndarray::reduce::{checked_dot, dot_fits};
-use ndarray::{Array, ArrayBase, Data, DataMut, DimMax, IntegerScalar, Ix1, Ix2, Lengths, Valued};
+use ndarray::{
+    Array, ArrayBase, Data, DataMut, DimMax, Dimension, IntegerScalar, Ix1, Ix2, Lengths, Valued,
+};
 use std::alloc::{AllocError, Global};
 
 /// Subtracts a row from each row of a table; or returns `false`, where the row does not broadcast to the table's shape or a
@@ -218,4 +222,49 @@ pub fn squared_length<S: Data<Elem = i64>>(x: &ArrayBase<S, Ix1>) -> Option<i64>
     ensures sum { IfSome result (λ sum. sum ≡ total int_sums (products_of int_products (λ x. x) x.now.cells x.now.cells)) }
 {
     checked_dot(x, x)
+}
+
+/// Each sample of a fixed-point signal times a gain, and then shifted right by a number of bits, which rounds down; or `None` where a
+/// product is no `i64`. The error is allocation failure.
+pub fn amplify<S: Data<Elem = i64>>(
+    alloc: Global,
+    signal: &ArrayBase<S, Ix1>,
+    gain: i64,
+    bits: u32,
+) -> Result<Option<Array<i64, Ix1>>, AllocError>
+    requires { bits < 64 }
+    ensures when { IfOk result (λ made. IsSome made ↔ CanMap (λ x. FitsSigned w64 (x *ℤ gain)) signal.now) }
+    ensures samples { IfOk result (λ made. IfSome made (λ s. s ≡ array_by signal.now.lengths (amplified_at gain bits signal.now))) }
+    ensures error { IfErr result (λ _. CanMap (λ x. FitsSigned w64 (x *ℤ gain)) signal.now × (size signal.now.lengths ≢ 0)) }
+{
+    if !signal.mul_scalar_fits(gain) {
+        return Ok(None);
+    }
+    let copy = signal.to_owned(alloc)?;
+    let products = (copy * gain)?;
+    let samples = (products >> bits)?;
+    Ok(Some(samples))
+}
+
+/// The product of the numbers on the diagonal of a square matrix, which is the determinant where the matrix is triangular; or
+/// `None`, where it is not square, or the product of the first few of them is no `i64`.
+pub fn determinant_of_triangle<S: Data<Elem = i64>>(a: &ArrayBase<S, Ix2>) -> Option<i64>
+    ensures when { IsSome result ↔ HasDiagonalInRange a.now }
+    ensures product { IfSome result (λ p. p ≡ diagonal_product a.now (slice_index a.now.lengths 0)) }
+{
+    let (rows, columns) = a.raw_dim().into_pattern();
+    if rows != columns {
+        return None;
+    }
+    let mut product = 1i64;
+    for i in 0..rows {
+        let Some(x) = a.get((i, i)) else {
+            unreachable!()
+        };
+        let Some(next) = product.checked_mul(*x) else {
+            return None;
+        };
+        product = next;
+    }
+    Some(product)
 }

@@ -1,6 +1,5 @@
 //! Products of a table with another, of residues modulo 2^32, so that no sum leaves the range.
 
-use crate::residue::Residue;
 use crate::rows::answer::parse_table;
 use crate::rows::calls::ViewCall;
 use crate::rows::layouts::{LAYOUTS, Table};
@@ -9,6 +8,7 @@ use crate::rows::reading::{apply_all, kind};
 use crate::rows::text::push_lengths;
 use ndarray::linalg::{Dot, dot_ok, kron, kron_ok};
 use ndarray::{Array, ArrayView, Ix2, IxDyn, Lengths};
+use residue::Residue;
 use std::alloc::{AllocError, Global};
 
 /// A view of residues.

@@ -1,7 +1,7 @@
 use Rattle.std.proofs.Common.{◌∙◌, refl}
 use Rattle.ndarray.proofs.callers.Elementwise.{assign_row-follows, can-assign-row}
 use Rattle.ndarray_bench.specs.Callers.{multiple_added}
-use Rattle.ndarray_bench.specs.Residue.{residue_sums}
+use Rattle.residue.specs.Residue.{residue_sums}
 use Rattle.ndarray_bench.proofs.callers.add_multiple_of_row.Goals as goal
 
 pub scaled_add-requires : goal.scaled_add-requires

@@ -1,7 +1,7 @@
 use Rattle.std.proofs.Common.{◌≡◌, ◌≢◌, ◌∙◌, Option, Some, ap, sym, arith}
 use Rattle.ndarray.proofs.callers.Elementwise.{array_by-follows}
 use Rattle.ndarray_bench.specs.Callers.{residue}
-use Rattle.ndarray_bench.specs.Residue.{Below, modulus_pos, residue_of, residue_products, residue_sums}
+use Rattle.residue.specs.Residue.{Below, modulus_pos, residue_of, residue_products, residue_sums}
 use Rattle.ndarray_bench.proofs.callers.add_product.Goals as goal
 
 -- one is not zero

@@ -1,6 +1,6 @@
 use Rattle.std.proofs.Common.{◌≡◌, ◌∙◌, ap}
 use Rattle.ndarray.proofs.callers.Elementwise.{array_by-follows}
-use Rattle.ndarray_bench.specs.Residue.{Below, modulus_pos, residue_products}
+use Rattle.residue.specs.Residue.{Below, modulus_pos, residue_products}
 use Rattle.ndarray_bench.proofs.callers.multiply_into.Goals as goal
 
 -- a product with one

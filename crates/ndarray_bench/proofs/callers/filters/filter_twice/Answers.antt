@@ -2,7 +2,7 @@ use Rattle.std.proofs.Common.{◌≡◌, ◌∙◌, ap, length}
 use Rattle.ndarray.specs.Grid.{one_axis}
 use Rattle.ndarray.proofs.callers.Convolving.{filters-same, full-made, valid-made}
 use Rattle.ndarray_bench.specs.Filters.{convolved_residues, filtered_residues}
-use Rattle.ndarray_bench.specs.Residue.{modulus_pos, residue_products, residue_sums}
+use Rattle.residue.specs.Residue.{modulus_pos, residue_products, residue_sums}
 use Rattle.ndarray_bench.proofs.callers.filters.filter_twice.Goals as goal
 
 pub returns-clause-same : goal.returns-clause-same

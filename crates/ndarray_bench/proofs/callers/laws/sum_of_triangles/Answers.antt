@@ -7,7 +7,7 @@ use Rattle.ndarray.proofs.algebra.Totals.{op_unit}
 use Rattle.ndarray.proofs.callers.Collecting.{if_ok-both}
 use Rattle.ndarray.proofs.callers.Elementwise.{can-combine, lengths-same}
 use Rattle.ndarray.proofs.callers.TriangleParts.{parts-combine, parts-same}
-use Rattle.ndarray_bench.specs.Residue.{modulus_pos, residue_sums}
+use Rattle.residue.specs.Residue.{modulus_pos, residue_sums}
 use Rattle.ndarray_bench.proofs.callers.laws.sum_of_triangles.Goals as goal
 
 pub add-requires : goal.add-requires

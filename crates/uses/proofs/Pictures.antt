@@ -1,0 +1,62 @@
+-- Pictures made of the sums of squares.
+use Rattle.std.proofs.Common.{◌≡◌, ◌∙◌, ◌+◌, ◌-◌, ◌*ℤ◌, ◌-ℤ◌, ◌+ℤ◌, ℕ, ℤ, pos, negsuc, List, [], ◌∷◌, Some, ap, arith, subst}
+use Rattle.std.specs.Prelude.{◌&&◌, nat_eq, if◌then◌else◌}
+use Rattle.std.proofs.lemmas.Int.{ints}
+use Rattle.ndarray.specs.Grid.{Grid, IsGrid, array_by, cell}
+use Rattle.ndarray.specs.Index.{InBox, row_order}
+use Rattle.ndarray.specs.Products.{value_or}
+use Rattle.ndarray.proofs.callers.Cells.{cell-Some, cell-inside}
+use Rattle.ndarray.proofs.callers.Collecting.{array_by-at}
+use Rattle.uses.specs.Picture.{HasInnerPixels, blur_kernel, edge_kernel, filtered_pixel, pixel, square_sum, sum_of_three}
+
+-- a function of each pixel of a filtered image
+pub inner-pixels : (image kernel sums made : Grid ℤ) (f : ℤ → ℤ) (value : ℕ → ℕ → ℤ) → HasInnerPixels image (filtered_pixel image kernel) sums → ((r c : ℕ) → f (filtered_pixel image kernel r c) ≡ value r c)
+    → IsGrid made → made ≡ array_by sums.lengths (λ is. f (value_or (λ x. x) (pos 0) (cell sums is))) → HasInnerPixels image value made
+inner-pixels image kernel sums made f value h each whole by =
+    let lengths : made.lengths ≡ sums.lengths = ap (λ w. w.lengths) by in
+    record {
+      lengths = lengths ∙ h.lengths;
+      whole = whole;
+      pixels = λ r c z at.
+          let b : InBox made.lengths (r ∷ c ∷ []) = cell-inside made (r ∷ c ∷ []) z at in
+          let (x, there) = cell-Some sums h.whole (r ∷ c ∷ []) (subst (λ ns. InBox ns (r ∷ c ∷ [])) lengths b) in
+          array_by-at sums.lengths (λ is. f (value_or (λ x. x) (pos 0) (cell sums is))) made (r ∷ c ∷ []) z by b at
+          ∙ (ap (λ o. f (value_or (λ x. x) (pos 0) o)) there ∙ (ap f (h.pixels r c x there) ∙ each r c));
+    }
+
+-- ---- the sums of the two kernels
+
+abbrev edge_weight : ℕ → ℕ → ℤ
+edge_weight i j = if nat_eq i 1 && nat_eq j 1 then pos 8 else negsuc 0
+
+-- of any numbers q in place of pixels; the square from the other end is the square
+module _ (q : ℕ → ℕ → ℤ) (r c : ℕ) where
+  at : (i j k l : ℕ) → i ≡ k → j ≡ l → q i j ≡ q k l
+  at i j k l e f = ap (λ m. q m j) e ∙ ap (q k) f
+
+  ones : sum_of_three (λ i. sum_of_three (λ j. pos 1 *ℤ q (r + 2 - i) (c + 2 - j))) ≡ sum_of_three (λ i. sum_of_three (λ j. q (r + i) (c + j)))
+  ones =
+      let a = at (r + 2 - 0) (c + 2 - 0) (r + 2) (c + 2) (omega arith) (omega arith) in
+      let b = at (r + 2 - 0) (c + 2 - 1) (r + 2) (c + 1) (omega arith) (omega arith) in
+      let d = at (r + 2 - 0) (c + 2 - 2) (r + 2) (c + 0) (omega arith) (omega arith) in
+      let e = at (r + 2 - 1) (c + 2 - 0) (r + 1) (c + 2) (omega arith) (omega arith) in
+      let f = at (r + 2 - 1) (c + 2 - 1) (r + 1) (c + 1) (omega arith) (omega arith) in
+      let g = at (r + 2 - 1) (c + 2 - 2) (r + 1) (c + 0) (omega arith) (omega arith) in
+      let h = at (r + 2 - 2) (c + 2 - 0) (r + 0) (c + 2) (omega arith) (omega arith) in
+      let i = at (r + 2 - 2) (c + 2 - 1) (r + 0) (c + 1) (omega arith) (omega arith) in
+      let j = at (r + 2 - 2) (c + 2 - 2) (r + 0) (c + 0) (omega arith) (omega arith) in
+      omega (arith, ints)
+
+  weights : sum_of_three (λ i. sum_of_three (λ j. edge_weight i j *ℤ q (r + 2 - i) (c + 2 - j))) ≡ pos 9 *ℤ q (r + 1) (c + 1) -ℤ sum_of_three (λ i. sum_of_three (λ j. q (r + i) (c + j)))
+  weights =
+      let once = ones in
+      let middle = at (r + 2 - 1) (c + 2 - 1) (r + 1) (c + 1) (omega arith) (omega arith) in
+      omega (arith, ints)
+
+pub blur-sum : (image : Grid ℤ) (r c : ℕ) → filtered_pixel image blur_kernel r c ≡ square_sum image r c
+unfolding cell row_order
+blur-sum image r c = ones (pixel image) r c
+
+pub edge-sum : (image : Grid ℤ) (r c : ℕ) → filtered_pixel image edge_kernel r c ≡ pos 9 *ℤ pixel image (r + 1) (c + 1) -ℤ square_sum image r c
+unfolding cell row_order
+edge-sum image r c = weights (pixel image) r c

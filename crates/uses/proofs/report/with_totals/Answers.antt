@@ -1,0 +1,53 @@
+use Rattle.std.proofs.Common.{rules, ◌≡◌, ◌∙◌, ◌+◌, ◌<◌, ◌∷◌, [], Some, ap, arith, length, refl, pos, remove, subst, sym}
+use Rattle.std.specs.Prelude.{Err, FitsSigned, slice_index}
+use Rattle.std.specs.Int.{w64}
+use Rattle.ndarray.specs.AlongAxis.{IsTotalOf}
+use Rattle.std.proofs.lemmas.Result.{err_from_is_err_and}
+use Rattle.ndarray.specs.Errors.{shape_error}
+use Rattle.ndarray.specs.Grid.{array_by, cell}
+use Rattle.ndarray.specs.Integers.{int_sums}
+use Rattle.ndarray.specs.Joining.{concatenate_error}
+use Rattle.ndarray.specs.Products.{value_or}
+use Rattle.ndarray.specs.Subviews.{lane}
+use Rattle.ndarray.specs.Sums.{total}
+use Rattle.ndarray.specs.declared.stacking.error.StackError.TheVariants.{Shape}
+use Rattle.ndarray.proofs.callers.Collecting.{lanes_of-some}
+use Rattle.ndarray.proofs.callers.Lanes.{lane-maps, lanes-summable}
+use Rattle.ndarray.proofs.callers.RowsBelow.{first-and-rest, row-below}
+use Rattle.uses.specs.Report.{total_below}
+use Rattle.uses.proofs.report.with_totals.Goals as goal
+
+pub sum_axis-requires-clause-lanes : goal.sum_axis-requires-clause-lanes
+sum_axis-requires-clause-lanes g c =
+    let two = c.view-table.ensures.axes in
+    let same = ap (λ v. length v.lengths) c.view-table.ensures.same in
+    lanes-summable c.view-table.result c.view-table.ensures.whole 0 (omega (arith, two, same)) int_sums (FitsSigned w64) (λ x. x) (c.if-not-sums_fit.ensures.selections.0 refl)
+
+pub returns-clause-totals : goal.returns-clause-totals
+returns-clause-totals g c =
+    let v = c.view-table.result in
+    let row = c.view.result in
+    let totals = c.in_ok-totals.ensures.sums.made in
+    let two = c.view-table.ensures.axes in
+    let same = ap (λ w. length w.lengths) c.view-table.ensures.same in
+    let some : 0 < length v.lengths = omega (arith, two, same) in
+    let lengths : row.lengths ≡ remove v.lengths 0 = ap (λ w. w.lengths) c.view.ensures.same ∙ (totals.lengths ∙ ap (λ w. w.lengths) (lanes_of-some v.lengths v 0 some)) in
+    let long : v.lengths ≡ slice_index v.lengths 0 ∷ row.lengths = first-and-rest v.lengths some ∙ ap (λ ms. slice_index v.lengths 0 ∷ ms) (sym lengths) in
+    row-below v row (slice_index v.lengths 0) c.view.ensures.whole long (λ is. value_or (λ x. x) (pos 0) (cell v is)) (λ js. total int_sums (lane v 0 js).cells)
+    (λ is x e. ap (value_or (λ x. x) (pos 0)) (sym e))
+    (λ js x e. lane-maps v 0 some (IsTotalOf int_sums (λ x. x)) c.in_ok-totals.totals totals js x (ap (λ w. cell w js) (sym c.view.ensures.same) ∙ e))
+    c.in_ok-made.made c.in_ok-made.ensures.whole c.in_ok-made.ensures.cells
+    ∙ (ap (λ ms. array_by ((slice_index v.lengths 0 + 1) ∷ ms) (total_below v)) lengths
+    ∙ ap (λ w. array_by ((slice_index w.lengths 0 + 1) ∷ remove w.lengths 0) (total_below w)) c.view-table.ensures.same)
+
+pub returns-in_err-made-clause-errors : goal.returns-in_err-made-clause-errors
+returns-in_err-made-clause-errors g c k e =
+    let v = c.view-table.result in
+    let two = c.view-table.ensures.axes in
+    let same = ap (λ w. length w.lengths) c.view-table.ensures.same in
+    let some : 0 < length v.lengths = omega (arith, two, same) in
+    let lengths : c.view.result.lengths ≡ remove v.lengths 0 = ap (λ w. w.lengths) c.view.ensures.same ∙ (c.in_ok-totals.ensures.sums.made.lengths ∙ ap (λ w. w.lengths) (lanes_of-some v.lengths v 0 some)) in
+    let p = err_from_is_err_and c.from_residual-in_err-made.result c.from_residual-in_err-made.ensures.1 in
+    let own : c.with_row_below.result ≡ Err (Shape (shape_error k)) = search (rules, e, p.1, p.2) in
+    subst (λ ns. concatenate_error 0 (ns ∷ (1 ∷ remove ns 0) ∷ []) ≡ Some k) (ap (λ w. w.lengths) c.view-table.ensures.same)
+    (subst (λ ms. concatenate_error 0 (v.lengths ∷ (1 ∷ ms) ∷ []) ≡ Some k) lengths ((c.with_row_below.ensures.errors k).0 own))

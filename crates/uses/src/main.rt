@@ -1,0 +1,44 @@
+//! Five worked uses of `ndarray`, a module each with its contract: a filter of pictures (`picture`), the game of life (`life`),
+//! linear recurrences (`recurrence`), a report of a table (`report`) and a filter of signals (`fir`). They are to be copied.
+//!
+//! `uses COMMAND < INPUT` runs one of them, and ends with status 0, or 2 after a line that names the fault. docs/CALLING.md shows
+//! the commands.
+#![tactic(auto)]
+
+mod command;
+mod fault;
+pub mod fir;
+pub mod life;
+pub mod picture;
+mod printing;
+mod program;
+mod reading;
+pub mod recurrence;
+pub mod report;
+
+use crate::fault::Fault;
+use std::process::ExitCode;
+use std::rt::Env;
+use std::{env, io};
+
+fn main(rt: HostRuntime) -> ExitCode {
+    let status = match given_words(&rt) {
+        Ok(words) => match io::read_to_string(rt.alloc(), rt.stdin()) {
+            Ok(input) => program::run(
+                rt.alloc(),
+                words.as_slice(),
+                input.as_str(),
+                &mut rt.stdout(),
+                &mut rt.stderr(),
+            ),
+            Err(_) => program::report(Fault::Input, &mut rt.stderr()),
+        },
+        Err(_) => program::report(Fault::Memory, &mut rt.stderr()),
+    };
+    ExitCode::from(status)
+}
+
+/// The words after the program's name.
+fn given_words<R: Env + AllocGlobal>(rt: &R) -> io::Result<Vec<String>> {
+    Ok(env::args(rt)?.skip(1).collect(rt.alloc())?)
+}

@@ -1,0 +1,86 @@
+//! How the commands print.
+
+use ndarray::{ArrayView, Dimension, Ix1, Ix2};
+use std::alloc::{AllocError, Global};
+
+/// A table as text, a line for each row with its sum at the end; and a line of the sums of the columns, with that of all.
+pub fn report_text(
+    alloc: Global,
+    table: &ArrayView<'_, i64, Ix2>,
+    rows: &ArrayView<'_, i64, Ix1>,
+    columns: &ArrayView<'_, i64, Ix1>,
+    all: i64,
+) -> Result<String, AllocError> {
+    let mut text = String::new(alloc);
+    let _axes = table.ndim();
+    for (row, sum) in table.rows().into_iter().zip(rows.iter()) {
+        push_sum(&mut text, &row, *sum)?;
+    }
+    push_sum(&mut text, columns, all)?;
+    Ok(text)
+}
+
+/// Appends a line of numbers and one more.
+fn push_sum(text: &mut String, line: &ArrayView<'_, i64, Ix1>, sum: i64) -> Result<(), AllocError> {
+    for number in line.iter() {
+        write!(text, "{number} ")?;
+    }
+    write!(text, "{sum}\n")
+}
+
+/// A picture as plain PGM.
+pub fn picture_text(
+    alloc: Global,
+    picture: &ArrayView<'_, i64, Ix2>,
+) -> Result<String, AllocError> {
+    let (rows, columns) = picture.raw_dim().into_pattern();
+    let mut text = format!(in alloc; "P2\n{columns} {rows}\n255\n")?;
+    push_rows(&mut text, picture)?;
+    Ok(text)
+}
+
+/// Appends a line for each row.
+fn push_rows(text: &mut String, table: &ArrayView<'_, i64, Ix2>) -> Result<(), AllocError> {
+    let _axes = table.ndim();
+    for row in table.rows() {
+        push_line(text, &row)?;
+    }
+    Ok(())
+}
+
+/// A line of numbers as text.
+pub fn line_text(alloc: Global, line: &ArrayView<'_, i64, Ix1>) -> Result<String, AllocError> {
+    let mut text = String::new(alloc);
+    push_line(&mut text, line)?;
+    Ok(text)
+}
+
+/// Appends a line of numbers, with a blank between two of them.
+fn push_line(text: &mut String, line: &ArrayView<'_, i64, Ix1>) -> Result<(), AllocError> {
+    let mut numbers = line.iter();
+    if let Some(first) = numbers.next() {
+        write!(text, "{first}")?;
+    }
+    for number in numbers {
+        write!(text, " {number}")?;
+    }
+    text.push('\n')
+}
+
+/// A grid of cells as text: a line for each row, with `#` for a living cell and `.` for a dead one.
+pub fn grid_text(alloc: Global, grid: &ArrayView<'_, bool, Ix2>) -> Result<String, AllocError> {
+    let mut text = String::new(alloc);
+    let _axes = grid.ndim();
+    for row in grid.rows() {
+        push_cells(&mut text, &row)?;
+    }
+    Ok(text)
+}
+
+/// Appends a row of a grid.
+fn push_cells(text: &mut String, row: &ArrayView<'_, bool, Ix1>) -> Result<(), AllocError> {
+    for alive in row.iter() {
+        text.push(if *alive { '#' } else { '.' })?;
+    }
+    text.push('\n')
+}
