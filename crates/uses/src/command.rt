@@ -1,5 +1,10 @@
 //! The commands: each returns the text that it prints for its input.
 
+ghost use Rattle.std.specs.Prelude.{◌≡◌, ℤ, IfOk, string_bytes};
+ghost use Rattle.ndarray.specs.Grid.{Grid};
+ghost use Rattle.uses.specs.Picture.{HasInnerPixels, edge_pixel, mean_pixel};
+ghost use Rattle.uses.specs.Printing.{picture_text};
+
 use crate::fault::Fault;
 use crate::printing::{grid_text, line_text, picture_text, report_text};
 use crate::recurrence::{MODULUS, term};
@@ -62,13 +67,17 @@ impl Command {
 }
 
 /// The blur of a picture.
-fn blur(alloc: Global, image: &Array<i64, Ix2>) -> Result<String, Fault> {
+fn blur(alloc: Global, image: &Array<i64, Ix2>) -> Result<String, Fault>
+    ensures { IfOk result (λ text. (blurred : Grid ℤ) × HasInnerPixels image.now (mean_pixel image.now) blurred × (string_bytes text ≡ picture_text blurred)) }
+{
     let blurred = picture::blur(alloc, image)?.ok_or(Fault::Range)?;
     Ok(picture_text(alloc, &blurred.view())?)
 }
 
 /// The edges of a picture.
-fn edges(alloc: Global, image: &Array<i64, Ix2>) -> Result<String, Fault> {
+fn edges(alloc: Global, image: &Array<i64, Ix2>) -> Result<String, Fault>
+    ensures { IfOk result (λ text. (edges : Grid ℤ) × HasInnerPixels image.now (edge_pixel image.now) edges × (string_bytes text ≡ picture_text edges)) }
+{
     let edges = picture::edges(alloc, image)?.ok_or(Fault::Range)?;
     Ok(picture_text(alloc, &edges.view())?)
 }
