@@ -1,5 +1,5 @@
--- How lines and pictures are printed, as bytes.
-use Rattle.std.specs.Prelude.{ℕ, ℤ, List, [], ◌∷◌, ◌++◌, codes, decimal, flat_map, slice_index}
+-- How lines, pictures and grids are printed, as bytes.
+use Rattle.std.specs.Prelude.{ℕ, ℤ, Bool, if◌then◌else◌, List, [], ◌∷◌, ◌++◌, codes, decimal, flat_map, map, slice_index}
 use Rattle.std.specs.Fmt.{signed_decimal}
 use Rattle.ndarray.specs.Grid.{Grid}
 use Rattle.ndarray.specs.Subviews.{lanes_of}
@@ -20,3 +20,11 @@ rows_text rows = flat_map (λ row. line_text row.cells) rows
 -- a grey picture in plain PGM: its form, the numbers of columns and rows, the greatest pixel, and the rows
 abbrev pub picture_text : Grid ℤ → List ℕ
 picture_text g = (codes "P2\n" ++ (decimal (slice_index g.lengths 1) ++ (codes " " ++ (decimal (slice_index g.lengths 0) ++ codes "\n255\n")))) ++ rows_text (lanes_of g 1).cells
+
+-- a living cell as `#`, a dead one as `.`
+abbrev pub mark_of : Bool → ℕ
+mark_of alive = if alive then 35 else 46
+
+-- a line for each row of a grid of cells
+abbrev pub grid_text : Grid Bool → List ℕ
+grid_text g = flat_map (λ row. map mark_of row.cells ++ 10 ∷ []) (lanes_of g 1).cells

@@ -2,8 +2,10 @@
 
 ghost use Rattle.std.specs.Prelude.{◌≡◌, ℤ, IfOk, string_bytes};
 ghost use Rattle.ndarray.specs.Grid.{Grid};
+ghost use Rattle.uses.specs.Fir.{IsFilteredSignal};
+ghost use Rattle.uses.specs.Life.{generation};
 ghost use Rattle.uses.specs.Picture.{HasInnerPixels, edge_pixel, mean_pixel};
-ghost use Rattle.uses.specs.Printing.{picture_text};
+ghost use Rattle.uses.specs.Printing.{grid_text, line_text, picture_text};
 
 use crate::fault::Fault;
 use crate::printing::{grid_text, line_text, picture_text, report_text};
@@ -83,7 +85,9 @@ fn edges(alloc: Global, image: &Array<i64, Ix2>) -> Result<String, Fault>
 }
 
 /// A grid after some steps.
-fn later(alloc: Global, grid: &Array<bool, Ix2>, steps: u64) -> Result<String, Fault> {
+fn later(alloc: Global, grid: &Array<bool, Ix2>, steps: u64) -> Result<String, Fault>
+    ensures { IfOk result (λ text. string_bytes text ≡ grid_text (generation steps grid.now)) }
+{
     let last = life::after(alloc, grid, steps)?;
     Ok(grid_text(alloc, &last.view())?)
 }
@@ -93,9 +97,20 @@ fn filtered(alloc: Global, input: &str, shift: u32) -> Result<String, Fault> {
     let (first, second) = input.split_once('\n').ok_or(Fault::Input)?;
     let taps = reading::numbers(alloc, first)?;
     let signal = reading::numbers(alloc, second)?;
-    let signal = ArrayView1::from(signal.as_slice());
-    let taps = ArrayView1::from(taps.as_slice());
-    let filtered = fir::filter(alloc, &signal, &taps, shift)?.ok_or(Fault::Range)?;
+    let (taps, signal) = (taps.as_slice(), signal.as_slice());
+    filtered_line(alloc, &ArrayView1::from(signal), &ArrayView1::from(taps), shift)
+}
+
+/// A filtered signal as a line.
+fn filtered_line(
+    alloc: Global,
+    signal: &ArrayView1<'_, i64>,
+    taps: &ArrayView1<'_, i64>,
+    shift: u32,
+) -> Result<String, Fault>
+    ensures { IfOk result (λ text. (filtered : Grid ℤ) × IsFilteredSignal signal.now taps.now shift filtered × (string_bytes text ≡ line_text filtered.cells)) }
+{
+    let filtered = fir::filter(alloc, signal, taps, shift)?.ok_or(Fault::Range)?;
     Ok(line_text(alloc, &filtered.view())?)
 }
 

@@ -1,8 +1,8 @@
 //! How the commands print.
 
-ghost use Rattle.std.specs.Prelude.{◌≡◌, ◌++◌, IfOk, OnOk, string_bytes};
+ghost use Rattle.std.specs.Prelude.{◌≡◌, ◌<◌, ◌++◌, ◌∷◌, [], map, IfOk, OnOk, string_bytes};
 ghost use Rattle.ndarray.specs.Subviews.{lanes_of};
-ghost use Rattle.uses.specs.Printing.{line_text, others_text, picture_text, rows_text};
+ghost use Rattle.uses.specs.Printing.{grid_text, line_text, mark_of, others_text, picture_text, rows_text};
 
 use ndarray::iter::Iter;
 use ndarray::{ArrayView, Dimension, Ix1, Ix2};
@@ -90,7 +90,9 @@ fn push_others(text: &mut String, numbers: Iter<'_, i64, Ix1>) -> Result<(), All
 }
 
 /// A grid of cells as text: a line for each row, with `#` for a living cell and `.` for a dead one.
-pub fn grid_text(alloc: Global, grid: &ArrayView<'_, bool, Ix2>) -> Result<String, AllocError> {
+pub fn grid_text(alloc: Global, grid: &ArrayView<'_, bool, Ix2>) -> Result<String, AllocError>
+    ensures { IfOk result (λ text. string_bytes text ≡ grid_text grid.now) }
+{
     let mut text = String::new(alloc);
     let _axes = grid.ndim();
     for row in grid.rows() {
@@ -100,9 +102,19 @@ pub fn grid_text(alloc: Global, grid: &ArrayView<'_, bool, Ix2>) -> Result<Strin
 }
 
 /// Appends a row of a grid.
-fn push_cells(text: &mut String, row: &ArrayView<'_, bool, Ix1>) -> Result<(), AllocError> {
+fn push_cells(text: &mut String, row: &ArrayView<'_, bool, Ix1>) -> Result<(), AllocError>
+    ensures { OnOk result (string_bytes text.new ≡ string_bytes text.old ++ (map mark_of row.now.cells ++ 10 ∷ [])) }
+{
     for alive in row.iter() {
-        text.push(if *alive { '#' } else { '.' })?;
+        text.push(mark(*alive))?;
     }
     text.push('\n')
+}
+
+/// How a cell is written.
+fn mark(alive: bool) -> char
+    ensures mark { result ≡ mark_of alive }
+    ensures ascii { result < 128 }
+{
+    if alive { '#' } else { '.' }
 }
