@@ -34,10 +34,7 @@ fn push_sum(text: &mut String, line: &ArrayView<'_, i64, Ix1>, sum: i64) -> Resu
 }
 
 /// A picture as plain PGM.
-pub fn picture_text(
-    alloc: Global,
-    picture: &ArrayView<'_, i64, Ix2>,
-) -> Result<String, AllocError>
+pub fn picture_text(alloc: Global, picture: &ArrayView<'_, i64, Ix2>) -> Result<String, AllocError>
     ensures { IfOk result (λ text. string_bytes text ≡ picture_text picture.now) }
 {
     let (rows, columns) = picture.raw_dim().into_pattern();
