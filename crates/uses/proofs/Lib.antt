@@ -1,2 +1,4 @@
+pub mod FibonacciTerms
 pub mod Pictures
 pub mod Recurrences
+pub mod Reports

@@ -1,5 +1,5 @@
 -- Pictures made of the sums of squares.
-use Rattle.std.proofs.Common.{◌≡◌, ◌∙◌, ◌+◌, ◌-◌, ◌*ℤ◌, ◌-ℤ◌, ◌+ℤ◌, ℕ, ℤ, pos, negsuc, List, [], ◌∷◌, Some, ap, arith, subst}
+use Rattle.std.proofs.Common.{◌≡◌, ◌∙◌, ◌+◌, ◌-◌, ◌*ℤ◌, ◌-ℤ◌, ℕ, ℤ, pos, negsuc, [], ◌∷◌, ap, arith, subst}
 use Rattle.std.specs.Prelude.{◌&&◌, nat_eq, if◌then◌else◌}
 use Rattle.std.proofs.lemmas.Int.{ints}
 use Rattle.ndarray.specs.Grid.{Grid, IsGrid, array_by, cell}

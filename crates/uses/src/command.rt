@@ -1,10 +1,20 @@
 //! The commands: each returns the text that it prints for its input.
 
+ghost use Rattle.std.specs.Prelude.{◌≡◌, ◌≤◌, ◌∷◌, ◌++◌, [], ℕ, ℤ, decimal, slice_index, IfOk, string_bytes};
+ghost use Rattle.ndarray.specs.Grid.{Grid};
+ghost use Rattle.ndarray.specs.Limits.{IsWithinLimit};
+ghost use Rattle.residue.specs.Residue.{Below, modulus};
+ghost use Rattle.uses.specs.Fir.{IsFilteredSignal};
+ghost use Rattle.uses.specs.Life.{generation};
+ghost use Rattle.uses.specs.Picture.{HasInnerPixels, edge_pixel, mean_pixel};
+ghost use Rattle.uses.specs.Printing.{grid_text, line_text, picture_text};
+ghost use Rattle.uses.specs.Recurrence.{IsRecurrence};
+
 use crate::fault::Fault;
 use crate::printing::{grid_text, line_text, picture_text, report_text};
 use crate::recurrence::{MODULUS, term};
 use crate::{fir, life, picture, reading, report};
-use ndarray::{Array, ArrayView1, Ix2, Lengths};
+use ndarray::{Array, ArrayView1, Ix2, Lengths, Valued};
 use residue::Residue;
 use std::alloc::Global;
 
@@ -62,19 +72,25 @@ impl Command {
 }
 
 /// The blur of a picture.
-fn blur(alloc: Global, image: &Array<i64, Ix2>) -> Result<String, Fault> {
+fn blur(alloc: Global, image: &Array<i64, Ix2>) -> Result<String, Fault>
+    ensures { IfOk result (λ text. (blurred : Grid ℤ) × HasInnerPixels image.now (mean_pixel image.now) blurred × (string_bytes text ≡ picture_text blurred)) }
+{
     let blurred = picture::blur(alloc, image)?.ok_or(Fault::Range)?;
     Ok(picture_text(alloc, &blurred.view())?)
 }
 
 /// The edges of a picture.
-fn edges(alloc: Global, image: &Array<i64, Ix2>) -> Result<String, Fault> {
+fn edges(alloc: Global, image: &Array<i64, Ix2>) -> Result<String, Fault>
+    ensures { IfOk result (λ text. (edges : Grid ℤ) × HasInnerPixels image.now (edge_pixel image.now) edges × (string_bytes text ≡ picture_text edges)) }
+{
     let edges = picture::edges(alloc, image)?.ok_or(Fault::Range)?;
     Ok(picture_text(alloc, &edges.view())?)
 }
 
 /// A grid after some steps.
-fn later(alloc: Global, grid: &Array<bool, Ix2>, steps: u64) -> Result<String, Fault> {
+fn later(alloc: Global, grid: &Array<bool, Ix2>, steps: u64) -> Result<String, Fault>
+    ensures { IfOk result (λ text. string_bytes text ≡ grid_text (generation steps grid.now)) }
+{
     let last = life::after(alloc, grid, steps)?;
     Ok(grid_text(alloc, &last.view())?)
 }
@@ -84,9 +100,25 @@ fn filtered(alloc: Global, input: &str, shift: u32) -> Result<String, Fault> {
     let (first, second) = input.split_once('\n').ok_or(Fault::Input)?;
     let taps = reading::numbers(alloc, first)?;
     let signal = reading::numbers(alloc, second)?;
-    let signal = ArrayView1::from(signal.as_slice());
-    let taps = ArrayView1::from(taps.as_slice());
-    let filtered = fir::filter(alloc, &signal, &taps, shift)?.ok_or(Fault::Range)?;
+    let (taps, signal) = (taps.as_slice(), signal.as_slice());
+    filtered_line(
+        alloc,
+        &ArrayView1::from(signal),
+        &ArrayView1::from(taps),
+        shift,
+    )
+}
+
+/// A filtered signal as a line.
+fn filtered_line(
+    alloc: Global,
+    signal: &ArrayView1<'_, i64>,
+    taps: &ArrayView1<'_, i64>,
+    shift: u32,
+) -> Result<String, Fault>
+    ensures { IfOk result (λ text. (filtered : Grid ℤ) × IsFilteredSignal signal.now taps.now shift filtered × (string_bytes text ≡ line_text filtered.cells)) }
+{
+    let filtered = fir::filter(alloc, signal, taps, shift)?.ok_or(Fault::Range)?;
     Ok(line_text(alloc, &filtered.view())?)
 }
 
@@ -99,13 +131,28 @@ fn nth_term(alloc: Global, input: &str, n: u64) -> Result<String, Fault> {
         return Err(Fault::Shape);
     }
     let (coefficients, first) = numbers.as_slice().split_at(order);
-    let term = term(
+    term_line(
         alloc,
         &ArrayView1::from(coefficients),
         &ArrayView1::from(first),
         n,
-    )?;
-    Ok(format!(in alloc; "{}\n", term.number())?)
+    )
+}
+
+/// Term `n` of a recurrence as a line. Requires what `term` does.
+fn term_line(
+    alloc: Global,
+    coefficients: &ArrayView1<'_, Residue<MODULUS>>,
+    first: &ArrayView1<'_, Residue<MODULUS>>,
+    n: u64,
+) -> Result<String, Fault>
+    requires order { 1 ≤ slice_index first.now.lengths 0 }
+    requires lengths { coefficients.now.lengths ≡ first.now.lengths }
+    requires limit { IsWithinLimit (slice_index first.now.lengths 0 ∷ slice_index first.now.lengths 0 ∷ []) }
+    ensures { IfOk result (λ text. (s : ℕ → Below (modulus 1000000007)) → IsRecurrence ⟦<Residue<1000000007> as Valued>⟧ coefficients.now first.now s → string_bytes text ≡ decimal (s n).number ++ 10 ∷ []) }
+{
+    let number = term(alloc, coefficients, first, n)?.number();
+    Ok(format!(in alloc; "{number}\n")?)
 }
 
 /// Numbers as residues.

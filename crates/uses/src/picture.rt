@@ -27,13 +27,14 @@ use ndarray::{Array, ArrayBase, ArrayView, Data, Dimension, Ix2, Zip};
 use std::alloc::{AllocError, Global};
 
 /// A picture with each pixel the mean of a square of three by three pixels, rounded towards zero. `None` where a sum of nine
-/// pixels may be no `i64`.
+/// pixels may be no `i64`. Where the image has fewer than three rows or columns there is no error.
 pub fn blur<S: Data<Elem = i64>>(
     alloc: Global,
     image: &ArrayBase<S, Ix2>,
 ) -> Result<Option<Array<i64, Ix2>>, AllocError>
     ensures when { IfOk result (λ made. IsSome made ↔ HasValidMagnitudesInRange (λ x. x) (FitsSigned w64) image.now blur_kernel) }
     ensures pixels { IfOk result (λ made. IfSome made (HasInnerPixels image.now (mean_pixel image.now))) }
+    ensures small { (slice_index image.now.lengths 0 ≤ 2) ⊎ (slice_index image.now.lengths 1 ≤ 2) → IsOk result }
 {
     let Some(sums) = filter(alloc, image, &kernel(&[1, 1, 1, 1, 1, 1, 1, 1, 1]))? else {
         return Ok(None);
@@ -43,13 +44,14 @@ pub fn blur<S: Data<Elem = i64>>(
 }
 
 /// A picture with each pixel how much the pixel in the middle of a square of three by three differs from those round it. `None`
-/// where a sum may be no `i64`.
+/// where a sum may be no `i64`. Where the image has fewer than three rows or columns there is no error.
 pub fn edges<S: Data<Elem = i64>>(
     alloc: Global,
     image: &ArrayBase<S, Ix2>,
 ) -> Result<Option<Array<i64, Ix2>>, AllocError>
     ensures when { IfOk result (λ made. IsSome made ↔ HasValidMagnitudesInRange (λ x. x) (FitsSigned w64) image.now edge_kernel) }
     ensures pixels { IfOk result (λ made. IfSome made (HasInnerPixels image.now (edge_pixel image.now))) }
+    ensures small { (slice_index image.now.lengths 0 ≤ 2) ⊎ (slice_index image.now.lengths 1 ≤ 2) → IsOk result }
 {
     let Some(sums) = filter(alloc, image, &kernel(&[-1, -1, -1, -1, 8, -1, -1, -1, -1]))? else {
         return Ok(None);

@@ -1,5 +1,4 @@
-use Rattle.std.proofs.Common.{rules, ◌≡◌, ◌∙◌, ◌∷◌, [], ℤ, Some, ap, int_div, pos, subst, sym}
-use Rattle.std.specs.Prelude.{IfOk}
+use Rattle.std.proofs.Common.{rules, ◌≡◌, ◌∙◌, ℤ, Some, ap, int_div, pos, subst, sym}
 use Rattle.ndarray.specs.Grid.{array_by, cell}
 use Rattle.ndarray.specs.Products.{value_or}
 use Rattle.ndarray.proofs.callers.Collecting.{collect-follows}

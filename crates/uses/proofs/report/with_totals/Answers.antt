@@ -15,22 +15,20 @@ use Rattle.ndarray.proofs.callers.Collecting.{lanes_of-some}
 use Rattle.ndarray.proofs.callers.Lanes.{lane-maps, lanes-summable}
 use Rattle.ndarray.proofs.callers.RowsBelow.{first-and-rest, row-below}
 use Rattle.uses.specs.Report.{total_below}
+use Rattle.uses.proofs.Reports.{is-axis}
 use Rattle.uses.proofs.report.with_totals.Goals as goal
 
 pub sum_axis-requires-clause-lanes : goal.sum_axis-requires-clause-lanes
 sum_axis-requires-clause-lanes g c =
-    let two = c.view-table.ensures.axes in
-    let same = ap (λ v. length v.lengths) c.view-table.ensures.same in
-    lanes-summable c.view-table.result c.view-table.ensures.whole 0 (omega (arith, two, same)) int_sums (FitsSigned w64) (λ x. x) (c.if-not-sums_fit.ensures.selections.0 refl)
+    let t = c.view-table in
+    lanes-summable t.result t.ensures.whole 0 (is-axis _ _ t.ensures.same t.ensures.axes 0 (omega arith)) int_sums (FitsSigned w64) (λ x. x) (c.if-not-sums_fit.ensures.selections.0 refl)
 
 pub returns-clause-totals : goal.returns-clause-totals
 returns-clause-totals g c =
     let v = c.view-table.result in
     let row = c.view.result in
     let totals = c.in_ok-totals.ensures.sums.made in
-    let two = c.view-table.ensures.axes in
-    let same = ap (λ w. length w.lengths) c.view-table.ensures.same in
-    let some : 0 < length v.lengths = omega (arith, two, same) in
+    let some : 0 < length v.lengths = is-axis _ _ c.view-table.ensures.same c.view-table.ensures.axes 0 (omega arith) in
     let lengths : row.lengths ≡ remove v.lengths 0 = ap (λ w. w.lengths) c.view.ensures.same ∙ (totals.lengths ∙ ap (λ w. w.lengths) (lanes_of-some v.lengths v 0 some)) in
     let long : v.lengths ≡ slice_index v.lengths 0 ∷ row.lengths = first-and-rest v.lengths some ∙ ap (λ ms. slice_index v.lengths 0 ∷ ms) (sym lengths) in
     row-below v row (slice_index v.lengths 0) c.view.ensures.whole long (λ is. value_or (λ x. x) (pos 0) (cell v is)) (λ js. total int_sums (lane v 0 js).cells)
@@ -43,9 +41,7 @@ returns-clause-totals g c =
 pub returns-in_err-made-clause-errors : goal.returns-in_err-made-clause-errors
 returns-in_err-made-clause-errors g c k e =
     let v = c.view-table.result in
-    let two = c.view-table.ensures.axes in
-    let same = ap (λ w. length w.lengths) c.view-table.ensures.same in
-    let some : 0 < length v.lengths = omega (arith, two, same) in
+    let some : 0 < length v.lengths = is-axis _ _ c.view-table.ensures.same c.view-table.ensures.axes 0 (omega arith) in
     let lengths : c.view.result.lengths ≡ remove v.lengths 0 = ap (λ w. w.lengths) c.view.ensures.same ∙ (c.in_ok-totals.ensures.sums.made.lengths ∙ ap (λ w. w.lengths) (lanes_of-some v.lengths v 0 some)) in
     let p = err_from_is_err_and c.from_residual-in_err-made.result c.from_residual-in_err-made.ensures.1 in
     let own : c.with_row_below.result ≡ Err (Shape (shape_error k)) = search (rules, e, p.1, p.2) in

@@ -1,0 +1,8 @@
+-- The text, with the rows to come, is the whole.
+use Rattle.std.proofs.Common.{◌≡◌, ◌++◌, ◌∷◌, [], map}
+use Rattle.std.specs.Prelude.{flat_map, string_bytes}
+use Rattle.uses.specs.Printing.{grid_text, mark_of}
+use Rattle.uses.proofs.printing.grid_text.Given as goal
+
+abbrev pub invariant-loop-row : goal.invariant-loop-row
+invariant-loop-row l = string_bytes l.text ++ flat_map (λ row. map mark_of row.cells ++ 10 ∷ []) l.row-iterator ≡ grid_text l.grid
