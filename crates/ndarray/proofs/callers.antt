@@ -11,6 +11,7 @@ pub mod Joining
 pub mod Lanes
 pub mod Mapping
 pub mod MatrixPowers
+pub mod PartialFolds
 pub mod ProductChains
 pub mod Products
 pub mod RowOrder

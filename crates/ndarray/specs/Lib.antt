@@ -26,6 +26,7 @@ pub mod Limits
 pub mod Matrices
 pub mod MatrixLaws
 pub mod MatrixPowers
+pub mod NonzeroProducts
 pub mod Orders
 pub mod PartialFolds
 pub mod Producers
