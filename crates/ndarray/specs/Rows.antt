@@ -1,5 +1,5 @@
 -- The rows of a box, and producers that give their items row by row.
-use Rattle.std.specs.Prelude.{◌≡◌, ℕ, zero, suc, ◌<◌, List, [], ◌∷◌, All, map, length, Option, Some, None, slice_index, slice_set}
+use Rattle.std.specs.Prelude.{ℕ, zero, suc, ◌<◌, List, [], ◌∷◌, All, map, length, Option, Some, None, slice_index, slice_set}
 use Rattle.std.specs.List.{flat_map}
 use Rattle.ndarray.specs.Grid.{Grid, HasCells}
 use Rattle.ndarray.specs.Orders.{box_in}

@@ -1,9 +1,9 @@
 -- What is called to answer the new cells of an array, and what such calls leave: each at the old cell at an index list and an item there.
-use Rattle.std.specs.Prelude.{◌≡◌, ℕ, List, [], ◌++◌, length, drop, Option, Result, Ok, Err, Some, MatchResult}
+use Rattle.std.specs.Prelude.{◌≡◌, ℕ, List, [], ◌++◌, length, drop, Result, Ok, Err, Some}
 use Rattle.ndarray.specs.Grid.{Grid, cell}
 use Rattle.ndarray.specs.Orders.{box_in, cells_in}
 use Rattle.ndarray.specs.Producers.{both}
-use Rattle.ndarray.specs.Runs.{RunsUntil, TurnAt, StopsAt, GatherTurn, EndsOrStops}
+use Rattle.ndarray.specs.Runs.{RunsUntil, TurnAt, GatherTurn}
 use Rattle.ndarray.specs.Views.{broadcast_to}
 use Rattle.ndarray.specs.declared.base.shape.Order.{Order}
 

@@ -2,5 +2,6 @@
 pub mod PartlyMoved
 pub mod ElementPlaces
 pub mod Moving
+pub mod PlaceSources
 pub mod Sources
 pub mod CellPlaces

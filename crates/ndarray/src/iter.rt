@@ -9,6 +9,7 @@ pub mod elements_mut;
 pub mod indexed;
 pub mod indexed_mut;
 pub mod into_iter;
+mod row_elements;
 mod updates;
 pub mod vectors;
 

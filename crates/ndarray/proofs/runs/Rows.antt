@@ -1,21 +1,20 @@
 -- Turns over the items of rows, seen as turns over the index lists of the box.
-use Rattle.std.proofs.Common.{◌≡◌, ℕ, ◌<◌, zero, suc, length, Iter, List, [], ◌∷◌, ◌++◌, map, Option, Some, None, Bor, refl, sym, subst, ◌∙◌, ap, append-nil, append_assoc, inl, inr, Ok, Err}
+use Rattle.std.proofs.Common.{◌≡◌, ℕ, ◌<◌, zero, suc, length, Iter, List, [], ◌∷◌, ◌++◌, map, Option, Some, None, refl, sym, subst, ◌∙◌, ap, append-nil, append_assoc, inl, inr, Ok, Err}
 use Rattle.std.specs.Iterator.{YieldsFirstBy}
 use Rattle.std.specs.Iterator.Adapters.{once_item, once_steps}
 use Rattle.std.specs.declared.iter.Once.{Once}
 use Rattle.std.specs.List.{FoldsTo}
-use Rattle.std.specs.Prelude.{All, filter_map}
+use Rattle.std.specs.Prelude.{filter_map}
 use Rattle.std.proofs.lemmas.List.Elements.{All-head, All-tail}
 use Rattle.std.specs.Slice.Iter.{iter_steps, iter_mut_steps, iter_mut_rest}
 use Rattle.std.specs.declared.slice.IterMut.{IterMut}
 use Rattle.ndarray.specs.Grid.{Grid, IsGrid, HasCells, cell}
-use Rattle.ndarray.specs.Index.{InBox}
 use Rattle.ndarray.specs.Orders.{box_in}
 use Rattle.ndarray.specs.Producers.{YieldsInTurn, YieldsInTurnFrom, steps_of_both}
 use Rattle.ndarray.specs.Rows.{rows_in, joined, some_unless_none, HasRows, RowsInTurn, RowsInTurnFrom, GivesMany, AsLong}
 use Rattle.ndarray.specs.Runs.{MayTurnAt, TurnAt, TakesAt, StopsAt, EndsOrStops}
 use Rattle.ndarray.specs.declared.base.shape.Order.{Order}
-use Rattle.ndarray.proofs.boxes.Rows.{rows-joined, rows-within, rows_in-none, rows_in-one}
+use Rattle.ndarray.proofs.boxes.Rows.{rows-within, rows_in-none, rows_in-one}
 use Rattle.ndarray.proofs.runs.Turns.{FoldsTo-append}
 use Rattle.ndarray.proofs.runs.Producers.{MayBeYielded, YieldsInTurn-list, YieldsInTurn-steps, cells-stand, iter_first, iter_mut_first}
 

@@ -1,6 +1,6 @@
 -- Places that follow one another.
 use Rattle.std.proofs.Common.{◌≡◌, ℕ, ◌+◌, ◌%◌, ◌<◌, ◌^◌, suc, zero, List, [], ◌∷◌, length, get_or, Option, Some, refl, sym, ◌∙◌, ap, arith, subst}
-use Rattle.std.specs.Prelude.{filter_map, All, IsTrue, slice_get}
+use Rattle.std.specs.Prelude.{filter_map, IsTrue, slice_get}
 use Rattle.std.specs.Option.{is_some}
 use Rattle.std.proofs.lemmas.List.Elements.{All-head, All-tail}
 use Rattle.ndarray.specs.base.Strided.{places_from, HaveElements}

@@ -1,42 +1,49 @@
 //! The iterator over cells.
 
-ghost use Rattle.std.specs.Prelude.{◌≡◌, [], ◌+◌, ◌<◌, ◌≤◌, ◌^◌, length, take, drop, ⊤, IfSome, MatchOption};
+ghost use Rattle.std.specs.Prelude.{◌≡◌, ◌+◌, ◌<◌, ◌≤◌, ◌^◌, length, take, drop, ⊤, IfSome};
 ghost use Rattle.std.specs.Iterator.{YieldsFirstRef, YieldsLastRef, UpTo, item_count};
 ghost use Rattle.std.specs.Iterator.SizeHint.{IsExactHint, IsWithinCount};
-ghost use Rattle.ndarray.specs.Grid.{IsGrid, HasCells};
+ghost use Rattle.ndarray.specs.Grid.{IsGrid};
 ghost use Rattle.ndarray.specs.Index.{InBox, size};
-ghost use Rattle.ndarray.specs.base.Strided.{SplitsOffRow};
 ghost use Rattle.ndarray.specs.base.Ranks.{rank};
 ghost use Rattle.ndarray.specs.Orders.{HasInOrder, cells_in};
 ghost use Rattle.ndarray.specs.declared.base.shape.Order.TheVariants.{RowMajor};
 
 use crate::base::array::ArrayView;
 use crate::base::dimension::{Ix1, Lengths};
-use crate::base::strided::Strided;
-use crate::order::{Order, Walk};
+use crate::iter::row_elements::RowElements;
+use crate::order::Order;
 use std::alloc::AllocError;
 use std::iter::ExactSizeIterator;
 use std::marker::Model;
+use std::slice;
 
 /// The cells of a view that are still to come, in row order.
 ///
 /// An iterator allocates nothing, and neither does any of its steps.
 #[derive(Drop)]
 pub struct ElementsBase<'a, A, D: Lengths> {
-    row: Strided<'a, A>,
-    view: ArrayView<'a, A, D>,
-    walk: Walk<D>,
+    source: CellSource<'a, A, D>,
+}
+
+/// What the cells are taken from.
+#[derive(Drop)]
+enum CellSource<'a, A, D: Lengths> {
+    /// A slice, whose elements they are.
+    Slice(slice::Iter<'a, A>),
+    /// The rows of a view.
+    Rows(RowElements<'a, A, D>),
 }
 
 impl<'a, A, D: Lengths> Model for ElementsBase<'a, A, D> {
-    ghost use Rattle.std.specs.Prelude.{List, filter_map, ◌++◌, ◌+◌, ◌<◌, ◌^◌, length};
-    ghost use Rattle.ndarray.specs.Grid.{cell, HasCells};
+    ghost use Rattle.std.specs.Prelude.{List, ⊤};
+    ghost use Rattle.ndarray.specs.places.Sources.{cells_to_come};
 
     ghost Value = { List A };
 
-    ghost view = { λ s. s.row ++ filter_map (cell s.view) s.walk };
+    ghost view = { λ s. cells_to_come s.source };
 
-    ghost invariant = { λ s. HasCells s.view s.walk × (length s.row + length s.walk < 2 ^ 63) };
+    ghost invariant = { λ _. ⊤ };
 }
 
 impl<'a, A, D: Lengths> ElementsBase<'a, A, D> {
@@ -56,11 +63,14 @@ impl<'a, A, D: Lengths> ElementsBase<'a, A, D> {
         ensures fits { length result < 2 ^ 63 }
         ensures whole { IsGrid v.entry }
     {
-        let walk = Walk::new(v.raw_dim(), order);
-        ElementsBase {
-            row: v.no_cells(),
-            view: v,
-            walk,
+        let _dim = v.raw_dim();
+        match v.slice_in(order) {
+            Some(slice) => ElementsBase {
+                source: CellSource::Slice(slice.iter()),
+            },
+            None => ElementsBase {
+                source: CellSource::Rows(RowElements::in_order(v, order)),
+            },
         }
     }
 
@@ -70,42 +80,14 @@ impl<'a, A, D: Lengths> ElementsBase<'a, A, D> {
         requires fits { 0 < count → rank v.lengths (D.numbers index) + count ≤ size v.lengths }
         ensures { result ≡ take count (drop (rank v.entry.lengths (D.numbers index)) v.entry.cells) }
     {
-        let walk = Walk::starting_at(v.raw_dim(), Order::RowMajor, index, count);
         ElementsBase {
-            row: v.no_cells(),
-            view: v,
-            walk,
+            source: CellSource::Rows(RowElements::starting_at(v, index, count)),
         }
     }
 }
 
 /// The cells of an array that are still to come, in row order.
 pub type Iter<'a, A, D> = ElementsBase<'a, A, D>;
-
-/// A row of cells, and the index lists behind it.
-#[derive(Drop)]
-struct RowAndRest<'a, A, D: Lengths> {
-    row: Strided<'a, A>,
-    walk: Walk<D>,
-}
-
-/// The next row of a walk over cells of a view.
-#[inline(always)]
-fn next_row<'a, A, D: Lengths>(
-    view: ArrayView<'a, A, D>,
-    mut walk: Walk<D>,
-) -> Option<RowAndRest<'a, A, D>>
-    requires { HasCells view walk }
-    ensures { MatchOption result (walk ≡ []) (λ t. SplitsOffRow view.entry walk t.row t.walk) }
-{
-    let Some(row) = walk.next_row() else {
-        return None;
-    };
-    Some(RowAndRest {
-        row: view.cells_along(&row.first, row.axis, row.count),
-        walk,
-    })
-}
 
 impl<'a, A, D: Lengths> Iterator for ElementsBase<'a, A, D> {
     type Item = &'a A;
@@ -116,20 +98,10 @@ impl<'a, A, D: Lengths> Iterator for ElementsBase<'a, A, D> {
 
     #[inline(always)]
     fn next(&mut self) -> Option<&'a A> {
-        if let Some(x) = self.row.next() {
-            return Some(x);
+        match &mut self.source {
+            CellSource::Slice(cells) => cells.next(),
+            CellSource::Rows(cells) => cells.next(),
         }
-        // Copies are handed on, so that the iterator itself may live in registers.
-        let Some(taken) = next_row(self.view.again(), self.walk.again()) else {
-            return None;
-        };
-        let RowAndRest { row, walk } = taken;
-        self.row = row;
-        self.walk = walk;
-        let Some(x) = self.row.next() else {
-            unreachable!()
-        };
-        Some(x)
     }
 
     fn size_hint(&self) -> (usize, Option<usize>)
@@ -144,7 +116,10 @@ impl<'a, A, D: Lengths> Iterator for ElementsBase<'a, A, D> {
 
 impl<'a, A, D: Lengths> ExactSizeIterator for ElementsBase<'a, A, D> {
     fn len(&self) -> usize {
-        self.row.len() + self.walk.len()
+        match &self.source {
+            CellSource::Slice(cells) => cells.len(),
+            CellSource::Rows(cells) => cells.len(),
+        }
     }
 }
 
@@ -152,9 +127,9 @@ impl<'a, A> DoubleEndedIterator for ElementsBase<'a, A, Ix1> {
     ghost next_back_gives = { YieldsLastRef (λ rest. rest) };
 
     fn next_back(&mut self) -> Option<&'a A> {
-        match self.walk.next_back() {
-            Some(index) => Some(self.view.item(&index)),
-            None => self.row.next_back(),
+        match &mut self.source {
+            CellSource::Slice(cells) => cells.next_back(),
+            CellSource::Rows(cells) => cells.next_back(),
         }
     }
 }
@@ -165,10 +140,10 @@ impl<'a, A, D: Lengths> Clone for ElementsBase<'a, A, D> {
     ghost is_infallible = { λ _. ⊤ };
 
     fn clone(&self) -> Result<ElementsBase<'a, A, D>, AllocError> {
-        Ok(ElementsBase {
-            row: self.row.again(),
-            view: self.view.again(),
-            walk: self.walk.clone()?,
-        })
+        let source = match &self.source {
+            CellSource::Slice(cells) => CellSource::Slice(cells.clone()?),
+            CellSource::Rows(cells) => CellSource::Rows(cells.again()),
+        };
+        Ok(ElementsBase { source })
     }
 }

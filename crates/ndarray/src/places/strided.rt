@@ -87,15 +87,159 @@ impl Iterator for PlaceRow {
     }
 }
 
-/// The places of cells that are still to come: those of a row, and those of the index lists behind it.
+/// Places that follow one another and are still to come: `left` of them.
+#[derive(Drop)]
+pub(crate) struct PlaceRun {
+    place: usize,
+    left: usize,
+}
+
+impl Model for PlaceRun {
+    ghost use Rattle.std.specs.Prelude.{List, ℕ};
+    ghost use Rattle.ndarray.specs.base.Strided.{places_from};
+
+    ghost Value = { List ℕ };
+
+    ghost view = { λ r. places_from r.place 1 r.left };
+}
+
+impl PlaceRun {
+    /// How many are still to come.
+    fn len(&self) -> usize
+        ensures { result ≡ length self.now }
+    {
+        self.left
+    }
+
+    /// The next place.
+    #[inline(always)]
+    fn next(&mut self) -> Option<usize>
+        ensures { YieldsFirst (λ rest. rest) self.old result self.new }
+    {
+        if self.left == 0 {
+            return None;
+        }
+        let place = self.place;
+        self.left -= 1;
+        self.place = place.wrapping_add(1);
+        Some(place)
+    }
+
+    /// The last place.
+    fn next_back(&mut self) -> Option<usize>
+        ensures { YieldsLast (λ rest. rest) self.old result self.new }
+    {
+        if self.left == 0 {
+            return None;
+        }
+        self.left -= 1;
+        Some(self.place.wrapping_add(self.left))
+    }
+}
+
+/// The places of cells that are still to come.
 #[derive(Drop)]
 pub(crate) struct StridedPlaces<D: Lengths> {
+    source: PlaceSource<D>,
+}
+
+/// What the places are taken from.
+#[derive(Drop)]
+enum PlaceSource<D: Lengths> {
+    /// Places that follow one another.
+    Run(PlaceRun),
+    /// The rows of a layout.
+    Rows(RowPlaces<D>),
+}
+
+impl<D: Lengths> Model for StridedPlaces<D> {
+    ghost use Rattle.std.specs.Prelude.{List, ℕ, ⊤};
+    ghost use Rattle.ndarray.specs.places.PlaceSources.{places_to_come};
+
+    ghost Value = { List ℕ };
+
+    ghost view = { λ s. places_to_come s.source };
+
+    ghost invariant = { λ _. ⊤ };
+}
+
+impl<D: Lengths> StridedPlaces<D> {
+    /// The places of all cells, in an order.
+    pub(crate) fn new(layout: Layout<D>, order: Order) -> Self
+        requires limit { IsWithinLimit (D.numbers layout.dim) }
+        requires as_many { length (D.numbers layout.strides) ≡ length (D.numbers layout.dim) }
+        ensures { result ≡ places_along layout.start (D.numbers layout.strides) (box_in order (D.numbers layout.dim)) }
+    {
+        if layout.is_contiguous_in(order) {
+            let run = PlaceRun {
+                place: layout.start,
+                left: layout.dim.size(),
+            };
+            return StridedPlaces {
+                source: PlaceSource::Run(run),
+            };
+        }
+        StridedPlaces {
+            source: PlaceSource::Rows(RowPlaces::new(layout, order)),
+        }
+    }
+
+    /// How many are still to come.
+    pub(crate) fn len(&self) -> usize
+        ensures { result ≡ length self.now }
+    {
+        match &self.source {
+            PlaceSource::Run(places) => places.len(),
+            PlaceSource::Rows(places) => places.len(),
+        }
+    }
+
+    /// The next place.
+    #[inline(always)]
+    pub(crate) fn next(&mut self) -> Option<usize>
+        ensures { YieldsFirst (λ rest. rest) self.old result self.new }
+    {
+        match &mut self.source {
+            PlaceSource::Run(places) => places.next(),
+            PlaceSource::Rows(places) => places.next(),
+        }
+    }
+}
+
+impl<D: Lengths> Iterator for StridedPlaces<D> {
+    type Item = usize;
+
+    ghost next_gives = { YieldsFirst (λ rest. rest) };
+
+    ghost remaining = { item_count (λ rest. rest) };
+
+    #[inline(always)]
+    fn next(&mut self) -> Option<usize> {
+        StridedPlaces::next(self)
+    }
+}
+
+impl StridedPlaces<Ix1> {
+    /// The last place.
+    pub(crate) fn next_back(&mut self) -> Option<usize>
+        ensures { YieldsLast (λ rest. rest) self.old result self.new }
+    {
+        match &mut self.source {
+            PlaceSource::Run(places) => places.next_back(),
+            PlaceSource::Rows(places) => places.next_back(),
+        }
+    }
+}
+
+/// The places of cells that are still to come: those of a row, and those of the index lists behind it.
+#[derive(Drop)]
+pub(crate) struct RowPlaces<D: Lengths> {
     row: PlaceRow,
     layout: Layout<D>,
     walk: Walk<D>,
 }
 
-impl<D: Lengths> Model for StridedPlaces<D> {
+impl<D: Lengths> Model for RowPlaces<D> {
     ghost use Rattle.std.specs.Prelude.{List, ℕ, ◌≡◌, ◌++◌, ◌+◌, ◌<◌, ◌^◌, length, All};
     ghost use Rattle.ndarray.specs.places.ElementPlaces.{places_along};
 
@@ -106,15 +250,15 @@ impl<D: Lengths> Model for StridedPlaces<D> {
     ghost invariant = { λ s. All (λ is. length (D.numbers s.layout.strides) ≡ length is) s.walk × (length s.row + length s.walk < 2 ^ 63) };
 }
 
-impl<D: Lengths> StridedPlaces<D> {
+impl<D: Lengths> RowPlaces<D> {
     /// The places of all cells, in an order.
-    pub(crate) fn new(layout: Layout<D>, order: Order) -> Self
+    fn new(layout: Layout<D>, order: Order) -> Self
         requires limit { IsWithinLimit (D.numbers layout.dim) }
         requires as_many { length (D.numbers layout.strides) ≡ length (D.numbers layout.dim) }
         ensures { result ≡ places_along layout.start (D.numbers layout.strides) (box_in order (D.numbers layout.dim)) }
     {
         let walk = Walk::new(layout.dim.copied(), order);
-        StridedPlaces {
+        RowPlaces {
             row: PlaceRow {
                 place: 0,
                 stride: 0,
@@ -126,7 +270,7 @@ impl<D: Lengths> StridedPlaces<D> {
     }
 
     /// How many are still to come.
-    pub(crate) fn len(&self) -> usize
+    fn len(&self) -> usize
         ensures { result ≡ length self.now }
     {
         self.row.len() + self.walk.len()
@@ -134,7 +278,7 @@ impl<D: Lengths> StridedPlaces<D> {
 
     /// The next place.
     #[inline(always)]
-    pub(crate) fn next(&mut self) -> Option<usize>
+    fn next(&mut self) -> Option<usize>
         ensures { YieldsFirst (λ rest. rest) self.old result self.new }
     {
         if let Some(place) = self.row.next() {
@@ -155,22 +299,9 @@ impl<D: Lengths> StridedPlaces<D> {
     }
 }
 
-impl<D: Lengths> Iterator for StridedPlaces<D> {
-    type Item = usize;
-
-    ghost next_gives = { YieldsFirst (λ rest. rest) };
-
-    ghost remaining = { item_count (λ rest. rest) };
-
-    #[inline(always)]
-    fn next(&mut self) -> Option<usize> {
-        StridedPlaces::next(self)
-    }
-}
-
-impl StridedPlaces<Ix1> {
+impl RowPlaces<Ix1> {
     /// The last place.
-    pub(crate) fn next_back(&mut self) -> Option<usize>
+    fn next_back(&mut self) -> Option<usize>
         ensures { YieldsLast (λ rest. rest) self.old result self.new }
     {
         match self.walk.next_back() {

@@ -1,7 +1,4 @@
-use Rattle.std.proofs.Common.{◌≡◌, arith, map}
-use Rattle.ndarray.specs.Index.{size, row_order}
-use Rattle.ndarray.specs.base.Places.{place}
-use Rattle.ndarray.specs.base.Strided.{places_from}
+use Rattle.std.proofs.Common.{arith}
 use Rattle.ndarray.proofs.boxes.Sizes.{nonzero-reverse}
 use Rattle.ndarray.proofs.strides.PlacesInOrder.{columns-follow}
 use Rattle.ndarray.proofs.base.layout.Layout.is_contiguous_in.Goals as goal

@@ -1,38 +1,34 @@
-use Rattle.std.proofs.Common.{sym, ap, ◌∙◌, ◌≡◌, subst, filter_map, arith, length}
-use Rattle.ndarray.specs.Grid.{HasCells, cell}
-use Rattle.ndarray.specs.Orders.{HasInOrder, box_in}
-use Rattle.ndarray.proofs.cells.Cells.{HasCells-box_in, cells_in-HasInOrder, length-along}
-use Rattle.ndarray.proofs.boxes.Orders.{box_in-within, length-box_in}
+use Rattle.std.proofs.Common.{◌≡◌, ◌<◌, ◌^◌, ◌∙◌, sym, ap, subst, arith, length, List}
+use Rattle.ndarray.specs.Grid.{Grid, IsGrid}
+use Rattle.ndarray.specs.Limits.{IsWithinLimit}
+use Rattle.ndarray.specs.Orders.{HasInOrder, cells_in}
+use Rattle.ndarray.specs.declared.base.shape.Order.{Order}
 use Rattle.ndarray.proofs.boxes.Sizes.{size-le}
+use Rattle.ndarray.proofs.cells.Cells.{cells_in-HasInOrder}
+use Rattle.ndarray.proofs.cells.CellsInOrder.{length-cells_in}
 use Rattle.ndarray.proofs.iter.elements.ElementsBase.in_order.Goals as goal
-use Rattle.ndarray.proofs.iter.elements.ElementsBase.in_order.Goals.{After-no_cells}
 
-walked : (g : _) (c : After-no_cells g) → c.new-walk.result ≡ box_in c.args.order c.args.v.lengths
-walked g c = c.new-walk.ensures.list ∙ ap (box_in c.args.order) c.raw_dim.ensures.lengths
+module _ {A : Type 0} (o : Order) (g : Grid A) (whole : IsGrid g) (xs : List A) (e : xs ≡ cells_in o g) where
+  described : HasInOrder o g xs
+  described = subst (HasInOrder o g) (sym e) (cells_in-HasInOrder o g whole)
 
-pub returns-clause-cells : goal.returns-clause-cells
-returns-clause-cells g c = rw c.no_cells.ensures (ap (filter_map (cell c.args.v)) (walked g c))
+  few : IsWithinLimit g.lengths → length xs < 2 ^ 63
+  few limit =
+      let l = ap length e ∙ length-cells_in o g whole in
+      let s = size-le g.lengths in
+      omega arith
+
+pub returns-in-Some-clause-cells : goal.returns-in-Some-clause-cells
+returns-in-Some-clause-cells g c = c.iter.ensures.rest ∙ c.in-Some.ensures.cells
+
+pub returns-in-Some-clause-described : goal.returns-in-Some-clause-described
+returns-in-Some-clause-described g c = described c.args.order c.args.v c.raw_dim-dim.ensures.whole _ (returns-in-Some-clause-cells g c)
+
+pub returns-in-Some-clause-fits : goal.returns-in-Some-clause-fits
+returns-in-Some-clause-fits g c = few c.args.order c.args.v c.raw_dim-dim.ensures.whole _ (returns-in-Some-clause-cells g c) c.raw_dim-dim.ensures.limit
 
 pub returns-clause-described : goal.returns-clause-described
-returns-clause-described g c = subst (HasInOrder c.args.order c.args.v) (sym (returns-clause-cells g c)) (cells_in-HasInOrder c.args.order c.args.v c.raw_dim.ensures.whole)
+returns-clause-described g c = described c.args.order c.args.v c.raw_dim-dim.ensures.whole _ c.in_order.ensures
 
 pub returns-clause-fits : goal.returns-clause-fits
-returns-clause-fits g c =
-    let o = c.args.order in
-    let l = ap length (returns-clause-cells g c) in
-    let k = length-along c.args.v c.raw_dim.ensures.whole (box_in o c.args.v.lengths) (box_in-within o c.args.v.lengths) in
-    let n = length-box_in o c.args.v.lengths in
-    let m = c.raw_dim.ensures.limit in
-    let s = size-le c.args.v.lengths in
-    omega arith
-
-pub invariant_of-result : goal.invariant_of-result
-invariant_of-result g c =
-    let o = c.args.order in
-    let w = walked g c in
-    let n = length-box_in o c.args.v.lengths in
-    let m = c.raw_dim.ensures.limit in
-    let s = size-le c.args.v.lengths in
-    let e = ap length w in
-    let z = ap length c.no_cells.ensures in
-    (subst (HasCells c.args.v) (sym w) (HasCells-box_in o c.args.v c.raw_dim.ensures.whole), omega arith)
+returns-clause-fits g c = few c.args.order c.args.v c.raw_dim-dim.ensures.whole _ c.in_order.ensures c.raw_dim-dim.ensures.limit
