@@ -43,6 +43,10 @@ pub fn mat_assoc<A: LinalgScalar>()
 
 /// Powers of a square matrix: the identity matrix changes nothing, and the product of power i and power j is power i + j. So
 /// power 2i is the square of power i.
+///
+/// ```
+/// mat_powers::<i64>(); // then the law holds of `i64` in the proof of the caller
+/// ```
 pub fn mat_powers<A: LinalgScalar>()
     ensures identity { IdentityIsNeutral A.addition A.multiplication }
     ensures adds { PowersAdd A.addition A.multiplication }

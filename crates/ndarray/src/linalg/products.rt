@@ -54,6 +54,11 @@ pub trait Dot<Rhs> {
 /// Whether two arrays have a product: each has an axis, the last length of the left is the last but one of the right (its only
 /// one where it has one axis), and the product has at most 32 axes, whose lengths that are not 0 multiply to at most
 /// `isize::MAX`.
+///
+/// ```
+/// assert!(dot_ok(&a, &b)); // of lengths (2, 3) and (3, 4)
+/// assert!(!dot_ok(&b, &a));
+/// ```
 pub fn dot_ok<S: Data, S2: Data, D: Lengths, E: Lengths>(
     left: &ArrayBase<S, D>,
     right: &ArrayBase<S2, E>,
