@@ -112,7 +112,7 @@ module _ {A : Type 0} (value : A → ℤ) (fits : ℤ → Type 0) where
   abbrev pub HasWindowMagnitudesInRange : Grid A → Grid A → Type 0
   HasWindowMagnitudesInRange g h = (ps : List ℕ) → InBox (valid_counts g.lengths h.lengths) ps → fits (pos (magnitude_sum (window_products int_products value g h ps)))
 
-  -- a test says whether the absolute values of the products of two lists add up to a number that fits; a yes tells that every selection has its sum there
+  -- a test says whether the absolute values of the products of two lists add up to a number that fits; a yes says that every selection has its sum there
   abbrev pub TestsProducts : List A → List A → Bool → Type 0
   TestsProducts xs ys r = (IsTrue r ↔ fits (pos (magnitude_sum (products_of int_products value xs ys)))) × (IsTrue r → IsSummable int_sums fits (products_of int_products value xs ys))
 

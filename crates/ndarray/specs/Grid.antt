@@ -20,13 +20,13 @@ same_index [] (j ∷ js) = false
 same_index (i ∷ is) [] = false
 same_index (i ∷ is) (j ∷ js) = nat_eq i j && same_index is js
 
--- of two lists side by side, the value beside the index list
+-- of two lists side by side, the value next to the index list
 abbrev pub beside : {A : Type 0} → List (List ℕ) → List A → List ℕ → Option A
 beside [] xs is = None
 beside (js ∷ jss) [] is = None
 beside (js ∷ jss) (x ∷ xs) is = if same_index js is then Some x else beside jss xs is
 
--- the cell at an index list: the value beside it where the box in row order lies beside the cells. `None` outside the box
+-- the cell at an index list: the value next to it where the box in row order lies next to the cells. `None` outside the box
 unfoldable pub cell : {A : Type 0} → Grid A → List ℕ → Option A
 cell g is = beside (row_order g.lengths) g.cells is
 

@@ -49,7 +49,7 @@ module _ {F A B : Type 0} (yields_at : List ℕ → A → Type 0) (call_gives : 
   abbrev pub MayFold : (F → B → A → Type 0) → List (List ℕ) → F → B → Type 0
   MayFold can_call is f init = MayTurnAt (TurnAt yields_at (FoldTurn call_gives)) (TakesAt yields_at (λ p x. can_call p.0 p.1 x)) (f, init) is
 
--- a call that answers b
+-- a call that returns b
 abbrev pub AnswerTurn : {F A O : Type 0} → (F → A → O → F → Type 0) → O → F → A → F → Type 0
 AnswerTurn call_gives b p x q = call_gives p x b q
 
@@ -68,7 +68,7 @@ module _ {F A : Type 0} (yields_at : List ℕ → A → Type 0) (call_gives : F 
   TestsUntil is f on off r = RunsUntil (TurnAt yields_at (AnswerTurn call_gives on))
       (λ q i. (x : A) × yields_at i x × ((r ≡ off) × ((h : F) × call_gives q x off h))) (λ _. r ≡ on) f is
 
-  -- f may be called at each of them as long as it answers `on`
+  -- f may be called at each of them as long as it returns `on`
   abbrev pub MayTest : (F → A → Type 0) → List (List ℕ) → F → Bool → Type 0
   MayTest can_call is f on = MayTurnAt (TurnAt yields_at (AnswerTurn call_gives on)) (TakesAt yields_at can_call) f is
 
@@ -91,7 +91,7 @@ abbrev pub GatherTurn : {F A R : Type 0} → (F → A → R → F → Type 0) �
 GatherTurn {R = R} call_gives p x q = (r : R) × (q.1 ≡ p.1 ++ (r ∷ [])) × call_gives p.0 x r q.0
 
 module _ {F A R : Type 0} (yields_at : List ℕ → A → Type 0) (call_gives : F → A → R → F → Type 0) where
-  -- rs are the answers of the calls at the items of each index list in turn
+  -- rs are the results of the calls at the items of each index list in turn
   abbrev pub Gathers : List (List ℕ) → F → List R → Type 0
   Gathers is f rs = (last : F) × FoldsTo {P = F × List R} (TurnAt yields_at (GatherTurn call_gives)) (f, []) is (last, rs)
 
@@ -99,7 +99,7 @@ module _ {F A R : Type 0} (yields_at : List ℕ → A → Type 0) (call_gives : 
   abbrev pub MayGather : (F → A → Type 0) → List (List ℕ) → F → Type 0
   MayGather can_call is f = MayTurnAt {P = F × List R} (TurnAt yields_at (GatherTurn call_gives)) (TakesAt yields_at (λ p x. can_call p.0 x)) (f, []) is
 
--- the array has these lengths, and along the box in the named order its cells are the answers of the calls of f at the items there
+-- the array has these lengths, and along the box in the named order its cells are the results of the calls of f at the items there
 pub record Collects {F A R : Type 0} (yields_at : List ℕ → A → Type 0) (call_gives : F → A → R → F → Type 0) (order : Order) (ns : List ℕ) (f : F) (g : Grid R) : Type 0 where
   pub lengths : g.lengths ≡ ns
   pub answers : List R

@@ -19,12 +19,12 @@ is_cell_beside g yields_at = both (is_cell g) yields_at
 abbrev pub is_pair_of_cells : {A B : Type 0} → Grid A → Grid B → List ℕ → A × B → Type 0
 is_pair_of_cells g h = both (is_cell g) (is_cell (broadcast_to h g.lengths))
 
--- a call that answers a value, and no error
+-- a call that returns a value, and no error
 abbrev pub answers : {F X A E : Type 0} → (F → X → Result A E → F → Type 0) → F → X → A → F → Type 0
 answers call_gives f x a h = call_gives f x (Ok a) h
 
 module _ {F X A E : Type 0} (yields_at : List ℕ → X → Type 0) (call_gives : F → X → Result A E → F → Type 0) where
-  -- f was called at the items of each index list in turn, up to the end or to its first error, which r is. ys are the answers before it, and behind them the elements of xs.
+  -- f was called at the items of each index list in turn, up to the end or to its first error, which r is. ys are the results before it, and behind them the elements of xs.
   abbrev pub OverwritesUntil : List (List ℕ) → F → List A → Result (Unit {0}) E → List A → Type 0
   OverwritesUntil is f xs r ys = RunsUntil {P = F × List A} (TurnAt yields_at (GatherTurn (answers call_gives)))
       (λ q i. (x : X) × yields_at i x × ((e : E) × (h : F) × (r ≡ Err e) × call_gives q.0 x (Err e) h × (ys ≡ q.1 ++ drop (length q.1) xs)))

@@ -8,7 +8,7 @@ use Rattle.ndarray.specs.Index.{row_order}
 use Rattle.ndarray.specs.Grid.{Grid, grid, same_index}
 use Rattle.ndarray.specs.contracts.base.array.ArrayBase.{the_row}
 
--- of two lists side by side, the second with w beside the index list
+-- of two lists side by side, the second with w next to the index list
 abbrev pub put_beside : {A : Type 0} → List (List ℕ) → List A → List ℕ → A → List A
 put_beside [] xs is w = xs
 put_beside (js ∷ jss) [] is w = []

@@ -1,4 +1,4 @@
--- What `places` speaks of, and `iter`, which stands on it: cells one after another, and elements that are moved out.
+-- What `places` speaks of, and `iter`, which rests on it: cells one after another, and elements that are moved out.
 pub mod PartlyMoved
 pub mod ElementPlaces
 pub mod Moving

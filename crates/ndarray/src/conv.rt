@@ -13,7 +13,7 @@ ghost use Rattle.ndarray.specs.Subviews.{ArePositive};
 ghost use Rattle.ndarray.specs.Sums.{IsSummable, total};
 
 use crate::reduce::range_tests::inner_stays_in_range;
-use crate::zip::calls::ItemCall;
+use crate::zip::closures::ItemCall;
 use crate::zip::collecting::collect_in_either_order;
 use crate::{
     Array, ArrayBase, ArrayView, Axis, Data, Dimension, IntegerElem, IntegerScalar, Ix1, Lengths,

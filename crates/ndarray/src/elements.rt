@@ -1,4 +1,4 @@
-//! Elements that stand for values, and that add and multiply as their values do.
+//! Elements that have values, and that add and multiply as their values do.
 
 ghost use Rattle.std.specs.Prelude.{◌≡◌, ◌↔◌, IsTrue};
 ghost use Rattle.ndarray.specs.Algebra.{CommutativeMonoid};
@@ -13,10 +13,10 @@ pub use crate::elements::whole_values::IntegerScalar;
 use num_traits::{One, Zero};
 use std::ops::{Add, Div, Mul, Sub};
 
-/// An element that may stand beside an array as a scalar: `&array + scalar`. For `bool` and the integer types.
+/// An element that may be next to an array as a scalar: `&array + scalar`. For `bool` and the integer types.
 pub trait ScalarOperand: 'static + Clone {}
 
-/// An element that stands for a value.
+/// An element that has a value.
 pub trait Valued: Copy {
     // The values.
     ghost Carrier: { Type 0 };

@@ -9,7 +9,7 @@ use crate::base::array::{Array, ArrayBase, ArrayView};
 use crate::base::dimension::Lengths;
 use crate::base::shape::Order;
 use crate::base::storage::Data;
-use crate::zip::calls::ItemCall;
+use crate::zip::closures::ItemCall;
 use crate::zip::collecting::try_collect_items;
 use std::alloc::{AllocError, Global};
 

@@ -16,7 +16,7 @@
 //! `Result<Array<..>, AllocError>`: at each index list what the elements' operation returns on the two cells there, the
 //! left one first, with the shapes broadcast together. `-` and `!` are on each cell of an `Array`.
 //!
-//! They require that the shapes broadcast together, which `broadcast_ok` tells, that the elements' operation is defined on
+//! They require that the shapes broadcast together, which `broadcast_ok` tests, that the elements' operation is defined on
 //! each pair of cells that meet (`broadcast_dim` shows how to test that), and that a clone that is made equals its source.
 //! The result is written into the left operand where that is an owned `Array`, else into the right one where that is, if it
 //! has the result's lengths; otherwise it is allocated. The elements of the result are of the left array's type, but of the

@@ -9,11 +9,11 @@ ghost use Rattle.std.specs.Prelude.{◌≡◌, ◌↔◌, IsTrue, MatchOption};
 ghost use Rattle.ndarray.specs.Broadcast.{BroadcastTogether, broadcast_lengths};
 
 mod add;
-mod assigning;
+mod assign_operators;
 mod bitand;
 mod bitor;
 mod bitxor;
-mod calls;
+mod cell_calls;
 mod computing;
 mod div;
 mod left_scalars;

@@ -65,7 +65,7 @@ impl<A: ProductElem, S: Data<Elem = A>, D: Lengths> ArrayBase<S, D> {
 impl<A: SumElem, S: Data<Elem = A>, D: Dimension> ArrayBase<S, D> {
     /// The sum of each lane along an axis: an array without that axis. A lane of length 0 has the sum zero.
     ///
-    /// Requires `axis < ndim()`, which `axis_ok` tells, and that of each lane every selection of the cells has its
+    /// Requires `axis < ndim()`, which `axis_ok` tests, and that of each lane every selection of the cells has its
     /// sum in range: check with `Zip::from(array.lanes(axis)).all(|lane| lane.sums_fit())`, or with
     /// [`sums_fit`](Self::sums_fit) of the whole array, which is enough. The error is allocation failure.
     ///
@@ -87,7 +87,7 @@ impl<A: SumElem, S: Data<Elem = A>, D: Dimension> ArrayBase<S, D> {
 impl<A: ProductElem, S: Data<Elem = A>, D: Dimension> ArrayBase<S, D> {
     /// The product of each lane along an axis: an array without that axis. A lane of length 0 has the product one.
     ///
-    /// Requires `axis < ndim()`, which `axis_ok` tells, and that of each lane every selection of the cells has its
+    /// Requires `axis < ndim()`, which `axis_ok` tests, and that of each lane every selection of the cells has its
     /// product in range: `Zip::from(array.lanes(axis)).all(|lane| lane.products_fit())` is enough, and so is
     /// [`products_fit`](Self::products_fit) of the whole array. The error is allocation failure.
     ///

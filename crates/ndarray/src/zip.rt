@@ -9,13 +9,13 @@ mod all_items;
 mod arities;
 mod assigning;
 mod azip;
-pub(crate) mod calls;
+pub(crate) mod closures;
 pub(crate) mod collecting;
 pub mod fold_while;
-mod indices;
-mod joining;
+mod index_lists;
 mod layout_places;
 pub mod pair;
+mod parts;
 pub mod producer;
 mod subviews;
 mod turns;
@@ -29,8 +29,8 @@ use crate::base::array::ArrayView;
 use crate::base::dimension::{Dimension, Lengths};
 use crate::base::index_lists::Indices;
 pub use crate::zip::fold_while::FoldWhile;
-pub use crate::zip::joining::{Five, Four, JoinOne, One, Six, Three, Two};
 use crate::zip::pair::Pair;
+pub use crate::zip::parts::{Five, Four, JoinOne, One, Six, Three, Two};
 pub use crate::zip::producer::{IntoBroadcast, IntoNdProducer, KeepsLengths, NdProducer, Shaped};
 use std::alloc::AllocError;
 use std::marker::{Model, PhantomData};
@@ -118,7 +118,7 @@ impl Zip<(), ()> {
         Zip::of(part.into_producer())
     }
 
-    /// Begins with the index patterns beside a producer, or a reference to an array: the item at an
+    /// Begins with the index patterns and a producer, or a reference to an array: the item at an
     /// index list is its pattern, and the producer's item.
     ///
     /// ```

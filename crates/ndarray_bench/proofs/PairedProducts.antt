@@ -22,7 +22,7 @@ sum-part f xs x ys = omega (arith, sum_by-append f xs (x ∷ ys), sum_by-cons f 
 pub sum-in_either_order : (f : List ℕ → ℕ) (o : Order) (ns : List ℕ) → sum_by f (box_in o ns) ≡ sum_by f (row_order ns)
 sum-in_either_order f o ns = sum_by-IsPermutation f (row_order ns) (box_in o ns) (box_in-rearranges o ns)
 
--- [[1, 5], [3, 7]] by its columns and [[2, 4], [8, 6]] by its rows, as `from_shape` tells them
+-- [[1, 5], [3, 7]] by its columns and [[2, 4], [8, 6]] by its rows, as `from_shape` tests them
 pub products-88 : (g h : Grid ℕ) (o : Order) → g.lengths ≡ 2 ∷ 2 ∷ [] → h.lengths ≡ 2 ∷ 2 ∷ [] → o ≡ ColumnMajor
     → HasInOrder o g (take (size g.lengths) (1 ∷ 3 ∷ 5 ∷ 7 ∷ [])) → HasInOrder RowMajor h (take (size h.lengths) (2 ∷ 4 ∷ 8 ∷ 6 ∷ []))
     → sum_by (product_at g h) (row_order g.lengths) ≡ 88

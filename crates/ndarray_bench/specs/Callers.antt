@@ -27,7 +27,7 @@ greater_at g h is = max (number (cell g is)) (number (cell (broadcast_to h g.len
 abbrev pub greatest_in_square : Grid ℕ → List ℕ → ℕ
 greatest_in_square image is = fold max 0 (window image (3 ∷ 3 ∷ []) (1 ∷ 1 ∷ []) is).cells
 
--- what is left of a whole beside the cell at an index list
+-- what is left of a whole at the cell at an index list
 abbrev pub rest_at : ℕ → Grid ℕ → List ℕ → ℕ
 rest_at whole g is = whole - number (cell g is)
 

@@ -189,7 +189,7 @@ pub fn cell_sums<S: Data<Elem = i64>, T: Data<Elem = i64>, D: DimMax<D>>(
     copy + b
 }
 
-/// What is left of a whole beside each part, and 0 where the part is greater. `u16` has no operators with a scalar on the
+/// What is left of a whole at each part, and 0 where the part is greater. `u16` has no operators with a scalar on the
 /// left.
 pub fn rests<S: Data<Elem = u16>, D: Lengths>(
     alloc: Global,

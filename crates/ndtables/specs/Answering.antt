@@ -1,4 +1,4 @@
--- What the program answers to its words, and why it does not.
+-- What the program prints for its words, and why it does not.
 use Rattle.std.specs.Prelude.{◌≡◌, ◌⊎◌, ℕ, List, [], ◌∷◌, codes}
 use Rattle.ndarray.specs.Integers.{int_products, int_sums}
 use Rattle.ndtables.specs.Faults.{ForbidsAdd, ForbidsConv, ForbidsConvFull, ForbidsCumprod, ForbidsDiff, ForbidsDot, ForbidsTotal, ForbidsTotals}

@@ -28,7 +28,7 @@ pub data SpellsLengths : List ℕ → List ℕ → Type 0 where
   none : SpellsLengths (46 ∷ []) []
   some : (pieces : List (List ℕ)) → 0 < length pieces → All IsDigits pieces → SpellsLengths (join_with_byte 120 pieces) (map (digits_value 10) pieces)
 
--- what stands behind the lengths: `f` where the table is stored column-major
+-- what comes after the lengths: `f` where the table is stored column-major
 abbrev pub ending : Order → List ℕ
 ending RowMajor = []
 ending ColumnMajor = 102 ∷ []

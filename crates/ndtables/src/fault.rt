@@ -22,7 +22,7 @@ pub enum Fault {
     /// A result, on the way too, that may not fit its type.
     #[error("range")]
     Range,
-    /// A refused growth.
+    /// A failed allocation.
     #[error("memory")]
     Memory,
 }

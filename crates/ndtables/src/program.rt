@@ -13,7 +13,7 @@ use std::io::Write;
 
 /// Answers the words, which are those after the program's name, and gives the exit status.
 ///
-/// The status is 0 where the answer stands on `out`. Else it is 2: a fault of the words and
+/// The status is 0 where the result is on `out`. Else it is 2: a fault of the words and
 /// allocation failure leave nothing on `out` and one line on `err`, and after a fault of a stream
 /// nothing more is printed on either.
 pub fn run<W: Write, E: Write>(alloc: Global, words: &[String], out: &mut W, err: &mut E) -> u8

@@ -110,7 +110,7 @@ fn lane_products_fit(table: &ArrayView<'_, i64, IxDyn>, axis: Axis) -> bool
 /// The difference of order `n` along an axis.
 ///
 /// The fault is `shape` where there is no such axis or it is too short, `range` where a difference on
-/// the way is no `i64`, and `memory` where growth is refused before that.
+/// the way is no `i64`, and `memory` where an allocation fails before that.
 pub fn differences(
     alloc: Global,
     table: &ArrayView<'_, i64, IxDyn>,

@@ -47,7 +47,7 @@ pub fn grid(alloc: Global, text: &str) -> Result<Array<bool, Ix2>, Fault> {
     rows.of(cells)
 }
 
-/// Whether a byte stands for a living cell.
+/// Whether a byte means a living cell.
 fn is_living(byte: u8) -> Result<bool, Fault> {
     match byte {
         b'#' => Ok(true),

@@ -1,4 +1,4 @@
--- The cells of an array, each beside its index list.
+-- The cells of an array, each with its index list.
 use Rattle.std.proofs.Common.{◌≡◌, ℕ, ◌<◌, ◌^◌, List, length, map, sym, ◌∙◌, ap, arith, subst}
 use Rattle.std.specs.Prelude.{zip, Some, All}
 use Rattle.std.proofs.lemmas.List.Elements.{All-same}

@@ -31,7 +31,7 @@ module _ {A : Type 0} where
   beside-later : (js : List ℕ) (jss : List (List ℕ)) (x : A) (xs : List A) (is : List ℕ) → js ≢ is → beside (js ∷ jss) (x ∷ xs) is ≡ beside jss xs is
   beside-later js jss x xs is h = let e = same_index-false js is h in rw e
 
-  -- at the k-th index list, of which none stands twice, stands the k-th element
+  -- at the k-th index list, of which none comes twice, stands the k-th element
   pub beside-at : (R : List ℕ → List ℕ → Type 0) → ((is : List ℕ) → R is is → ⊥) → (jss : List (List ℕ)) (xs : List A) (k : ℕ) (d : List ℕ) → AllPairs R jss → length xs ≡ length jss → k < length jss → beside jss xs (get_or jss k d) ≡ slice_get xs k
   beside-at R none [] xs k d up same lt = absurd (omega arith)
   beside-at R none (js ∷ jss) [] k d up same lt = absurd (omega arith)

@@ -28,8 +28,8 @@ use Rattle.std_alloc.proofs.ResultValues.{and_tt}
 use Rattle.std_alloc.proofs.VecSteps.El.{El, elτ, R, P, sz, Hd, Vr, vec_val, vec_typed}
 use Rattle.std_alloc.proofs.vec.Blocks.{Rest}
 use Rattle.std_alloc.proofs.vec.Spares.{Row}
-use Rattle.ndarray.specs.contracts.places.block.Deed as D
-use Rattle.ndarray.specs.contracts.places.block.ForgottenBits as H
+use Rattle.ndarray.specs.contracts.places.slots.Deed as D
+use Rattle.ndarray.specs.contracts.places.slots.ForgottenBits as H
 
 -- three values side by side
 abbrev pub three_val : Val → Val → Val → Val

@@ -118,7 +118,7 @@ pub length-row_from : (is : List ℕ) (axis n : ℕ) → length (row_from is axi
 length-row_from is axis zero = refl
 length-row_from is axis (suc n) = let ih = length-row_from (set is axis (get_or is axis 0 + 1)) axis n in omega arith
 
--- as many index lists beside places
+-- as many index lists with places
 pub length-indexed_row : (is : List ℕ) (axis p s n : ℕ) → length (zip (row_from is axis n) (places_from p s n)) ≡ n
 length-indexed_row is axis p s zero = refl
 length-indexed_row is axis p s (suc n) = let ih = length-indexed_row (set is axis (get_or is axis 0 + 1)) axis ((p + s) % 2 ^ 64) s n in omega arith
@@ -161,7 +161,7 @@ module _ (start : ℕ) (bs : List ℕ) where
       let ih = row-places axis n js (l ∙ sym (length-set is axis (get_or is axis 0 + 1))) in
       ap (λ ps. place start bs is ∷ ps) (ih ∙ ap (λ p. places_from p (get_or bs axis 0) n) (sym (place-any start bs is axis l)))
 
-  -- the index lists of a row, and those behind it, each beside its place
+  -- the index lists of a row, and those behind it, each with its place
   row-with_places : (axis n : ℕ) (is : List ℕ) → length bs ≡ length is → zip (row_from is axis n) (places_from (place start bs is) (get_or bs axis 0) n) ≡ with_places start bs (row_from is axis n)
   row-with_places axis zero is l = refl
   row-with_places axis (suc n) is l =

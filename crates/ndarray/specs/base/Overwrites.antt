@@ -7,7 +7,7 @@ use Rattle.ndarray.specs.Runs.{TurnAt, StopsAt, EndsOrStops}
 abbrev pub IsWritten : {A : Type 0} → (ℕ → Option A) → (ℕ → Option A) → ℕ → A → Type 0
 IsWritten at after k w = (after k ≡ Some w) × ((p : ℕ) → p ≢ k → after p ≡ at p)
 
--- Below, the state is the storage and the closure, and an item is beside the place of an element.
+-- Below, the state is the storage and the closure, and an item is next to the place of an element.
 -- there is an element, and the call may be made at it
 abbrev pub MayWrite : {S F A X : Type 0} → (S → ℕ → Option A) → (F → A × X → Type 0) → S × F → X × ℕ → Type 0
 MayWrite {A = A} at can_call s z = IsTrue (is_some (at s.0 z.1)) × ((a : A) → at s.0 z.1 ≡ Some a → can_call s.1 (a, z.0))

@@ -1,4 +1,4 @@
--- Inside `base`: where a place tells its index list.
+-- Inside `base`: where a place gives its index list.
 use Rattle.std.specs.Prelude.{◌≡◌, ◌<◌, length}
 use Rattle.ndarray.specs.Index.{size}
 use Rattle.ndarray.specs.Limits.{IsWithinLimit}

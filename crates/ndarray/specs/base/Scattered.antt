@@ -30,7 +30,7 @@ module _ (V : RattleType) where
   abbrev pub lent_at : Lft → ℕ → ℕ → GName → List (Option V.Denot) → Fml
   lent_at κ b o γ cs = fsep (fobs γ ((coded_list V.coded).code (somes cs))) (fbor κ (Body (ScatteredElements cs) b o γ))
 
--- what a region owns beside its fields: that its places fit, and their borrow of that name, for that lifetime
+-- what a region owns besides its fields: that its places fit, and their borrow of that name, for that lifetime
 abbrev pub region_owns : Lft → (V : RattleType) → Ptr → GName → List (Option V.Denot) → Fml
 region_owns κ V (block_ptr b o) γ cs = fsep (fit V cs) (lent_at V κ b o γ cs)
 region_owns κ V null_ptr γ cs = ffalse
@@ -42,18 +42,18 @@ module _ (V : RattleType) where
   scattered_lent b o (None ∷ cs) = scattered_lent b (o + (mem V).size) cs
   scattered_lent b o (Some c ∷ cs) = beside (shared_of V c b o) (scattered_lent b (o + (mem V).size) cs)
 
--- what a `&` to a region holds beside its fields, within the region's lifetime
+-- what a `&` to a region holds besides its fields, within the region's lifetime
 abbrev pub region_lent : Lft → (V : RattleType) → Ptr → List (Option V.Denot) → Lft → Fml
 region_lent κ V (block_ptr b o) cs = beside (said (fit V cs)) (within κ (scattered_lent V b o cs))
 region_lent κ V null_ptr cs = said ffalse
 
--- what a `SharedRegion` owns beside its fields: it has no places, and is no null pointer
+-- what a `SharedRegion` owns besides its fields: it has no places, and is no null pointer
 abbrev pub shared_region_owns : (V : RattleType) → Ptr → List (Option V.Denot) → Fml
 shared_region_owns V (block_ptr b o) [] = fsep (fit V []) ftrue
 shared_region_owns V (block_ptr b o) (c ∷ cs) = ffalse
 shared_region_owns V null_ptr cs = ffalse
 
--- what a `&` to a `SharedRegion` holds beside its fields
+-- what a `&` to a `SharedRegion` holds besides its fields
 abbrev pub shared_region_lent : (V : RattleType) → Ptr → List (Option V.Denot) → Lft → Fml
 shared_region_lent V (block_ptr b o) cs = beside (said (fit V cs)) (scattered_lent V b o cs)
 shared_region_lent V null_ptr cs = said ffalse

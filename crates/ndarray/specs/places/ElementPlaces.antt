@@ -10,15 +10,15 @@ use Rattle.ndarray.specs.base.Places.{place}
 abbrev pub places_along : ℕ → List ℕ → List (List ℕ) → List ℕ
 places_along start bs iss = map (place start bs) iss
 
--- the index lists, each beside its place
+-- the index lists, each with its place
 abbrev pub with_places : ℕ → List ℕ → List (List ℕ) → List (List ℕ × ℕ)
 with_places start bs iss = map (λ is. (is, place start bs is)) iss
 
--- the places beside index lists
+-- the places of index lists
 abbrev pub places_of : List (List ℕ × ℕ) → List ℕ
 places_of items = map (λ item. item.1) items
 
--- index lists beside places, each beside the element at its place
+-- index lists with places, each with the element at its place
 abbrev pub with_elements : {A : Type 0} → (ℕ → Option A) → List (List ℕ × ℕ) → List (List ℕ × A)
 with_elements at items = zip (map (λ item. item.0) items) (filter_map at (places_of items))
 

@@ -307,7 +307,7 @@ pub fn Ix6(a: usize, b: usize, c: usize, d: usize, e: usize, f: usize) -> Ix6
     Dim([a, b, c, d, e, f])
 }
 
-/// The dimension of the numbers of a slice. Requires at most 32 of them, which `numbers.len()` tells.
+/// The dimension of the numbers of a slice. Requires at most 32 of them, which `numbers.len()` tests.
 ///
 /// ```
 /// let lengths = [2, 3, 4];

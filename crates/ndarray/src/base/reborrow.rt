@@ -1,4 +1,4 @@
-//! A view to write in is borrowed again: its elements for a shorter time, beside its layout.
+//! A view to write in is borrowed again: its elements for a shorter time, with its layout.
 
 ghost use Rattle.std.specs.Prelude.{◌≡◌, ⊤};
 ghost use Rattle.std.specs.Borrow.{sem};

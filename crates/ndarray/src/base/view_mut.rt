@@ -60,7 +60,7 @@ impl<A: Drop, D: Lengths> Array<A, D> {
 }
 
 impl<'a, A, D: Lengths> Parts<'a, A, D> {
-    /// The right to read and write these elements, beside how the cells lie.
+    /// The right to read and write these elements, with how the cells lie.
     pub(crate) fn into_region_parts(self) -> RegionParts<'a, A, D>
         ensures layout { result.layout ≡ self.entry.layout }
         ensures slots { result.region.slots ≡ map Some self.entry.slice.now }

@@ -1,4 +1,4 @@
-//! Sums of elements, in the values that they stand for.
+//! Sums of elements, in the values that they have.
 
 ghost use Rattle.std.specs.Prelude.{◌≡◌};
 

@@ -15,7 +15,7 @@ use crate::base::region::{Life, RegionRepr};
 use crate::base::storage::DataMut;
 use crate::base::view_mut::RegionParts;
 use crate::order::Order;
-use crate::places::strided::StridedPlaces;
+use crate::places::place_rows::StridedPlaces;
 use std::iter::ExactSizeIterator;
 use std::marker::{Model, PhantomData};
 

@@ -1,4 +1,4 @@
-//! The iterator over cells beside their index lists.
+//! The iterator over cells with their index lists.
 
 ghost use Rattle.std.specs.Prelude.{◌≡◌, ◌<◌, ◌^◌, length, map, zip, ⊤, IfSome, All, Some};
 ghost use Rattle.std.specs.Iterator.{YieldsFirstBy, UpTo, item_count};
@@ -11,12 +11,12 @@ use crate::base::array::{ArrayBase, ArrayView};
 use crate::base::dimension::{Dimension, Lengths};
 use crate::base::storage::{Data, ViewRepr};
 use crate::order::Order;
-use crate::places::indexed::IndexedPlaces;
+use crate::places::indexed_rows::IndexedPlaces;
 use std::alloc::AllocError;
 use std::iter::ExactSizeIterator;
 use std::marker::Model;
 
-/// The cells of an array that are still to come in row order, each beside its index list.
+/// The cells of an array that are still to come in row order, each with its index list.
 ///
 /// An iterator allocates nothing, and neither does any of its steps.
 #[derive(Drop)]
@@ -54,7 +54,7 @@ impl<'a, A, D: Lengths> IndexedIter<'a, A, D> {
 }
 
 impl<S: Data, D: Dimension> ArrayBase<S, D> {
-    /// The cells in row order, whatever the strides, each beside the pattern of its index list.
+    /// The cells in row order, whatever the strides, each with the pattern of its index list.
     ///
     /// ```
     /// let view = ArrayView::from_shape((2, 2), &[1, 2, 3, 4])?;

@@ -1,4 +1,4 @@
-//! The iterator over cells to write to, each beside its index list.
+//! The iterator over cells to write to, each with its index list.
 
 ghost use Rattle.std.specs.Prelude.{◌≡◌, ◌<◌, ◌^◌, length, map, zip, IfSome, All, Some};
 ghost use Rattle.std.specs.Iterator.{YieldsFirstBy, UpTo, item_count};
@@ -15,7 +15,7 @@ use crate::places::region_places::Places;
 use std::iter::ExactSizeIterator;
 use std::marker::Model;
 
-/// The cells of an array that are still to come in row order, to write to, each beside its index list.
+/// The cells of an array that are still to come in row order, to write to, each with its index list.
 ///
 /// An iterator allocates nothing, and neither does any of its steps.
 #[derive(Drop)]
@@ -35,7 +35,7 @@ impl<'a, A, D: Lengths> Model for IndexedIterMut<'a, A, D> {
 }
 
 impl<S: DataMut, D: Dimension> ArrayBase<S, D> {
-    /// The cells to write to, in row order, whatever the strides, each beside the pattern of its index
+    /// The cells to write to, in row order, whatever the strides, each with the pattern of its index
     /// list. The array keeps its lengths.
     ///
     /// ```

@@ -36,7 +36,7 @@ pub fn chain_ok<S: Data, S2: Data, S3: Data>(
 /// (AB)x, by A(Bx): two matrices times a vector, without the product of the matrices. Of lengths (m, k), (k, n) and (n) the
 /// vector has m cells.
 ///
-/// Requires these lengths, which [`chain_ok`] tells, and that of the products of each inner sum of Bx and of A(Bx) every
+/// Requires these lengths, which [`chain_ok`] tests, and that of the products of each inner sum of Bx and of A(Bx) every
 /// selection has its sum in range. Nothing is required of the size of AB, nor of the ranges of its cells. The error is allocation
 /// failure; the arrays are as before.
 ///
@@ -88,7 +88,7 @@ pub fn kron_dot_ok<S: Data, S2: Data, S3: Data, S4: Data>(
 /// (A kron B)(C kron D), by AC kron BD: without the two Kronecker products that are multiplied. Of lengths (m, k), (p, q),
 /// (k, n) and (q, r) the matrix has lengths (m * p, n * r).
 ///
-/// Requires these lengths, with AC, BD and the result within the limit, which [`kron_dot_ok`] tells; that of the products
+/// Requires these lengths, with AC, BD and the result within the limit, which [`kron_dot_ok`] tests; that of the products
 /// of each inner sum of AC and of BD every selection has its sum in range; and that each product of a cell of AC and one
 /// of BD is in range. Nothing is required of A kron B and of C kron D. The error is allocation failure; the arrays are as before.
 ///

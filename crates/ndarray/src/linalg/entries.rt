@@ -8,7 +8,7 @@ ghost use Rattle.ndarray.specs.Limits.{IsWithinLimit};
 use crate::base::array::Array;
 use crate::base::dimension::Dimension;
 use crate::base::index_lists::Indices;
-use crate::zip::calls::ItemCall;
+use crate::zip::closures::ItemCall;
 use crate::zip::collecting::collect_in_either_order;
 use std::alloc::{AllocError, Global};
 

@@ -55,7 +55,7 @@ pub fn mat_vec_ok<S1: Data, S2: Data, S3: Data>(
 /// Leaves in each cell of `c` its old value times `beta`, plus `alpha` times the product of `a` and `b` there. Where `beta`
 /// is zero, the old values do not count and are not multiplied.
 ///
-/// Requires shapes (m, k), (k, n) and (m, n), which [`mat_mul_ok`] tells. Requires that of the products of each inner sum
+/// Requires shapes (m, k), (k, n) and (m, n), which [`mat_mul_ok`] tests. Requires that of the products of each inner sum
 /// every selection has its sum in range, and that `alpha` times each inner sum is in range; where `beta` is not zero, also
 /// that each old value times `beta` is, and the two added. It allocates nothing.
 ///
@@ -91,7 +91,7 @@ where
 /// Leaves in each cell of `y` its old value times `beta`, plus `alpha` times the product of `a` and `x` there. Where `beta`
 /// is zero, the old values do not count and are not multiplied.
 ///
-/// Requires shapes (m, k), (k) and (m), which [`mat_vec_ok`] tells, and the ranges that [`general_mat_mul`] requires. It
+/// Requires shapes (m, k), (k) and (m), which [`mat_vec_ok`] tests, and the ranges that [`general_mat_mul`] requires. It
 /// allocates nothing.
 ///
 /// ```

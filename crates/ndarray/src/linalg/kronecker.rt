@@ -45,7 +45,7 @@ pub(crate) fn lengths_multiply(left: (usize, usize), right: (usize, usize)) -> b
 /// The Kronecker product of two matrices: a block for each cell of `a`, which is that cell times `b`. Of lengths (l, n) and (m, r)
 /// it has the lengths (l * m, n * r), and its cell at (i * m + k, j * r + h) is a(i, j) times b(k, h).
 ///
-/// Requires a result within the limit, which [`kron_ok`] tells, and that each product of a cell of `a` and one of `b` is in
+/// Requires a result within the limit, which [`kron_ok`] tests, and that each product of a cell of `a` and one of `b` is in
 /// range. The error is allocation failure.
 ///
 /// ```

@@ -35,7 +35,7 @@ pub trait Dot<Rhs> {
     /// only one; the product has the left's other axes, then the right's other axes. Each cell is the sum of the products of the
     /// two lanes that meet there: of a (2, 3, 4) and a (5, 4, 6) array the product has lengths (2, 3, 5, 6).
     ///
-    /// Requires shapes that multiply, which [`dot_ok`] tells, and that of the products of each inner sum every selection
+    /// Requires shapes that multiply, which [`dot_ok`] tests, and that of the products of each inner sum every selection
     /// has its sum in range, for which `dot_fits` of each row and column is enough (of each two lanes that meet, of `IxDyn`). Of
     /// integers [`entries_fit`](crate::linalg::entries_fit) tests both.
     ///

@@ -27,7 +27,7 @@ pub trait IntegerDot<Rhs>: Dot<Rhs> {
         ensures defined { IsTrue result → Self.can_dot self.now rhs.now };
 }
 
-/// Whether two vectors or matrices of integers have a product, as [`dot_ok`] tells, and for each row of the left and column of
+/// Whether two vectors or matrices of integers have a product, as [`dot_ok`] tests, and for each row of the left and column of
 /// the right the absolute values of the products add up to at most the type's greatest number. Then `left.dot(alloc, right)`
 /// may be asked for.
 ///

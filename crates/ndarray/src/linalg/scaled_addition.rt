@@ -16,7 +16,7 @@ use std::alloc::AllocError;
 impl<A: LinalgScalar, S: DataMut<Elem = A>, D: Lengths> ArrayBase<S, D> {
     /// Adds to each cell `alpha` times the cell of another array there, which is broadcast to the shape of this one.
     ///
-    /// Requires that `rhs` broadcasts to this shape, which `rhs.broadcast(self.raw_dim())` tells, and that each product and
+    /// Requires that `rhs` broadcasts to this shape, which `rhs.broadcast(self.raw_dim())` tests, and that each product and
     /// each sum is in range. It allocates nothing.
     ///
     /// ```
@@ -36,7 +36,7 @@ impl<A: LinalgScalar, S: DataMut<Elem = A>, D: Lengths> ArrayBase<S, D> {
     }
 }
 
-/// A cell plus `alpha` times the item beside it, as a call.
+/// A cell plus `alpha` times the item next to it, as a call.
 #[derive(Drop)]
 struct ScaledAddition<A> {
     alpha: A,

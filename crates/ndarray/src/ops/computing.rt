@@ -1,4 +1,4 @@
-//! What the operators call: each way of computing stands here once, for all operations.
+//! What the operators call: each way of computing is here once, for all operations.
 
 ghost use Rattle.std.specs.Prelude.{◌≡◌, Err, IfErr, IfOk, IsOk, length, ⊤};
 ghost use Rattle.ndarray.specs.Broadcast.{BroadcastTogether, broadcast_lengths};
@@ -15,7 +15,7 @@ use crate::base::broadcast::co_broadcast;
 use crate::base::dim_max::DimMax;
 use crate::base::dimension::Lengths;
 use crate::base::storage::Data;
-use crate::ops::calls::{CellOperation, IntoLeft, OnBoth, OnEach, WithLeft, WithRight};
+use crate::ops::cell_calls::{CellOperation, IntoLeft, OnBoth, OnEach, WithLeft, WithRight};
 use crate::ops::operations::{Exchange, Operation};
 use crate::zip::collecting::{try_collect_in_either_order, try_collect_of_both};
 use crate::zip::producer::{IntoBroadcast, NdProducer};

@@ -12,7 +12,7 @@ ghost use Rattle.ndarray.specs.declared.base.shape.Order.{Order};
 use crate::base::array::{Array, ArrayBase};
 use crate::base::dimension::Lengths;
 use crate::base::storage::Data;
-use crate::zip::calls::ItemCall;
+use crate::zip::closures::ItemCall;
 use crate::zip::collecting::collect_in_either_order;
 use std::alloc::{AllocError, Global};
 
@@ -24,7 +24,7 @@ use std::alloc::{AllocError, Global};
 ///
 /// ```
 /// let array = Array::from_shape_vec((2, 1), vec![in alloc; 1i16, 3]?)?;
-/// let answers = scalar_left(alloc, 2i16, &array, |x, cell| 10 * x + cell)?; // [[21], [23]]
+/// let made = scalar_left(alloc, 2i16, &array, |x, cell| 10 * x + cell)?; // [[21], [23]]
 /// ```
 pub fn scalar_left<X: Drop, A, R: Drop, S: Data<Elem = A>, D: Lengths, F: FnMut(&X, &A) -> R>(
     alloc: Global,

@@ -1,4 +1,4 @@
-//! The operations on elements, each as a type, so that what computes arrays of them stands once for all.
+//! The operations on elements, each as a type, so that what computes arrays of them is written once for all.
 
 use std::marker::PhantomData;
 use std::ops::{

@@ -16,7 +16,7 @@ use crate::zip::producer::IntoBroadcast;
 use num_traits::{CheckedAdd, CheckedMul, CheckedNeg, CheckedSub, Num, One, Zero};
 
 impl<A: Zero + CheckedAdd, S: Data<Elem = A>, D: Lengths> ArrayBase<S, D> {
-    /// Whether `self + rhs` may be computed: the shapes broadcast together, as [`broadcast_ok`](Self::broadcast_ok) tells, and
+    /// Whether `self + rhs` may be computed: the shapes broadcast together, as [`broadcast_ok`](Self::broadcast_ok) tests, and
     /// the type has the sum of the two cells at each index list.
     ///
     /// Requires nothing, and the test allocates nothing. For `self += rhs` there is
@@ -70,7 +70,7 @@ impl<A: Zero + CheckedAdd, S: Data<Elem = A>, D: Lengths> ArrayBase<S, D> {
 }
 
 impl<A: Num + CheckedSub, S: Data<Elem = A>, D: Lengths> ArrayBase<S, D> {
-    /// Whether `self - rhs` may be computed: the shapes broadcast together, as [`broadcast_ok`](Self::broadcast_ok) tells, and
+    /// Whether `self - rhs` may be computed: the shapes broadcast together, as [`broadcast_ok`](Self::broadcast_ok) tests, and
     /// the type has the difference of the two cells at each index list.
     ///
     /// Requires nothing, and the test allocates nothing. For `self -= rhs` there is
@@ -124,7 +124,7 @@ impl<A: Num + CheckedSub, S: Data<Elem = A>, D: Lengths> ArrayBase<S, D> {
 }
 
 impl<A: One + CheckedMul, S: Data<Elem = A>, D: Lengths> ArrayBase<S, D> {
-    /// Whether `self * rhs` may be computed: the shapes broadcast together, as [`broadcast_ok`](Self::broadcast_ok) tells, and
+    /// Whether `self * rhs` may be computed: the shapes broadcast together, as [`broadcast_ok`](Self::broadcast_ok) tests, and
     /// the type has the product of the two cells at each index list.
     ///
     /// Requires nothing, and the test allocates nothing. For `self *= rhs` there is

@@ -8,7 +8,7 @@ use crate::base::dim_max::DimMax;
 use crate::base::dimension::Lengths;
 use crate::base::storage::{Data, DataMut};
 use crate::elements::ScalarOperand;
-use crate::ops::assigning::{assign, assign_scalar};
+use crate::ops::assign_operators::{assign, assign_scalar};
 use crate::ops::computing::{
     combine, combine_into_left, combine_into_left_by_value, combine_into_right,
     combine_left_scalar, combine_left_scalar_in_place, combine_scalar, combine_scalar_in_place,

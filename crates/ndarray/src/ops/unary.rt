@@ -4,7 +4,7 @@ ghost use Rattle.ndarray.specs.Elementwise.{CanMap, ClonesAreEqual, MakesMapped,
 
 use crate::base::array::Array;
 use crate::base::dimension::Lengths;
-use crate::ops::calls::OnOne;
+use crate::ops::cell_calls::OnOne;
 use crate::ops::computing::{map_cells, map_cells_in_place};
 use crate::ops::operations::{Complement, Negation};
 use std::alloc::AllocError;

@@ -3,7 +3,7 @@ ghost use Rattle.std.specs.Prelude.{◌≡◌, map, length, Some, None, get_or, 
 ghost use Rattle.ndarray.specs.base.Slots.{IsFilled};
 ghost use Rattle.ndarray.specs.places.PartlyMoved.{AllGone};
 
-use crate::places::block::{Deed, close, open};
+use crate::places::slots::{Deed, close, open};
 use core::slots::Slots;
 use std::alloc::Global;
 use std::marker::Model;

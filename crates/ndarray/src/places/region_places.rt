@@ -14,11 +14,11 @@ use crate::base::region::{Life, RegionRepr};
 use crate::base::storage::DataMut;
 use crate::base::view_mut::RegionParts;
 use crate::order::Order;
-use crate::places::indexed::IndexedPlaces;
+use crate::places::indexed_rows::IndexedPlaces;
 use std::marker::{Model, PhantomData};
 
-/// A region, and the index lists still to come, each beside the place of its cell. A clause sees these index lists,
-/// each beside its cell, and the name of the borrow of the array.
+/// A region, and the index lists still to come, each with the place of its cell. A clause sees these index lists,
+/// each with its cell, and the name of the borrow of the array.
 #[derive(Drop)]
 pub struct Places<'a, A, D: Lengths> {
     region: RegionRepr<Life<'a>, A>,
@@ -41,7 +41,7 @@ impl<'a, A, D: Lengths> Model for Places<'a, A, D> {
 }
 
 impl<S: DataMut, D: Lengths> ArrayBase<S, D> {
-    /// The cells to write to, in row order, each beside its index list.
+    /// The cells to write to, in row order, each with its index list.
     pub(crate) fn places_mut(&mut self) -> Places<'_, S::Elem, D>
         ensures* writes_back { sem 𝓛 (keeps_lengths S.row D.row S.Elem.row S.Data D.Lengths self.entry result.borrow_name) }
         ensures list { result.items ≡ zip (row_order self.old.lengths) self.old.cells }

@@ -6,7 +6,7 @@ ghost use Rattle.ndarray.specs.base.Slots.{held_at};
 ghost use Rattle.ndarray.specs.places.ElementPlaces.{AreDistinctPlaces};
 
 use crate::base::region::{Life, RegionRepr};
-use crate::places::strided::PlaceRow;
+use crate::places::place_rows::PlaceRow;
 use std::marker::{Model, PhantomData};
 use std::mem::replace;
 

@@ -20,7 +20,7 @@ impl<A: Copy + Mul<A, Output = A>, S: Data<Elem = A>, D: Lengths> ArrayBase<S, D
     /// The running products along an axis: at index 0 the cell, and from there on the cell times the product before
     /// it, with the cell on the left.
     ///
-    /// Requires `axis < ndim()`, which `axis_ok` tells, and that each product that is taken is defined. The error is
+    /// Requires `axis < ndim()`, which `axis_ok` tests, and that each product that is taken is defined. The error is
     /// allocation failure.
     ///
     /// ```

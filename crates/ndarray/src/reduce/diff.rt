@@ -9,7 +9,7 @@ use crate::base::array::{Array, ArrayBase, ArrayView};
 use crate::base::axis::Axis;
 use crate::base::dimension::Lengths;
 use crate::base::storage::Data;
-use crate::zip::calls::ItemCall;
+use crate::zip::closures::ItemCall;
 use crate::zip::collecting::{collect_in_either_order, collect_of_both};
 use std::alloc::{AllocError, Global};
 use std::ops::Sub;

@@ -62,7 +62,7 @@ impl<A: IntegerElem, S: Data<Elem = A>, D: Lengths> ArrayBase<S, D> {
     /// every selection of the cells has its product in the type, as [`product`](Self::product) asks.
     ///
     /// Requires nothing, and the test allocates nothing. It may say no where `product` could be taken, as for a cell
-    /// 0 beside large ones, or for the least number of a signed type alone.
+    /// 0 among large ones, or for the least number of a signed type alone.
     ///
     /// ```
     /// assert!(ArrayView::from_shape(3, &[-127i8, 1, 0])?.products_fit());
@@ -191,7 +191,7 @@ fn times_magnitude<A: IntegerElem>(product: A, x: A) -> Option<A>
 /// at most the type's greatest number. Then every selection of the products has its sum in the type, as their `dot` asks.
 ///
 /// Requires nothing, and the test allocates nothing. It may say no where the product could be taken, as where large products
-/// of both signs stand beside each other.
+/// of both signs are next to each other.
 ///
 /// ```
 /// assert!(dot_fits(&ArrayView::from_shape(2, &[127i8, 0])?, &ArrayView::from_shape(2, &[-1i8, 5])?));

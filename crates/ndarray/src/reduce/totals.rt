@@ -16,7 +16,7 @@ use crate::elements::{ProductElem, SumElem};
 use crate::iter::runs::CellRuns;
 use crate::order::Order;
 use crate::unrolled::unrolled_fold;
-use crate::zip::calls::ItemCall;
+use crate::zip::closures::ItemCall;
 use crate::zip::collecting::collect_items;
 use std::alloc::{AllocError, Global};
 use std::marker::PhantomData;

@@ -15,7 +15,7 @@ use crate::base::region::{Life, RegionRepr};
 use crate::base::storage::ViewRepr;
 use crate::order::Order;
 use crate::order::rows::BoxRows;
-use crate::places::strided::PlaceRow;
+use crate::places::place_rows::PlaceRow;
 use crate::subviews::piece_layouts::{PieceLayouts, PiecesIterMut};
 use crate::subviews::pieces::Pieces;
 use crate::subviews::pieces_mut::PiecesMut;

@@ -11,7 +11,7 @@ use crate::base::array::{Array, ArrayBase};
 use crate::base::dimension::Lengths;
 use crate::base::storage::DataMut;
 use crate::zip::assigning::assign_items;
-use crate::zip::calls::{FoldCall, ItemCall};
+use crate::zip::closures::{FoldCall, ItemCall};
 use crate::zip::collecting::collect_items;
 use crate::zip::fold_while::FoldWhile;
 use crate::zip::producer::{NdProducer, preferred_order};

@@ -10,7 +10,7 @@ use crate::base::array::ArrayBase;
 use crate::base::dimension::Lengths;
 use crate::base::storage::DataMut;
 use crate::order::Order;
-use crate::zip::calls::ItemCall;
+use crate::zip::closures::ItemCall;
 use crate::zip::producer::NdProducer;
 use crate::zip::updating::{CellCall, try_update};
 use std::alloc::AllocError;

@@ -15,7 +15,7 @@ use crate::base::array::Array;
 use crate::base::builder::ArrayBuilder;
 use crate::base::dimension::Lengths;
 use crate::order::Order;
-use crate::zip::calls::ItemCall;
+use crate::zip::closures::ItemCall;
 use crate::zip::pair::Pair;
 use crate::zip::producer::{NdProducer, preferred_order};
 use crate::zip::walk::{Turn, take_items};

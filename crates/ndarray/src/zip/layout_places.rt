@@ -1,4 +1,4 @@
-//! The places of an array's cells as a producer: what updates an array walks them beside the items that it takes.
+//! The places of an array's cells as a producer: what updates an array walks them next to the items that it takes.
 
 ghost use Rattle.std.specs.Prelude.{◌≡◌, ◌<◌, ℕ, length, map};
 ghost use Rattle.std.specs.Iterator.{YieldsFirst, item_count};
@@ -12,7 +12,7 @@ use crate::base::dimension::Lengths;
 use crate::base::layout::Layout;
 use crate::order::Order;
 use crate::order::rows::BoxRows;
-use crate::places::strided::{PlaceRow, StridedPlaces};
+use crate::places::place_rows::{PlaceRow, StridedPlaces};
 use crate::zip::producer::{NdProducer, Shaped};
 use std::marker::Model;
 

@@ -6,7 +6,7 @@ ghost use Rattle.ndarray.specs.Runs.{MayFold, Folds, FoldTurn, MayVisit, Visits,
 ghost use Rattle.ndarray.specs.declared.zip.fold_while.FoldWhile.TheVariants.{Done};
 
 use crate::order::Order;
-use crate::zip::calls::{FoldCall, ItemCall};
+use crate::zip::closures::{FoldCall, ItemCall};
 use crate::zip::fold_while::FoldWhile;
 use crate::zip::producer::NdProducer;
 use crate::zip::walk::{Turn, take_items};
@@ -96,7 +96,7 @@ pub(crate) fn visit_items<P: NdProducer, C: ItemCall<P::Item, Out = ()>>(p: P, o
     }
 }
 
-/// A closure that has answered `true` at each item.
+/// A closure that has returned `true` at each item.
 #[derive(Drop)]
 struct WhileTrue<C>(C);
 
@@ -138,7 +138,7 @@ pub(crate) fn all_items<P: NdProducer, C: ItemCall<P::Item, Out = bool>>(
     take_items(p, order, WhileTrue(f)).is_ok()
 }
 
-/// A closure that has answered `false` at each item.
+/// A closure that has returned `false` at each item.
 #[derive(Drop)]
 struct WhileFalse<C>(C);
 

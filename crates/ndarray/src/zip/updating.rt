@@ -1,4 +1,4 @@
-//! Arrays whose cells become what calls answer at them and at the items of a producer, up to the first error.
+//! Arrays whose cells become what calls return at them and at the items of a producer, up to the first error.
 
 ghost use Rattle.std.specs.Prelude.{◌≡◌, Result};
 ghost use Rattle.ndarray.specs.Calls.{can_call_by_ref2, call_gives_by_ref2};
@@ -24,7 +24,7 @@ use core::mem::replace_with;
 use std::alloc::AllocError;
 use std::marker::Model;
 
-/// What returns the new cell at an old one and an item beside it, or an error.
+/// What returns the new cell at an old one and an item next to it, or an error.
 pub(crate) trait CellCall<A, X>: Drop {
     // Whether it may be called.
     ghost can_call: { Self → A × X → Type 0 };
@@ -38,7 +38,7 @@ pub(crate) trait CellCall<A, X>: Drop {
         ensures { call_gives self.old (cell.now, item) result self.new };
 }
 
-/// A closure of references to a cell and to the item beside it.
+/// A closure of references to a cell and to the item next to it.
 #[derive(Drop)]
 pub(crate) struct ByRef2<F>(pub(crate) F);
 
@@ -55,7 +55,7 @@ impl<'b, A: Drop, B, F: FnMut(&A, &B) -> Result<A, AllocError>> CellCall<A, &'b 
 /// Leaves in each cell of an array what `f` returns at the cell and the item of a producer at its index list, up to
 /// the first error, which is returned. The cells from there on stay as they are.
 ///
-/// The elements are taken out of the array for the walk, and the places of the cells are walked beside the items.
+/// The elements are taken out of the array for the walk, and the places of the cells are walked next to the items.
 pub(crate) fn try_update<P: NdProducer, A: Drop, S: DataMut<Elem = A>, C: CellCall<A, P::Item>>(
     array: &mut ArrayBase<S, P::Dim>,
     other: P,
@@ -79,7 +79,7 @@ pub(crate) fn try_update<P: NdProducer, A: Drop, S: DataMut<Elem = A>, C: CellCa
     replace_with(&mut array.storage, updates, update_beside)
 }
 
-/// A call at the elements at some places, each beside an item.
+/// A call at the elements at some places, each with an item.
 #[derive(Drop)]
 struct Updates<P, C> {
     items: P,
@@ -87,7 +87,7 @@ struct Updates<P, C> {
     f: C,
 }
 
-/// Leaves in the element at each place what the call returns at it and the item beside it, up to the first error.
+/// Leaves in the element at each place what the call returns at it and the item next to it, up to the first error.
 fn update_elements<
     X,
     P: NdProducer<Item = (X, usize)>,
@@ -108,7 +108,7 @@ fn update_elements<
     }
 }
 
-/// The same over the places of an array's cells and a producer beside them.
+/// The same over the places of an array's cells and a producer next to them.
 fn update_beside<P: NdProducer, A: Drop, S: DataMut<Elem = A>, C: CellCall<A, P::Item>>(
     storage: S,
     updates: Updates<Pair<P, LayoutPlaces<P::Dim>>, C>,

@@ -19,7 +19,7 @@ use crate::base::storage::DataMut;
 use crate::iter::elements_mut::ElementsBaseMut;
 use crate::order::Order;
 use crate::order::rows::BoxRows;
-use crate::places::strided::PlaceRow;
+use crate::places::place_rows::PlaceRow;
 use crate::places::strided_cells::StridedMut;
 use crate::subviews::axis_mut::AxisIterMut;
 use crate::subviews::piece_rows::{PieceRowMut, PieceRowsMut};

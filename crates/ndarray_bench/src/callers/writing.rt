@@ -1,4 +1,4 @@
-//! Functions that write to the cells of arrays, whatever keeps them. Each loop stands in a function of its own over an
+//! Functions that write to the cells of arrays, whatever keeps them. Each loop is in a function of its own over an
 //! iterator, and what is held to write in one over any iterator, where what keeps the cells is no parameter.
 
 ghost use Rattle.std.specs.Prelude.{◌≡◌, ◌≢◌, ◌↔◌, ◌∷◌, [], ℕ, List, Some, IsTrue};

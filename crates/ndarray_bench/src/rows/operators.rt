@@ -209,7 +209,7 @@ fn push_between(
     }
 }
 
-/// Appends an array to other answers, unless it is the same.
+/// Appends an array to other results, unless it is the same.
 pub fn push_answer(text: &mut String, alloc: Global, array: Owned) -> Result<(), AllocError> {
     let mut next = String::new(alloc);
     push_lengths(&mut next, array.shape())?;
@@ -219,7 +219,7 @@ pub fn push_answer(text: &mut String, alloc: Global, array: Owned) -> Result<(),
     push_text(text, next.as_str())
 }
 
-/// Appends an answer to other answers, unless it is the same.
+/// Appends a result to other results, unless it is the same.
 pub fn push_text(text: &mut String, next: &str) -> Result<(), AllocError> {
     if text.as_str() == next {
         return Ok(());

@@ -12,7 +12,7 @@ use std::alloc::{AllocError, Global};
 /// How the calls of a row end.
 #[derive(Drop)]
 pub enum Ending {
-    /// These are the answers to the steps.
+    /// These are the results of the steps.
     Done(String),
     /// A test of the library says no.
     Refused,
@@ -31,7 +31,7 @@ impl Ending {
     }
 }
 
-/// The answers to the steps so far, and the number of the next item.
+/// The results of the steps so far, and the number of the next item.
 #[derive(Drop)]
 struct Answers {
     text: String,

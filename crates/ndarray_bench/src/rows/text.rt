@@ -43,7 +43,7 @@ pub fn push_numbers(text: &mut String, numbers: &[usize], between: &str) -> Resu
     Ok(())
 }
 
-/// Appends what comes between two answers, where there is one already.
+/// Appends what comes between two results, where there is one already.
 pub fn push_separator(text: &mut String) -> Result<(), AllocError> {
     if text.is_empty() {
         return Ok(());
@@ -51,7 +51,7 @@ pub fn push_separator(text: &mut String) -> Result<(), AllocError> {
     text.push_str(", ")
 }
 
-/// Appends a word after the answers before it.
+/// Appends a word after the results before it.
 pub fn push_word(text: &mut String, word: &str) -> Result<(), AllocError> {
     push_separator(text)?;
     text.push_str(word)

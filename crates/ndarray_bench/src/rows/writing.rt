@@ -15,7 +15,7 @@ use std::alloc::{AllocError, Global};
 /// A view to write in with any number of axes.
 type ViewMut<'a> = ArrayViewMut<'a, i64, IxDyn>;
 
-/// What a table holds after the calls on a view to write in, and behind it the answers of the steps.
+/// What a table holds after the calls on a view to write in, and behind it the results of the steps.
 ///
 /// Each item that a step takes is written with its number, counted from 1: the cell, each cell of the
 /// subview, or for an indexed item the digits of its index list.
@@ -136,7 +136,7 @@ fn write_in(
     show_ending(alloc, &table, ending)
 }
 
-/// What a table holds after the calls and the answers of the steps, or why they ended.
+/// What a table holds after the calls and the results of the steps, or why they ended.
 pub fn show_ending(alloc: Global, table: &View<'_>, ending: Ending) -> Result<String, AllocError> {
     match ending {
         Ending::Done(answers) => show_table(alloc, table, answers.as_str()),
@@ -144,7 +144,7 @@ pub fn show_ending(alloc: Global, table: &View<'_>, ending: Ending) -> Result<St
     }
 }
 
-/// What a table holds, and the answers of the steps.
+/// What a table holds, and the results of the steps.
 fn show_table(alloc: Global, table: &View<'_>, answers: &str) -> Result<String, AllocError> {
     let mut text = String::new(alloc);
     push_view(&mut text, table)?;
@@ -287,7 +287,7 @@ pub fn set<S: DataMut<Elem = i64>>(
     }
 }
 
-/// Writes 2 to the second part of a view and then 1 to the first, which is held beside it.
+/// Writes 2 to the second part of a view and then 1 to the first, which is held at the same time.
 fn write_both(alloc: Global, view: ViewMut<'_>, axis: Axis, index: usize) -> Ending {
     if !view.axis_ok(axis) || view.len_of(axis) < index {
         return Ending::Refused;

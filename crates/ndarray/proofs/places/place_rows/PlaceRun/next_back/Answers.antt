@@ -1,0 +1,16 @@
+use Rattle.std.proofs.Common.{sym, ◌∙◌, ◌++◌, ◌∷◌, ap, length, arith, [], ◌≡◌, ◌+◌, ◌-◌, ◌*◌, ◌%◌, ◌^◌}
+use Rattle.std.proofs.lemmas.List.{nil_from_length}
+use Rattle.ndarray.specs.base.Strided.{places_from}
+use Rattle.ndarray.proofs.strides.Rows.{length-places_from, places_from-last}
+use Rattle.ndarray.proofs.places.place_rows.PlaceRun.next_back.Goals as goal
+
+pub returns-then-self-eq0 : goal.returns-then-self-eq0
+returns-then-self-eq0 c =
+    let e : c.args.self.now ≡ [] = nil_from_length _ (sym (ap length c.self.view_is) ∙ (length-places_from _ _ _ ∙ c.if-self-eq0.true)) in
+    (e, e)
+
+pub returns : goal.returns
+returns c =
+    let r = c.self.inside in
+    let last : (r.place + ((r.left - 1) * 1) % 2 ^ 64) % 2 ^ 64 ≡ (r.place + (r.left - 1)) % 2 ^ 64 = omega arith in
+    sym c.self.view_is ∙ (places_from-last r.place 1 r.left (omega arith) (omega (arith, c.if-self-eq0.false)) ∙ ap (λ q. places_from r.place 1 (r.left - 1) ++ q ∷ []) last)
