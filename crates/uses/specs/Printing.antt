@@ -28,3 +28,7 @@ mark_of alive = if alive then 35 else 46
 -- a line for each row of a grid of cells
 abbrev pub grid_text : Grid Bool → List ℕ
 grid_text g = flat_map (λ row. map mark_of row.cells ++ 10 ∷ []) (lanes_of g 1).cells
+
+-- a line of numbers, each before a blank, and one more
+abbrev pub sum_text : List ℤ → ℤ → List ℕ
+sum_text xs sum = flat_map (λ x. signed_decimal x ++ 32 ∷ []) xs ++ (signed_decimal sum ++ 10 ∷ [])

@@ -1,8 +1,9 @@
 //! How the commands print.
 
-ghost use Rattle.std.specs.Prelude.{◌≡◌, ◌<◌, ◌++◌, ◌∷◌, [], map, IfOk, OnOk, string_bytes};
+ghost use Rattle.std.specs.Prelude.{◌≡◌, ◌<◌, ◌++◌, ◌∷◌, [], flat_map, map, IfOk, OnOk, string_bytes};
+ghost use Rattle.std.specs.List.{zip};
 ghost use Rattle.ndarray.specs.Subviews.{lanes_of};
-ghost use Rattle.uses.specs.Printing.{grid_text, line_text, mark_of, others_text, picture_text, rows_text};
+ghost use Rattle.uses.specs.Printing.{grid_text, line_text, mark_of, others_text, picture_text, rows_text, sum_text};
 
 use ndarray::iter::Iter;
 use ndarray::{ArrayView, Dimension, Ix1, Ix2};
@@ -15,7 +16,9 @@ pub fn report_text(
     rows: &ArrayView<'_, i64, Ix1>,
     columns: &ArrayView<'_, i64, Ix1>,
     all: i64,
-) -> Result<String, AllocError> {
+) -> Result<String, AllocError>
+    ensures { IfOk result (λ text. string_bytes text ≡ flat_map (λ p. sum_text p.0.cells p.1) (zip (lanes_of table.now 1).cells rows.now.cells) ++ sum_text columns.now.cells all) }
+{
     let mut text = String::new(alloc);
     let _axes = table.ndim();
     for (row, sum) in table.rows().into_iter().zip(rows.iter()) {
@@ -26,7 +29,9 @@ pub fn report_text(
 }
 
 /// Appends a line of numbers and one more.
-fn push_sum(text: &mut String, line: &ArrayView<'_, i64, Ix1>, sum: i64) -> Result<(), AllocError> {
+fn push_sum(text: &mut String, line: &ArrayView<'_, i64, Ix1>, sum: i64) -> Result<(), AllocError>
+    ensures { OnOk result (string_bytes text.new ≡ string_bytes text.old ++ sum_text line.now.cells sum) }
+{
     for number in line.iter() {
         write!(text, "{number} ")?;
     }

@@ -9,7 +9,7 @@ use std::alloc::Global;
 use std::io;
 use std::io::Write;
 
-/// Prints the answer to the words, which are those after the program's name, and gives the exit status: 0 where the answer is
+/// Prints the result of the words, which are those after the program's name, and returns the exit status: 0 where the result is
 /// on `out`. Else it is 2, and a line on `err` names the fault.
 pub fn run<W: Write, E: Write>(
     alloc: Global,
@@ -29,7 +29,7 @@ pub fn run<W: Write, E: Write>(
     }
 }
 
-/// What the words ask to be printed for the input, whole.
+/// What the command that the words spell prints for the input, whole.
 fn answer(alloc: Global, words: &[String], input: &str) -> Result<String, Fault> {
     let command = Command::spelled(words)?;
     command.answer(alloc, input)
@@ -43,7 +43,7 @@ fn print<W: Write>(text: &str, out: &mut W) -> io::Result<()>
     out.flush()
 }
 
-/// Prints a fault as a line of the stream, and gives the exit status.
+/// Prints a fault as a line of the stream, and returns the exit status.
 pub fn report<E: Write>(fault: Fault, err: &mut E) -> u8
     ensures { result ≡ 2 }
 {
