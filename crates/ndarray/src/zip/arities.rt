@@ -13,7 +13,7 @@ use crate::base::dimension::Lengths;
 use crate::base::storage::DataMut;
 use crate::zip::closures::{On1, On2, On3, On4, On5, On6};
 use crate::zip::fold_while::FoldWhile;
-use crate::zip::parts::{Five, Four, One, Six, Three, Two};
+use crate::zip::part_counts::{Five, Four, One, Six, Three, Two};
 use crate::zip::producer::NdProducer;
 use crate::zip::{Parts, Zip};
 use std::alloc::{AllocError, Global};
