@@ -1,6 +1,7 @@
 -- How lines, pictures and grids are printed, as bytes.
 use Rattle.std.specs.Prelude.{ℕ, ℤ, Bool, if◌then◌else◌, List, [], ◌∷◌, ◌++◌, codes, decimal, flat_map, map, slice_index}
 use Rattle.std.specs.Fmt.{signed_decimal}
+use Rattle.std.specs.List.{zip}
 use Rattle.ndarray.specs.Grid.{Grid}
 use Rattle.ndarray.specs.Subviews.{lanes_of}
 
@@ -32,3 +33,7 @@ grid_text g = flat_map (λ row. map mark_of row.cells ++ 10 ∷ []) (lanes_of g 
 -- a line of numbers, each before a blank, and one more
 abbrev pub sum_text : List ℤ → ℤ → List ℕ
 sum_text xs sum = flat_map (λ x. signed_decimal x ++ 32 ∷ []) xs ++ (signed_decimal sum ++ 10 ∷ [])
+
+-- a table, each row with a sum at its end, and a line of sums below
+abbrev pub report_text : Grid ℤ → Grid ℤ → Grid ℤ → ℤ → List ℕ
+report_text table rows columns all = flat_map (λ p. sum_text p.0.cells p.1) (zip (lanes_of table 1).cells rows.cells) ++ sum_text columns.cells all

@@ -1,14 +1,17 @@
 //! The commands: each returns the text that it prints for its input.
 
 ghost use Rattle.std.specs.Prelude.{◌≡◌, ◌≤◌, ◌∷◌, ◌++◌, [], ℕ, ℤ, decimal, slice_index, IfOk, string_bytes};
-ghost use Rattle.ndarray.specs.Grid.{Grid};
+ghost use Rattle.ndarray.specs.Grid.{Grid, array_by};
+ghost use Rattle.ndarray.specs.Integers.{int_sums};
 ghost use Rattle.ndarray.specs.Limits.{IsWithinLimit};
+ghost use Rattle.ndarray.specs.Sums.{total};
 ghost use Rattle.residue.specs.Residue.{Below, modulus};
 ghost use Rattle.uses.specs.Fir.{IsFilteredSignal};
 ghost use Rattle.uses.specs.Life.{generation};
 ghost use Rattle.uses.specs.Picture.{HasInnerPixels, edge_pixel, mean_pixel};
-ghost use Rattle.uses.specs.Printing.{grid_text, line_text, picture_text};
+ghost use Rattle.uses.specs.Printing.{grid_text, line_text, picture_text, report_text};
 ghost use Rattle.uses.specs.Recurrence.{IsRecurrence};
+ghost use Rattle.uses.specs.Report.{column_total, row_total};
 
 use crate::fault::Fault;
 use crate::printing::{grid_text, line_text, picture_text, report_text};
@@ -165,7 +168,9 @@ fn residues(alloc: Global, numbers: &[i64]) -> Result<Vec<Residue<MODULUS>>, Fau
 }
 
 /// A table with the sum of each row behind it, and below it the sum of each column and of all.
-fn reported(alloc: Global, table: &Array<i64, Ix2>) -> Result<String, Fault> {
+fn reported(alloc: Global, table: &Array<i64, Ix2>) -> Result<String, Fault>
+    ensures { IfOk result (λ text. string_bytes text ≡ report_text table.now (array_by (slice_index table.now.lengths 0 ∷ []) (row_total table.now)) (array_by (slice_index table.now.lengths 1 ∷ []) (column_total table.now)) (total int_sums table.now.cells)) }
+{
     let (rows, columns, all) = report::totals(alloc, table)?.ok_or(Fault::Range)?;
     Ok(report_text(alloc, &table.view(), &rows.view(), &columns.view(), all)?)
 }

@@ -1,9 +1,8 @@
 //! How the commands print.
 
-ghost use Rattle.std.specs.Prelude.{◌≡◌, ◌<◌, ◌++◌, ◌∷◌, [], flat_map, map, IfOk, OnOk, string_bytes};
-ghost use Rattle.std.specs.List.{zip};
+ghost use Rattle.std.specs.Prelude.{◌≡◌, ◌<◌, ◌++◌, ◌∷◌, [], map, IfOk, OnOk, string_bytes};
 ghost use Rattle.ndarray.specs.Subviews.{lanes_of};
-ghost use Rattle.uses.specs.Printing.{grid_text, line_text, mark_of, others_text, picture_text, rows_text, sum_text};
+ghost use Rattle.uses.specs.Printing.{grid_text, line_text, mark_of, others_text, picture_text, report_text, rows_text, sum_text};
 
 use ndarray::iter::Iter;
 use ndarray::{ArrayView, Dimension, Ix1, Ix2};
@@ -17,7 +16,7 @@ pub fn report_text(
     columns: &ArrayView<'_, i64, Ix1>,
     all: i64,
 ) -> Result<String, AllocError>
-    ensures { IfOk result (λ text. string_bytes text ≡ flat_map (λ p. sum_text p.0.cells p.1) (zip (lanes_of table.now 1).cells rows.now.cells) ++ sum_text columns.now.cells all) }
+    ensures { IfOk result (λ text. string_bytes text ≡ report_text table.now rows.now columns.now all) }
 {
     let mut text = String::new(alloc);
     let _axes = table.ndim();
