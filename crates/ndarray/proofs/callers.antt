@@ -10,6 +10,7 @@ pub mod IndexLists
 pub mod Joining
 pub mod Lanes
 pub mod Mapping
+pub mod PartialFolds
 pub mod ProductChains
 pub mod Products
 pub mod RowOrder

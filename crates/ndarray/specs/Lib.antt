@@ -25,6 +25,7 @@ pub mod Laws
 pub mod Limits
 pub mod Matrices
 pub mod MatrixLaws
+pub mod NonzeroProducts
 pub mod Orders
 pub mod PartialFolds
 pub mod Producers

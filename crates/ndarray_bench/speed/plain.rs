@@ -5,8 +5,8 @@ use std::time::Instant;
 
 const PRODUCTS: [&str; 2] = ["product", "product_best_order"];
 
-const NAMES: [&str; 36] = [
-    "sum", "sum_axis_rows", "sum_axis_columns", "iter", "iter_transposed", "iter_stepped", "iter_mut", "indexed_iter", "indexed_iter_mut",
+const NAMES: [&str; 42] = [
+    "sum", "sum_transposed", "sum_reversed", "sum_stepped", "sums_fit", "sums_fit_transposed", "checked_sum", "sum_axis_rows", "sum_axis_columns", "iter", "iter_transposed", "iter_stepped", "iter_mut", "indexed_iter", "indexed_iter_mut",
     "to_owned", "to_owned_column_major", "into_iter_of_a_copy", "windows_3x3", "axis_iter", "columns", "zip_one_fold", "zip_one_for_each", "zip_two_fold",
     "zip_three_fold", "zip_two_for_each", "zip_two_map_collect", "zip_two_map_assign_into",
     "zip_two_map_assign_into_view", "zip_two_for_each_mixed",
@@ -40,7 +40,19 @@ fn sum_of<'a>(numbers: impl Iterator<Item = &'a i64>) -> i64 {
 fn walk(name: &str, n: usize, a: &mut [i64], b: &[i64], c: &[i64]) -> i64 {
     let mut sum = 0i64;
     match name {
-        "sum" | "iter" | "zip_one_fold" => return sum_of(a.iter()),
+        "sum" | "sum_transposed" | "iter" | "zip_one_fold" => return sum_of(a.iter()),
+        "sum_reversed" => return sum_of(a.iter().rev()),
+        "sums_fit" | "sums_fit_transposed" | "checked_sum" => {
+            let (mut up, mut down) = (0i64, 0i64);
+            for x in a.iter() {
+                let sums = if *x < 0 { down.checked_add(*x).map(|it| (up, it)) } else { up.checked_add(*x).map(|it| (it, down)) };
+                match sums {
+                    Some(sums) => (up, down) = sums,
+                    None => return 0,
+                }
+            }
+            return up + down;
+        }
         "iter_transposed" => {
             for j in 0..n {
                 for i in 0..n {
@@ -48,7 +60,7 @@ fn walk(name: &str, n: usize, a: &mut [i64], b: &[i64], c: &[i64]) -> i64 {
                 }
             }
         }
-        "iter_stepped" => {
+        "iter_stepped" | "sum_stepped" => {
             for row in a.chunks(n).step_by(2) {
                 for x in row.iter().step_by(2) {
                     sum = sum.wrapping_add(*x);

@@ -6,6 +6,7 @@ pub mod filters;
 pub mod laws;
 pub mod range_tests;
 pub mod reading;
+pub mod unrolled;
 pub mod updating;
 pub mod uses;
 pub mod writing;

@@ -16,3 +16,7 @@ from_yes P h = h.0 (search rules)
 pub says_some : {S : Type 0} (P : Type 0) (Q : S → Type 0) → ((s : S) → Q s → P) → (r : Option S) → MatchOption r (P → ⊥) Q → IsTrue (is_some r) ↔ P
 says_some P Q holds None h = says_no P h
 says_some P Q holds (Some s) h = says_yes P (holds s h)
+
+pub from_some : {S : Type 0} (none : Type 0) (Q : S → Type 0) (R : Type 0) → ((s : S) → Q s → R) → (r : Option S) → MatchOption r none Q → IsTrue (is_some r) → R
+from_some none Q R holds None h t = absurd (search rules)
+from_some none Q R holds (Some s) h t = holds s h

@@ -1,15 +1,19 @@
 -- Products of the absolute values of the numbers that are not zero, and of all selections.
-use Rattle.std.proofs.Common.{◌≡◌, ◌≢◌, ℕ, zero, suc, Bool, true, false, cond, List, [], ◌∷◌, Option, None, Some, ◌*◌, ◌≤◌, refl, sym, ap, ◌∙◌, subst, arith}
-use Rattle.std.specs.Prelude.{ℤ, pos, negsuc, neg_ℤ, ◌*ℤ◌, ◌≤ℤ◌, unsigned_abs}
+use Rattle.std.proofs.Common.{◌≡◌, ◌≢◌, ℕ, zero, suc, Bool, true, false, cond, List, [], ◌∷◌, Option, None, Some, ◌*◌, ◌≤◌, map, refl, sym, ap, ◌∙◌, subst, arith}
+use Rattle.std.specs.Prelude.{ℤ, pos, negsuc, neg_ℤ, ◌*ℤ◌, ◌≤ℤ◌, IsPermutation, unsigned_abs}
 use Rattle.std.specs.List.{AllByRecursion}
 use Rattle.std.proofs.Math.IntN.{*ℤ_comm}
 use Rattle.std.proofs.Math.Nat.{mul_assoc}
 use Rattle.std.proofs.lemmas.Int.{ints, unsigned_abs-mul}
+use Rattle.std.proofs.lemmas.List.Sorted.{All-permutation, IsPermutation-map, IsPermutation-sym}
 use Rattle.std.proofs.lemmas.Nat.{mul-le}
 use Rattle.num_traits.specs.Laws.{Checks}
 use Rattle.ndarray.specs.IntegerProducts.{one-times}
 use Rattle.ndarray.specs.Integers.{int_products, magnitude_product, nonzero_magnitude}
+use Rattle.ndarray.specs.NonzeroProducts.{MultipliedSoFar}
 use Rattle.ndarray.specs.Sums.{total, select, IsSummable}
+use Rattle.ndarray.proofs.lists.Elements.{All-from_recursion, All-to_recursion}
+use Rattle.ndarray.proofs.sums.Rearrangements.{total-rearranged}
 
 magnitude-some : (z : ℤ) → 1 ≤ nonzero_magnitude z
 magnitude-some (pos zero) = omega arith
@@ -74,14 +78,6 @@ some-factor : (a b c : ℕ) → 1 ≤ (a * b) * c → 1 ≤ a
 some-factor zero b c h = absurd (omega arith)
 some-factor (suc a) b c h = omega arith
 
--- the product of the absolute values of whole before rest is n, and fits; and the numbers of whole fit where those of rest do
-pub record MultipliedSoFar (fits : ℤ → Type 0) (whole rest : List ℤ) (product : ℤ) : Type 0 where
-  number : ℕ
-  is_number : product ≡ pos number
-  pub in_range : fits product
-  total_is : number * magnitude_product rest ≡ magnitude_product whole
-  each : AllByRecursion fits rest → AllByRecursion fits whole
-
 pub multiplied-start : (fits : ℤ → Type 0) (whole rest : List ℤ) (product : ℤ) → rest ≡ whole → product ≡ pos 1 → fits (pos 1) → MultipliedSoFar fits whole rest product
 multiplied-start fits whole rest product e one h = record {
   number = 1;
@@ -145,3 +141,27 @@ pub product-kept : {A : Type 0} (value : A → ℤ) (fits : ℤ → Type 0) (y :
 product-kept value fits y z e one_fits f =
     let same : value y ≡ value y *ℤ pos (nonzero_magnitude z) = sym (*ℤ_comm (value y) (pos 1) ∙ one-times (value y)) ∙ ap (λ t. value y *ℤ pos (nonzero_magnitude t)) (sym e) in
     ((subst (λ t. fits (pos (nonzero_magnitude t))) (sym e) one_fits, subst fits same f), same)
+
+-- ---- in another order
+
+magnitudes-total : (zs : List ℤ) → pos (magnitude_product zs) ≡ total int_products (map (λ z. pos (nonzero_magnitude z)) zs)
+magnitudes-total [] = refl
+magnitudes-total (z ∷ zs) = ap (λ t. pos (nonzero_magnitude z) *ℤ t) (magnitudes-total zs)
+
+module _ (xs ys : List ℤ) (moved : IsPermutation xs ys) where
+  magnitude_product-rearranged : magnitude_product ys ≡ magnitude_product xs
+  magnitude_product-rearranged =
+      let e : pos (magnitude_product ys) ≡ pos (magnitude_product xs) =
+      magnitudes-total ys
+      ∙ (total-rearranged int_products (map (λ z. pos (nonzero_magnitude z)) xs) (map (λ z. pos (nonzero_magnitude z)) ys) (IsPermutation-map (λ z. pos (nonzero_magnitude z)) xs ys moved)
+      ∙ sym (magnitudes-total xs)) in
+      cc
+
+  pub multiplied-rearranged : (fits : ℤ → Type 0) (rest : List ℤ) (product : ℤ) → MultipliedSoFar fits ys rest product → MultipliedSoFar fits xs rest product
+  multiplied-rearranged fits rest product h = record {
+    number = h.number;
+    is_number = h.is_number;
+    in_range = h.in_range;
+    total_is = h.total_is ∙ magnitude_product-rearranged;
+    each = λ f. All-to_recursion fits xs (All-permutation fits ys xs (IsPermutation-sym xs ys moved) (All-from_recursion fits ys (h.each f)));
+  }

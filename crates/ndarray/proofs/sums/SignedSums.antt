@@ -1,10 +1,9 @@
 -- Positive and negative whole numbers that are added apart, one after the other.
 use Rattle.std.proofs.Common.{◌≡◌, ◌↔◌, List, [], ◌∷◌, Option, None, Some, map, refl, sym, ap, ◌∙◌, ◌⊎◌, inl, inr, subst, arith}
-use Rattle.std.specs.Prelude.{ℤ, pos, negsuc, ◌+ℤ◌, ◌≤ℤ◌, ◌<ℤ◌, IfSome, IsTrue}
+use Rattle.std.specs.Prelude.{ℤ, pos, negsuc, ◌+ℤ◌, ◌≤ℤ◌, ◌<ℤ◌, IfSome, IsPermutation, IsTrue}
 use Rattle.std.specs.Option.{is_some}
 use Rattle.num_traits.specs.Laws.{Checks}
 use Rattle.std.proofs.lemmas.Int.{ints}
-use Rattle.std.specs.Prelude.{IsPermutation}
 use Rattle.std.proofs.lemmas.List.Sorted.{IsPermutation-map}
 use Rattle.ndarray.specs.Integers.{int_sums, negative_sum, positive_sum}
 use Rattle.ndarray.specs.SignedSums.{AddedApart}

@@ -63,7 +63,7 @@ fn axis_of_largest_stride<D: Lengths>(dim: &D, strides: &D) -> Option<usize>
 }
 
 impl<D: Lengths> Layout<D> {
-    /// How far apart the places along an axis are, signs left out; the most of all for an axis of at most one place.
+    /// The stride of an axis without its sign; `usize::MAX` for an axis of length 0 or 1, along which there is no step.
     pub(crate) fn step_size(&self, axis: usize) -> usize
         requires as_many { length (D.numbers self.now.strides) ≡ length (D.numbers self.now.dim) }
         requires axis { axis < length (D.numbers self.now.dim) }

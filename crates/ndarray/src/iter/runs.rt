@@ -1,4 +1,4 @@
-//! The cells of an array in runs, in whatever order they lie: for `reduce`.
+//! The cells of an array in runs, in the order in which they lie: for `reduce`.
 
 ghost use Rattle.std.specs.Prelude.{◌≡◌, [], ◌∷◌, IsPermutation, MatchOption};
 ghost use Rattle.ndarray.specs.Grid.{IsGrid};

@@ -3,6 +3,7 @@
 ghost use Rattle.std.specs.Prelude.{◌≡◌, ◌↔◌, ◌+ℤ◌, ◌*ℤ◌, ◌<ℤ◌, ◌≤ℤ◌, ◌++◌, [], ℤ, List, IfSome, IsSome, IsTrue, MatchOption, map, pos, unsigned_abs};
 ghost use Rattle.num_traits.specs.Laws.{Checks};
 ghost use Rattle.ndarray.specs.Products.{magnitude_sum, products_of};
+ghost use Rattle.ndarray.specs.NonzeroProducts.{MultipliedSoFar};
 ghost use Rattle.ndarray.specs.SignedSums.{AddedApart};
 ghost use Rattle.ndarray.specs.Sums.{IsSummable, IsSummableBy, total, total_by};
 ghost use Rattle.ndarray.specs.Integers.{int_products, int_sums, magnitude_product, negative_sum, nonzero_magnitude, positive_sum};
@@ -71,7 +72,7 @@ impl<A: IntegerElem, S: Data<Elem = A>, D: Lengths> ArrayBase<S, D> {
         ensures magnitudes { IsTrue result ↔ A.fits (pos (magnitude_product (map A.value self.now.cells))) }
         ensures selections { IsTrue result → IsSummableBy int_products A.fits A.value self.now.cells }
     {
-        products_stay_in_range(&self.view())
+        magnitudes_multiplied(&self.view()).is_some()
     }
 }
 
@@ -138,22 +139,39 @@ fn add_by_sign<A: Zero + CheckedAdd>(sums: SignedSums<A>, x: &A) -> Option<Signe
     }
 }
 
-/// The same of a view, for [`ArrayBase::products_fit`].
-fn products_stay_in_range<A: IntegerElem, D: Lengths>(array: &ArrayView<'_, A, D>) -> bool
-    ensures magnitudes { IsTrue result ↔ A.fits (pos (magnitude_product (map A.value array.now.cells))) }
-    ensures selections { IsTrue result → IsSummableBy int_products A.fits A.value array.now.cells }
+/// The absolute values of the cells that are not zero, multiplied, where the type has their product.
+fn magnitudes_multiplied<A: IntegerElem, D: Lengths>(array: &ArrayView<'_, A, D>) -> Option<A>
+    ensures { MatchOption result (A.fits (pos (magnitude_product (map A.value array.now.cells))) → ⊥) (λ product. MultipliedSoFar A.fits (map A.value array.now.cells) [] (A.value product)) }
 {
     let mut product = A::one();
-    for x in array.iter() {
-        let Some(more) = times_magnitude(product, *x) else {
-            return false;
+    let mut runs = CellRuns::of(array.view());
+    while let Some(run) = runs.next() {
+        let Some(more) = times_run(product, run) else {
+            return None;
         };
         product = more;
     }
-    true
+    Some(product)
+}
+
+/// A product times the absolute values of the cells of a run that are not zero, where the type has it.
+fn times_run<A: IntegerElem>(product: A, run: Strided<'_, A>) -> Option<A>
+    ensures { (whole rest : List ℤ) → MultipliedSoFar A.fits whole (map A.value run.entry ++ rest) (A.value product)
+        → MatchOption result (A.fits (pos (magnitude_product whole)) → ⊥) (λ more. MultipliedSoFar A.fits whole rest (A.value more)) }
+{
+    let mut product = product;
+    let mut run = run;
+    while let Some(x) = run.next() {
+        let Some(more) = times_magnitude(product, *x) else {
+            return None;
+        };
+        product = more;
+    }
+    Some(product)
 }
 
 /// A product times the absolute value of a number, where the type has both; the product itself for zero.
+#[inline(always)]
 fn times_magnitude<A: IntegerElem>(product: A, x: A) -> Option<A>
     ensures product { Checks A.value (λ z. A.fits (pos (nonzero_magnitude (A.value x))) × A.fits z) (A.value product *ℤ pos (nonzero_magnitude (A.value x))) result }
     ensures fits { A.fits (A.value x) }
