@@ -134,8 +134,11 @@ fn total_of_run<T: TotalOperation<A>, A: Copy>(cells: Strided<'_, A>) -> A
     requires { IsSummableBy T.operation T.InRange T.meaning cells }
     ensures { T.meaning result ≡ total_by T.operation T.meaning cells.entry }
 {
-    if let Some(slice) = cells.side_by_side() {
-        return total_of::<T, A>(slice);
+    // A short run has no use of eight partial results.
+    if cells.len() >= 8 {
+        if let Some(slice) = cells.side_by_side() {
+            return total_of::<T, A>(slice);
+        }
     }
     let mut cells = cells;
     let mut total = T::of_none();

@@ -1,4 +1,4 @@
-use Rattle.std.proofs.Common.{◌≡◌, ◌↔◌, [], map, refl, subst, sym}
+use Rattle.std.proofs.Common.{◌↔◌, [], map, refl, subst, sym}
 use Rattle.std.specs.Prelude.{IsTrue, pos}
 use Rattle.ndarray.specs.Integers.{int_products, magnitude_product}
 use Rattle.ndarray.specs.Sums.{IsSummableBy}
