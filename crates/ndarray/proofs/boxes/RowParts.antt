@@ -1,6 +1,6 @@
 -- A row in parts, and what two readings of its index lists give.
-use Rattle.std.proofs.Common.{◌≡◌, ◌≢◌, ℕ, ◌+◌, ◌<◌, suc, zero, List, [], ◌∷◌, ◌++◌, Option, Some, length, set, get_or, refl, sym, ◌∙◌, ap, arith, subst, All, ◌-◌, ◌≤◌}
-use Rattle.std.specs.Prelude.{filter_map, flat_map, replicate, ℤ, pos, ◌+ℤ◌}
+use Rattle.std.proofs.Common.{◌≡◌, ℕ, ◌+◌, ◌<◌, suc, zero, List, [], ◌∷◌, ◌++◌, Option, Some, length, set, get_or, refl, sym, ◌∙◌, ap, arith, subst, All, ◌-◌, ◌≤◌}
+use Rattle.std.specs.Prelude.{filter_map, flat_map, replicate, pos, ◌+ℤ◌}
 use Rattle.std.proofs.lemmas.Int.{ints}
 use Rattle.std.proofs.lemmas.List.{length-append, get_or_append_left, length-set, get_or-set_same, get_or-set_other, set-set, set-get_or}
 use Rattle.std.proofs.lemmas.List.Elements.{All-tail, filter_map-append}

@@ -1,5 +1,5 @@
 -- Diagonals of an array whose last two axes are exchanged.
-use Rattle.std.proofs.Common.{◌≡◌, ◌-◌, ◌<◌, ◌≤◌, ℕ, List, Option, Some, Bool, true, false, length, get_or, set, swap, refl, sym, ◌∙◌, ap, arith, subst}
+use Rattle.std.proofs.Common.{◌≡◌, ◌-◌, ◌≤◌, ℕ, List, Some, Bool, true, false, length, get_or, set, swap, refl, sym, ◌∙◌, ap, arith, subst}
 use Rattle.std.specs.Prelude.{ℤ, neg_ℤ, ◌≤ℤ◌, int_le, ◌&&◌, if◌then◌else◌}
 use Rattle.std.proofs.Math.Bool.{and_comm}
 use Rattle.std.proofs.lemmas.Bool.{false≢true, le-ltb}

@@ -1,10 +1,9 @@
-use Rattle.std.proofs.Common.{◌≡◌, ◌∙◌, ◌-◌, ◌<◌, ◌≤◌, ℕ, ℤ, Bool, List, ap, arith, length, subst, swap, sym, w64}
-use Rattle.std.specs.Prelude.{neg_ℤ, int_le, ◌&&◌, IfOk}
+use Rattle.std.proofs.Common.{◌≡◌, ◌∙◌, ◌-◌, ℤ, Bool, ap, arith, length, subst, swap, sym, w64}
+use Rattle.std.specs.Prelude.{neg_ℤ, int_le, ◌&&◌}
 use Rattle.std.specs.Int.{cast_signed, cast_unsigned}
 use Rattle.std.proofs.lemmas.Bool.{false≢true}
 use Rattle.std.proofs.lemmas.Int.{to_z-of_z}
 use Rattle.std.proofs.lemmas.List.Edits.{length-swap}
-use Rattle.ndarray.specs.Grid.{Grid}
 use Rattle.ndarray.specs.Index.{size}
 use Rattle.ndarray.specs.Triangles.{diagonals_kept}
 use Rattle.ndarray.specs.Views.{axes_swapped}

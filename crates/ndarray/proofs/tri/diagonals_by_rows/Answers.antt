@@ -1,4 +1,4 @@
-use Rattle.std.proofs.Common.{◌≡◌, ◌∙◌, [], ◌+◌, ◌-◌, ◌++◌, ◌<◌, ◌≤◌, ◌^◌, suc, get_or, All, ap, sym, subst, arith, length, refl, append-nil, append_assoc, set, w64, ℕ, ℤ, Bool, List, Option}
+use Rattle.std.proofs.Common.{◌≡◌, ◌∙◌, [], ◌+◌, ◌-◌, ◌++◌, ◌<◌, get_or, All, ap, sym, subst, arith, length, refl, append-nil, append_assoc, set, w64, ℕ, ℤ, Bool, List}
 use Rattle.std.specs.Prelude.{filter_map, flat_map, int_le, ◌&&◌}
 use Rattle.std.specs.Int.{cast_signed, cast_unsigned}
 use Rattle.std.proofs.lemmas.Int.{to_z-of_z}
@@ -10,7 +10,6 @@ use Rattle.ndarray.specs.Orders.{cells_in}
 use Rattle.ndarray.specs.Rows.{one_if_some}
 use Rattle.ndarray.specs.Triangles.{diagonals_kept}
 use Rattle.ndarray.specs.base.Ranks.{row_from}
-use Rattle.ndarray.specs.declared.base.shape.Order.TheVariants.{RowMajor}
 use Rattle.ndarray.proofs.boxes.Boxes.{InBox-some}
 use Rattle.ndarray.proofs.boxes.RowParts.{filter_map-rows}
 use Rattle.ndarray.proofs.boxes.Rows.{firsts-limit, last-begin, last-rows}

@@ -1,4 +1,4 @@
-use Rattle.std.proofs.Common.{◌-◌, ◌≤◌, ap, arith, length}
+use Rattle.std.proofs.Common.{◌-◌, ap, arith, length}
 use Rattle.ndarray.specs.Grid.{cell}
 use Rattle.ndarray.specs.base.Ranks.{row_from}
 use Rattle.ndarray.proofs.lists.Elements.{length-filter_map-most}

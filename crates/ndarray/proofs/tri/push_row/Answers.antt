@@ -1,4 +1,4 @@
-use Rattle.std.proofs.Common.{◌≡◌, ◌+◌, ◌-◌, ◌<◌, ◌≤◌, ◌++◌, ℕ, List, All, ap, append_assoc, arith, length, refl, subst, sym, ◌∙◌, replicate, w64, ℤ, Bool, true, false}
+use Rattle.std.proofs.Common.{◌≡◌, ◌-◌, ◌<◌, ◌≤◌, ◌++◌, ℕ, All, ap, append_assoc, arith, length, refl, subst, sym, ◌∙◌, replicate, w64, ℤ, Bool, true, false}
 use Rattle.std.specs.Prelude.{filter_map, int_le, ◌&&◌, pos, ◌+ℤ◌}
 use Rattle.std.specs.Int.{cast_signed, cast_unsigned}
 use Rattle.std.proofs.lemmas.Int.{to_z-of_z}

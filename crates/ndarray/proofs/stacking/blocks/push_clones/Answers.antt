@@ -1,4 +1,4 @@
-use Rattle.std.proofs.Common.{◌≡◌, ◌+◌, ◌≤◌, ◌∙◌, ap, arith, length}
+use Rattle.std.proofs.Common.{◌≡◌, ◌+◌, ◌∙◌, ap, arith, length}
 use Rattle.std.proofs.lemmas.List.{length-append}
 use Rattle.ndarray.specs.Index.{size}
 use Rattle.ndarray.proofs.joining.Blocks.{pushed-length}

@@ -1,4 +1,4 @@
-use Rattle.std.proofs.Common.{◌≡◌, ◌+◌, ◌-◌, ◌≤◌, ◌<◌, ap, arith, drop, length}
+use Rattle.std.proofs.Common.{◌≡◌, ◌+◌, ap, arith, drop, length}
 use Rattle.std.proofs.lemmas.List.{length-drop}
 use Rattle.ndarray.specs.Index.{size}
 use Rattle.ndarray.proofs.joining.Blocks.{pushed-length}
