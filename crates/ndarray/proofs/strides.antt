@@ -3,7 +3,7 @@ pub mod Contiguous
 pub mod ContiguousCells
 pub mod ForwardAxes
 pub mod IndexOfPlace
-pub mod Magnitudes
+pub mod Distances
 pub mod NestedBoxes
 pub mod NestedCuts
 pub mod NestedLifts

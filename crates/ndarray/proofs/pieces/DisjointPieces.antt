@@ -8,11 +8,11 @@ use Rattle.std.proofs.lemmas.Nat.{div-mul-add}
 use Rattle.std.proofs.lemmas.List.Edits.{get_or-insert_at, length-remove}
 use Rattle.ndarray.specs.Index.{InBox, row_order, IsBefore}
 use Rattle.ndarray.specs.Subviews.{ArePositive, window_index, window_counts}
-use Rattle.ndarray.specs.base.Nested.{AreNested, magnitude, reach, reach_within, sum_over_axes}
+use Rattle.ndarray.specs.base.Nested.{AreNested, distance, reach, reach_within, sum_over_axes}
 use Rattle.ndarray.specs.base.Places.{Reaches}
 use Rattle.ndarray.specs.base.Pieces.{AreStepsOf, SharePieces, piece_layout}
 use Rattle.ndarray.proofs.boxes.Boxes.{InBox-length}
-use Rattle.ndarray.proofs.strides.Magnitudes.{within-near, within-far}
+use Rattle.ndarray.proofs.strides.Distances.{within-near, within-far}
 use Rattle.ndarray.proofs.strides.Nesting.{nested-fewer}
 use Rattle.ndarray.proofs.strides.NestedMoves.{nested-removed, remove-at}
 use Rattle.ndarray.proofs.boxes.Orders.{row_order-is, IsBefore-not_itself}
@@ -132,11 +132,11 @@ lanes-share at (n ∷ ns) start bs k len stride h l =
 
 -- a shorter axis reaches no farther
 reach-shorter : (w n b : ℕ) → w ≤ n → reach w b ≤ reach n b
-reach-shorter w n b le = mul-le-mul_right (magnitude b) (omega arith)
+reach-shorter w n b le = mul-le-mul_right (distance b) (omega arith)
 
 within-shorter : (m w n b : ℕ) → w ≤ n → reach_within m w b ≤ reach_within m n b
 within-shorter m w n b le =
-    elim (cases_lt m (magnitude b)) [
+    elim (cases_lt m (distance b)) [
       | inl far ↦ (let e = within-far m w b far in omega (arith, e))
       | inr near ↦ (let e = within-near m w b near in let d = within-near m n b near in let r = reach-shorter w n b le in omega (arith, e, d, r))
     ]
@@ -146,7 +146,7 @@ nested-shorter : (ns bs ws : List ℕ) → length bs ≡ length ns → length ws
 nested-shorter ns bs ws lb lw le h = record {
   each = λ k lt long.
       let e = h.each k (omega arith) (let a = le k (omega arith) in omega arith) in
-      let m : ℕ = magnitude (get_or bs k 0) in
+      let m : ℕ = distance (get_or bs k 0) in
       let rn = length-remove ns k (omega arith) in
       let rw' = length-remove ws k lt in
       let rb = length-remove bs k (omega arith) in

@@ -5,7 +5,7 @@ use Rattle.std.proofs.lemmas.Bool.{cases_eq}
 use Rattle.std.proofs.lemmas.Bool.Decides.{nat_tests}
 use Rattle.ndarray.specs.Index.{InBox}
 use Rattle.ndarray.specs.base.Places.{dot}
-use Rattle.ndarray.specs.base.Nested.{magnitude, reach, sum_over_axes, forward_index, below_first}
+use Rattle.ndarray.specs.base.Nested.{distance, reach, sum_over_axes, forward_index, below_first}
 use Rattle.ndarray.proofs.strides.NestedLifts.{lift}
 
 -- ---- one axis
@@ -17,27 +17,27 @@ cond-other : (x y u v : ℕ) → x ≢ y → cond (nat_eq x y) u v ≡ v
 cond-other x y u v h = grind (arith, nat_tests)
 
 -- a stride that goes up
-pub forward_index-up : (n b i : ℕ) → magnitude b ≡ b % 2 ^ 64 → forward_index n b i ≡ i
+pub forward_index-up : (n b i : ℕ) → distance b ≡ b % 2 ^ 64 → forward_index n b i ≡ i
 unfolding forward_index
-forward_index-up n b i e = cond-same (magnitude b) (b % 2 ^ 64) i (n - 1 - i) e
+forward_index-up n b i e = cond-same (distance b) (b % 2 ^ 64) i (n - 1 - i) e
 
-pub below_first-up : (n b : ℕ) → magnitude b ≡ b % 2 ^ 64 → below_first n b ≡ 0
+pub below_first-up : (n b : ℕ) → distance b ≡ b % 2 ^ 64 → below_first n b ≡ 0
 unfolding below_first
-below_first-up n b e = cond-same (magnitude b) (b % 2 ^ 64) 0 (reach n b) e
+below_first-up n b e = cond-same (distance b) (b % 2 ^ 64) 0 (reach n b) e
 
 -- a stride that goes down
-pub forward_index-down : (n b i : ℕ) → magnitude b ≢ b % 2 ^ 64 → forward_index n b i ≡ n - 1 - i
+pub forward_index-down : (n b i : ℕ) → distance b ≢ b % 2 ^ 64 → forward_index n b i ≡ n - 1 - i
 unfolding forward_index
-forward_index-down n b i ne = cond-other (magnitude b) (b % 2 ^ 64) i (n - 1 - i) ne
+forward_index-down n b i ne = cond-other (distance b) (b % 2 ^ 64) i (n - 1 - i) ne
 
-pub below_first-down : (n b : ℕ) → magnitude b ≢ b % 2 ^ 64 → below_first n b ≡ reach n b
+pub below_first-down : (n b : ℕ) → distance b ≢ b % 2 ^ 64 → below_first n b ≡ reach n b
 unfolding below_first
-below_first-down n b ne = cond-other (magnitude b) (b % 2 ^ 64) 0 (reach n b) ne
+below_first-down n b ne = cond-other (distance b) (b % 2 ^ 64) 0 (reach n b) ne
 
 -- no axis goes below its first place farther than it reaches
 pub below_first-le : (n b : ℕ) → below_first n b ≤ reach n b
 below_first-le n b =
-    elim (cases_eq (magnitude b) (b % 2 ^ 64)) [
+    elim (cases_eq (distance b) (b % 2 ^ 64)) [
       | inl up ↦ (let e = below_first-up n b up in omega (arith, e))
       | inr down ↦ (let e = below_first-down n b down in omega (arith, e))
     ]
@@ -45,7 +45,7 @@ below_first-le n b =
 -- it is an index of the axis
 pub forward_index-within : (n b i : ℕ) → i < n → forward_index n b i < n
 forward_index-within n b i lt =
-    elim (cases_eq (magnitude b) (b % 2 ^ 64)) [
+    elim (cases_eq (distance b) (b % 2 ^ 64)) [
       | inl up ↦ (let e = forward_index-up n b i up in omega (arith, e))
       | inr down ↦ (let e = forward_index-down n b i down in omega (arith, e))
     ]
@@ -53,7 +53,7 @@ forward_index-within n b i lt =
 -- an axis that is turned twice is as it was
 pub forward_index-again : (n b i : ℕ) → i < n → forward_index n b (forward_index n b i) ≡ i
 forward_index-again n b i lt =
-    elim (cases_eq (magnitude b) (b % 2 ^ 64)) [
+    elim (cases_eq (distance b) (b % 2 ^ 64)) [
       | inl up ↦ forward_index-up n b (forward_index n b i) up ∙ forward_index-up n b i up
       | inr down ↦ (let e = forward_index-down n b i down in let f = forward_index-down n b (forward_index n b i) down in omega (arith, e, f))
     ]
@@ -67,11 +67,11 @@ plain i b m q n lt e =
     omega (arith, p, s)
 
 -- how far an index lies above the lowest place of its axis
-pub forward_index-far : (n b i : ℕ) → i < n → (q : ℕ) × (i * b + below_first n b ≡ forward_index n b i * magnitude b + 2 ^ 64 * q)
+pub forward_index-far : (n b i : ℕ) → i < n → (q : ℕ) × (i * b + below_first n b ≡ forward_index n b i * distance b + 2 ^ 64 * q)
 forward_index-far n b i lt =
-    let m : ℕ = magnitude b in
+    let m : ℕ = distance b in
     let r : ℕ = b / 2 ^ 64 in
-    elim (cases_eq (magnitude b) (b % 2 ^ 64)) [
+    elim (cases_eq (distance b) (b % 2 ^ 64)) [
       | inl up ↦ (
           let t = forward_index-up n b i up in
           let s = below_first-up n b up in

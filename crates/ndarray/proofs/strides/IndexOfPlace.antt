@@ -5,9 +5,9 @@ use Rattle.std.proofs.lemmas.List.{ext_get_or, length-set, set-get_or, get_or-se
 use Rattle.std.proofs.lemmas.Nat.{div-mul-add}
 use Rattle.ndarray.specs.Index.{InBox}
 use Rattle.ndarray.specs.base.Places.{dot, place}
-use Rattle.ndarray.specs.base.Nested.{magnitude, reach, reach_within, sum_over_axes, forward_index, below_first, AreNested}
+use Rattle.ndarray.specs.base.Nested.{distance, reach, reach_within, sum_over_axes, forward_index, below_first, AreNested}
 use Rattle.ndarray.proofs.boxes.Boxes.{InBox-length, InBox-get, InBox-set_both}
-use Rattle.ndarray.proofs.strides.Magnitudes.{reach-short, within-near}
+use Rattle.ndarray.proofs.strides.Distances.{reach-short, within-near}
 use Rattle.ndarray.proofs.strides.Nesting.{nested-each}
 use Rattle.ndarray.proofs.strides.NestedCuts.{nested-set}
 use Rattle.ndarray.proofs.strides.NestedLifts.{lift, lift-le}
@@ -33,9 +33,9 @@ module _ (ms bs : List ℕ) (k : ℕ) (l : length bs ≡ length ms) (lt : k < le
       (nested-set ms bs l k lt 1 (get_or bs k 0) (omega (arith, long)) (λ lo. absurd (omega (arith, lo))) h)
 
   -- where no axis longer than 1 has a larger stride, the others reach less far than one stride
-  others-less : ((j : ℕ) → j < length ms → 1 < get_or ms j 0 → magnitude (get_or bs j 0) ≤ magnitude (get_or bs k 0)) → sum_over_axes reach (set ms k 1) bs < magnitude (get_or bs k 0)
+  others-less : ((j : ℕ) → j < length ms → 1 < get_or ms j 0 → distance (get_or bs j 0) ≤ distance (get_or bs k 0)) → sum_over_axes reach (set ms k 1) bs < distance (get_or bs k 0)
   others-less most =
-      let m : ℕ = magnitude (get_or bs k 0) in
+      let m : ℕ = distance (get_or bs k 0) in
       let e = nested-each ms bs l h k lt long in
       let t = sum_over_axes-le reach (reach_within m) ms bs l
       (λ j lj.
@@ -48,14 +48,14 @@ module _ (ms bs : List ℕ) (k : ℕ) (l : length bs ≡ length ms) (lt : k < le
       omega (arith, e, t, s, same)
 
   -- an index list of the box: its index of the axis, and how far the others lie
-  pub lift-parts : (up : List ℕ) → InBox ms up → ((j : ℕ) → j < length ms → 1 < get_or ms j 0 → magnitude (get_or bs j 0) ≤ magnitude (get_or bs k 0)) → (lift up bs / magnitude (get_or bs k 0) ≡ get_or up k 0) × (lift (set up k 0) bs ≡ lift up bs % magnitude (get_or bs k 0))
+  pub lift-parts : (up : List ℕ) → InBox ms up → ((j : ℕ) → j < length ms → 1 < get_or ms j 0 → distance (get_or bs j 0) ≤ distance (get_or bs k 0)) → (lift up bs / distance (get_or bs k 0) ≡ get_or up k 0) × (lift (set up k 0) bs ≡ lift up bs % distance (get_or bs k 0))
   lift-parts up b most =
-      let m : ℕ = magnitude (get_or bs k 0) in
+      let m : ℕ = distance (get_or bs k 0) in
       let o = others-less most in
       let lu = InBox-length ms up b in
       let b0 = InBox-set_both ms up k 1 0 b (omega arith) in
       let le = lift-le (set ms k 1) bs (set up k 0) (let x = length-set ms k 1 in omega (arith, x, l)) b0 in
-      let s = sum_over_axes-set (λ i b. i * magnitude b) up bs k 0 (get_or bs k 0) (omega (arith, l, lu)) (omega (arith, lt, lu)) in
+      let s = sum_over_axes-set (λ i b. i * distance b) up bs k 0 (get_or bs k 0) (omega (arith, l, lu)) (omega (arith, lt, lu)) in
       let same : lift (set up k 0) (set bs k (get_or bs k 0)) ≡ lift (set up k 0) bs = ap (lift (set up k 0)) (set-get_or bs k 0) in
       let sum : lift up bs ≡ get_or up k 0 * m + lift (set up k 0) bs = omega (arith, s, same) in
       let below : lift (set up k 0) bs < m = omega (arith, o, le) in
@@ -85,26 +85,26 @@ sought-first ns bs index is start at l h ls b e zeros =
     }
 
 -- axis k, longer than 1 and of the largest stride of such, is made known
-module _ (ns bs ms index is : List ℕ) (rest k : ℕ) (ln : length ms ≡ length ns) (li : length index ≡ length ns) (lb : length bs ≡ length ns) (lt : k < length ns) (long : 1 < get_or ms k 0) (h : AreNested ms bs) (most : (j : ℕ) → j < length ms → 1 < get_or ms j 0 → magnitude (get_or bs j 0) ≤ magnitude (get_or bs k 0)) (b : InBox ns is) (s : SearchState ns bs ms rest index is) where
+module _ (ns bs ms index is : List ℕ) (rest k : ℕ) (ln : length ms ≡ length ns) (li : length index ≡ length ns) (lb : length bs ≡ length ns) (lt : k < length ns) (long : 1 < get_or ms k 0) (h : AreNested ms bs) (most : (j : ℕ) → j < length ms → 1 < get_or ms j 0 → distance (get_or bs j 0) ≤ distance (get_or bs k 0)) (b : InBox ns is) (s : SearchState ns bs ms rest index is) where
   -- what its stride tells
-  told : (rest / magnitude (get_or bs k 0) ≡ get_or s.up k 0) × (lift (set s.up k 0) bs ≡ rest % magnitude (get_or bs k 0))
+  told : (rest / distance (get_or bs k 0) ≡ get_or s.up k 0) × (lift (set s.up k 0) bs ≡ rest % distance (get_or bs k 0))
   told =
       let p = lift-parts ms bs k (omega (arith, lb, ln)) (omega (arith, lt, ln)) long h s.up s.within most in
-      (ap (λ x. x / magnitude (get_or bs k 0)) (sym s.far) ∙ p.0, p.1 ∙ ap (λ x. x % magnitude (get_or bs k 0)) s.far)
+      (ap (λ x. x / distance (get_or bs k 0)) (sym s.far) ∙ p.0, p.1 ∙ ap (λ x. x % distance (get_or bs k 0)) s.far)
 
   -- it is an index of the axis
-  pub sought-below : rest / magnitude (get_or bs k 0) < get_or ms k 0
+  pub sought-below : rest / distance (get_or bs k 0) < get_or ms k 0
   sought-below = let t = told in let w = InBox-get ms s.up k s.within (omega (arith, lt, ln)) in omega (arith, t, w)
 
   -- turned back it is the index
-  told-back : forward_index (get_or ms k 0) (get_or bs k 0) (rest / magnitude (get_or bs k 0)) ≡ get_or is k 0
+  told-back : forward_index (get_or ms k 0) (get_or bs k 0) (rest / distance (get_or bs k 0)) ≡ get_or is k 0
   told-back =
       let n = s.not_yet k lt long in
-      ap (λ x. forward_index x (get_or bs k 0) (rest / magnitude (get_or bs k 0))) n.0
+      ap (λ x. forward_index x (get_or bs k 0) (rest / distance (get_or bs k 0))) n.0
       ∙ (ap (forward_index (get_or ns k 0) (get_or bs k 0)) (told.0 ∙ n.1)
       ∙ forward_index-again (get_or ns k 0) (get_or bs k 0) (get_or is k 0) (InBox-get ns is k b lt))
 
-  pub sought-next : (v : ℕ) → v ≡ forward_index (get_or ms k 0) (get_or bs k 0) (rest / magnitude (get_or bs k 0)) → SearchState ns bs (set ms k 1) (rest % magnitude (get_or bs k 0)) (set index k v) is
+  pub sought-next : (v : ℕ) → v ≡ forward_index (get_or ms k 0) (get_or bs k 0) (rest / distance (get_or bs k 0)) → SearchState ns bs (set ms k 1) (rest % distance (get_or bs k 0)) (set index k v) is
   sought-next v e = record {
     up = set s.up k 0;
     within = InBox-set_both ms s.up k 1 0 s.within (omega arith);

@@ -4,31 +4,31 @@ use Rattle.std.proofs.Math.Nat.{mul-le-mul_right}
 use Rattle.std.proofs.lemmas.List.{length-reverse, get_or-reverse, reverse-reverse}
 use Rattle.ndarray.specs.Index.{size}
 use Rattle.ndarray.specs.Limits.{nonzero_size}
-use Rattle.ndarray.specs.base.Nested.{magnitude, reach, reach_within, reached_within, sum_over_axes, AreNested}
+use Rattle.ndarray.specs.base.Nested.{distance, reach, reach_within, reached_within, sum_over_axes, AreNested}
 use Rattle.ndarray.specs.base.Strides.{AreStridesOf}
 use Rattle.ndarray.specs.declared.base.shape.Order.{Order}
 use Rattle.ndarray.specs.declared.base.shape.Order.TheVariants.{RowMajor, ColumnMajor}
 use Rattle.ndarray.proofs.boxes.Sizes.{size-le, size-reverse, size-drop_reverse}
 use Rattle.ndarray.proofs.strides.SumsOverAxes.{sum_over_axes-one, sum_over_axes-le}
-use Rattle.ndarray.proofs.strides.Magnitudes.{magnitude-small, reach-long, within-far, within-le}
+use Rattle.ndarray.proofs.strides.Distances.{distance-small, reach-long, within-far, within-le}
 use Rattle.ndarray.proofs.strides.Nesting.{nested-each, nested-from_each}
 use Rattle.ndarray.proofs.strides.NestedMoves.{nested-reversed}
 
 -- an axis before all others whose stride is larger than their reach
-module _ (n b : ℕ) (ns bs : List ℕ) (l : length bs ≡ length ns) (larger : sum_over_axes reach ns bs < magnitude b) (near : reach n b + sum_over_axes reach ns bs < 2 ^ 63) (h : AreNested ns bs) where
+module _ (n b : ℕ) (ns bs : List ℕ) (l : length bs ≡ length ns) (larger : sum_over_axes reach ns bs < distance b) (near : reach n b + sum_over_axes reach ns bs < 2 ^ 63) (h : AreNested ns bs) where
   -- the others do not notice it
-  unseen : (k : ℕ) → k < length ns → 1 < get_or ns k 0 → reach_within (magnitude (get_or bs k 0)) n b ≡ 0
+  unseen : (k : ℕ) → k < length ns → 1 < get_or ns k 0 → reach_within (distance (get_or bs k 0)) n b ≡ 0
   unseen k lt long =
       let one = sum_over_axes-one reach ns bs k l lt in
       let r = reach-long (get_or ns k 0) (get_or bs k 0) long in
-      within-far (magnitude (get_or bs k 0)) n b (omega (arith, one, r, larger))
+      within-far (distance (get_or bs k 0)) n b (omega (arith, one, r, larger))
 
   -- each axis, as the lists have it
-  first-each : (k : ℕ) → k < length (n ∷ ns) → 1 < get_or (n ∷ ns) k 0 → reached_within (magnitude (get_or (b ∷ bs) k 0)) (n ∷ ns) (b ∷ bs) < reach (get_or (n ∷ ns) k 0) (get_or (b ∷ bs) k 0) + magnitude (get_or (b ∷ bs) k 0)
+  first-each : (k : ℕ) → k < length (n ∷ ns) → 1 < get_or (n ∷ ns) k 0 → reached_within (distance (get_or (b ∷ bs) k 0)) (n ∷ ns) (b ∷ bs) < reach (get_or (n ∷ ns) k 0) (get_or (b ∷ bs) k 0) + distance (get_or (b ∷ bs) k 0)
   unfolding sum_over_axes
   first-each zero lt long =
-      let t = sum_over_axes-le (reach_within (magnitude b)) reach ns bs l (λ k _. within-le (magnitude b) (get_or ns k 0) (get_or bs k 0)) in
-      let w = within-le (magnitude b) n b in
+      let t = sum_over_axes-le (reach_within (distance b)) reach ns bs l (λ k _. within-le (distance b) (get_or ns k 0) (get_or bs k 0)) in
+      let w = within-le (distance b) n b in
       omega (arith, t, w, larger)
   first-each (suc k) lt long =
       let u = unseen k (omega arith) long in
@@ -56,7 +56,7 @@ nested-row (n ∷ ns) (b ∷ bs) l h some limit =
     let ih = nested-row ns bs (omega arith) (λ k lt. h (suc k) (omega arith)) p.1 (omega (arith, le, limit)) in
     let t = ih.1 in
     let eb : b ≡ size ns = h 0 (omega arith) in
-    let m : magnitude b ≡ size ns = ap magnitude eb ∙ magnitude-small (size ns) (omega (arith, le, limit)) in
+    let m : distance b ≡ size ns = ap distance eb ∙ distance-small (size ns) (omega (arith, le, limit)) in
     let r : reach n b ≡ (n - 1) * size ns = ap (λ x. (n - 1) * x) m in
     let q : (n - 1) * size ns + size ns ≡ n * size ns = let e : n ≡ n - 1 + 1 = omega (arith, p) in sym (ap (λ x. x * size ns) e ∙ omega arith) in
     (nested-first n b ns bs (omega arith) (omega (arith, t, m)) (omega (arith, t, r, q, limit)) ih.0, omega (arith, t, r, q))

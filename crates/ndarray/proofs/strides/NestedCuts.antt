@@ -3,13 +3,13 @@ use Rattle.std.proofs.Common.{◌≡◌, ◌≢◌, ℕ, ◌+◌, ◌-◌, ◌*�
 use Rattle.std.proofs.Math.Nat.{mul-le-mul_left, mul-le-mul_right}
 use Rattle.std.proofs.lemmas.Bool.{cases_lt, cases_eq}
 use Rattle.std.proofs.lemmas.List.{length-set, get_or-set_same, get_or-set_other}
-use Rattle.ndarray.specs.base.Nested.{magnitude, reach, reach_within, reached_within, sum_over_axes, AreNested}
+use Rattle.ndarray.specs.base.Nested.{distance, reach, reach_within, reached_within, sum_over_axes, AreNested}
 use Rattle.ndarray.proofs.strides.SumsOverAxes.{sum_over_axes-one, sum_over_axes-set, sum_over_axes-le}
-use Rattle.ndarray.proofs.strides.Magnitudes.{magnitude-times, reach-short, reach-long, within-near, within-far, within-le, within-short}
+use Rattle.ndarray.proofs.strides.Distances.{distance-times, reach-short, reach-long, within-near, within-far, within-le, within-short}
 use Rattle.ndarray.proofs.strides.Nesting.{nested-each, nested-from_each, nested-two}
 
 -- axis k gets a length n, not larger, and a stride b, not smaller, but reaches no farther
-module _ (ns bs : List ℕ) (l : length bs ≡ length ns) (k : ℕ) (lt : k < length ns) (n b : ℕ) (fewer : n ≤ get_or ns k 0) (apart : 1 < n → (magnitude (get_or bs k 0) ≤ magnitude b) × (reach n b ≤ reach (get_or ns k 0) (get_or bs k 0))) (h : AreNested ns bs) where
+module _ (ns bs : List ℕ) (l : length bs ≡ length ns) (k : ℕ) (lt : k < length ns) (n b : ℕ) (fewer : n ≤ get_or ns k 0) (apart : 1 < n → (distance (get_or bs k 0) ≤ distance b) × (reach n b ≤ reach (get_or ns k 0) (get_or bs k 0))) (h : AreNested ns bs) where
   no_farther : reach n b ≤ reach (get_or ns k 0) (get_or bs k 0)
   no_farther =
       elim (cases_lt 1 n) [
@@ -21,40 +21,40 @@ module _ (ns bs : List ℕ) (l : length bs ≡ length ns) (k : ℕ) (lt : k < le
   set-near = let s = sum_over_axes-set reach ns bs k n b l lt in let f = h.near in let r = no_farther in omega (arith, s, f, r)
 
   -- no axis longer than 1 has a stride between the old one and the new
-  none_between : 1 < n → (j : ℕ) → j < length ns → reach_within (magnitude b) (get_or ns j 0) (get_or bs j 0) ≤ reach_within (magnitude (get_or bs k 0)) (get_or ns j 0) (get_or bs j 0)
+  none_between : 1 < n → (j : ℕ) → j < length ns → reach_within (distance b) (get_or ns j 0) (get_or bs j 0) ≤ reach_within (distance (get_or bs k 0)) (get_or ns j 0) (get_or bs j 0)
   none_between long j lj =
-      elim (cases_lt (magnitude (get_or bs k 0)) (magnitude (get_or bs j 0))) [
+      elim (cases_lt (distance (get_or bs k 0)) (distance (get_or bs j 0))) [
         | inr low ↦ (
-            let w = within-near (magnitude (get_or bs k 0)) (get_or ns j 0) (get_or bs j 0) low in
-            let v = within-le (magnitude b) (get_or ns j 0) (get_or bs j 0) in
+            let w = within-near (distance (get_or bs k 0)) (get_or ns j 0) (get_or bs j 0) low in
+            let v = within-le (distance b) (get_or ns j 0) (get_or bs j 0) in
             omega (arith, w, v))
         | inl high ↦ elim (cases_lt 1 (get_or ns j 0)) [
-          | inr short ↦ (let w = within-short (magnitude b) (get_or ns j 0) (get_or bs j 0) short in omega (arith, w))
+          | inr short ↦ (let w = within-short (distance b) (get_or ns j 0) (get_or bs j 0) short in omega (arith, w))
           | inl longer ↦ (
-              let ne : j ≢ k = λ e. let same = ap (λ i. magnitude (get_or bs i 0)) e in omega (arith, high, same) in
+              let ne : j ≢ k = λ e. let same = ap (λ i. distance (get_or bs i 0)) e in omega (arith, high, same) in
               let two = nested-two ns bs l h j k lj lt ne longer (omega (arith, high)) in
               let a = (apart long).1 in
               let r = reach-long n b long in
-              let w = within-far (magnitude b) (get_or ns j 0) (get_or bs j 0) (omega (arith, two, a, r)) in
+              let w = within-far (distance b) (get_or ns j 0) (get_or bs j 0) (omega (arith, two, a, r)) in
               omega (arith, w))
         ]
       ]
 
   -- the axis itself, with its new stride
-  set-here : 1 < n → reached_within (magnitude b) (set ns k n) (set bs k b) < reach n b + magnitude b
+  set-here : 1 < n → reached_within (distance b) (set ns k n) (set bs k b) < reach n b + distance b
   set-here long =
       let a = apart long in
-      let s = sum_over_axes-set (reach_within (magnitude b)) ns bs k n b l lt in
-      let t = sum_over_axes-le (reach_within (magnitude b)) (reach_within (magnitude (get_or bs k 0))) ns bs l (none_between long) in
+      let s = sum_over_axes-set (reach_within (distance b)) ns bs k n b l lt in
+      let t = sum_over_axes-le (reach_within (distance b)) (reach_within (distance (get_or bs k 0))) ns bs l (none_between long) in
       let e = nested-each ns bs l h k lt (omega (arith, long, fewer)) in
-      let w = within-near (magnitude b) (get_or ns k 0) (get_or bs k 0) a.0 in
-      let v = within-le (magnitude b) n b in
+      let w = within-near (distance b) (get_or ns k 0) (get_or bs k 0) a.0 in
+      let v = within-le (distance b) n b in
       omega (arith, a, s, t, e, w, v)
 
   -- it counts no more among others than before
   less : (m : ℕ) → reach_within m n b ≤ reach_within m (get_or ns k 0) (get_or bs k 0)
   less m =
-      elim (cases_lt m (magnitude b)) [
+      elim (cases_lt m (distance b)) [
         | inl far ↦ (let w = within-far m n b far in omega (arith, w))
         | inr near ↦ elim (cases_lt 1 n) [
           | inr short ↦ (let w = within-short m n b short in omega (arith, w))
@@ -67,15 +67,15 @@ module _ (ns bs : List ℕ) (l : length bs ≡ length ns) (k : ℕ) (lt : k < le
       ]
 
   -- another axis
-  set-other : (j : ℕ) → j < length ns → 1 < get_or ns j 0 → reached_within (magnitude (get_or bs j 0)) (set ns k n) (set bs k b) < reach (get_or ns j 0) (get_or bs j 0) + magnitude (get_or bs j 0)
+  set-other : (j : ℕ) → j < length ns → 1 < get_or ns j 0 → reached_within (distance (get_or bs j 0)) (set ns k n) (set bs k b) < reach (get_or ns j 0) (get_or bs j 0) + distance (get_or bs j 0)
   set-other j lj long =
-      let s = sum_over_axes-set (reach_within (magnitude (get_or bs j 0))) ns bs k n b l lt in
+      let s = sum_over_axes-set (reach_within (distance (get_or bs j 0))) ns bs k n b l lt in
       let e = nested-each ns bs l h j lj long in
-      let v = less (magnitude (get_or bs j 0)) in
+      let v = less (distance (get_or bs j 0)) in
       omega (arith, s, e, v)
 
   -- each axis, as the lists have it
-  set-each : (j : ℕ) → j < length (set ns k n) → 1 < get_or (set ns k n) j 0 → reached_within (magnitude (get_or (set bs k b) j 0)) (set ns k n) (set bs k b) < reach (get_or (set ns k n) j 0) (get_or (set bs k b) j 0) + magnitude (get_or (set bs k b) j 0)
+  set-each : (j : ℕ) → j < length (set ns k n) → 1 < get_or (set ns k n) j 0 → reached_within (distance (get_or (set bs k b) j 0)) (set ns k n) (set bs k b) < reach (get_or (set ns k n) j 0) (get_or (set bs k b) j 0) + distance (get_or (set bs k b) j 0)
   set-each j lj long =
       elim (cases_eq j k) [
         | inl e ↦ (
@@ -102,13 +102,13 @@ scaled len n m s long some h =
     (omega (arith, a), omega (arith, b, c, e, f), omega (arith, c, e, f))
 
 -- of axis k some places are kept, a step apart
-pub nested-cut : (ns bs : List ℕ) (k len step : ℕ) → length bs ≡ length ns → k < length ns → len ≤ get_or ns k 0 → reach len step ≤ get_or ns k 0 - 1 → (1 < len → 0 < magnitude step) → AreNested ns bs → AreNested (set ns k len) (set bs k ((get_or bs k 0 * step) % 2 ^ 64))
+pub nested-cut : (ns bs : List ℕ) (k len step : ℕ) → length bs ≡ length ns → k < length ns → len ≤ get_or ns k 0 → reach len step ≤ get_or ns k 0 - 1 → (1 < len → 0 < distance step) → AreNested ns bs → AreNested (set ns k len) (set bs k ((get_or bs k 0 * step) % 2 ^ 64))
 nested-cut ns bs k len step l lt fewer near some h =
     nested-set ns bs l k lt len ((get_or bs k 0 * step) % 2 ^ 64) fewer
     (λ long.
-    let s = scaled len (get_or ns k 0) (magnitude (get_or bs k 0)) (magnitude step) long (some long) near in
+    let s = scaled len (get_or ns k 0) (distance (get_or bs k 0)) (distance step) long (some long) near in
     let one = sum_over_axes-one reach ns bs k l lt in
     let all = h.near in
-    let e = magnitude-times (get_or bs k 0) step (omega (arith, s, one, all)) in
+    let e = distance-times (get_or bs k 0) step (omega (arith, s, one, all)) in
     (omega (arith, s, e), let r = ap (λ x. (len - 1) * x) e in omega (arith, s, r)))
     h

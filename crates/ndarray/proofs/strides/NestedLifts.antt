@@ -6,31 +6,31 @@ use Rattle.std.proofs.lemmas.Bool.{cases_lt}
 use Rattle.std.proofs.lemmas.List.Edits.{length-remove}
 use Rattle.std.proofs.lemmas.Nat.{div-mul-add}
 use Rattle.ndarray.specs.Index.{InBox}
-use Rattle.ndarray.specs.base.Nested.{magnitude, reach, reach_within, sum_over_axes, AreNested}
+use Rattle.ndarray.specs.base.Nested.{distance, reach, reach_within, sum_over_axes, AreNested}
 use Rattle.ndarray.proofs.boxes.Boxes.{InBox-length, InBox-get, InBox-removed}
 use Rattle.ndarray.proofs.lists.Elements.{insert-remove}
-use Rattle.ndarray.proofs.strides.Magnitudes.{within-near}
+use Rattle.ndarray.proofs.strides.Distances.{within-near}
 use Rattle.ndarray.proofs.strides.NestedMoves.{remove-at, nested-removed}
 use Rattle.ndarray.proofs.strides.SumsOverAxes.{sum_over_axes-remove, sum_over_axes-le}
 
 -- an axis of the largest stride
-largest : (bs : List ℕ) → 0 < length bs → (k : ℕ) × (k < length bs) × ((j : ℕ) → j < length bs → magnitude (get_or bs j 0) ≤ magnitude (get_or bs k 0))
+largest : (bs : List ℕ) → 0 < length bs → (k : ℕ) × (k < length bs) × ((j : ℕ) → j < length bs → distance (get_or bs j 0) ≤ distance (get_or bs k 0))
 largest [] some = absurd (omega arith)
-largest (b ∷ []) some = (0, some, λ j lt. let e : j ≡ 0 = omega arith in let q = ap (λ p. magnitude (get_or (b ∷ []) p 0)) e in omega (arith, q))
+largest (b ∷ []) some = (0, some, λ j lt. let e : j ≡ 0 = omega arith in let q = ap (λ p. distance (get_or (b ∷ []) p 0)) e in omega (arith, q))
 largest (b ∷ c ∷ bs) some =
     let r = largest (c ∷ bs) (omega arith) in
-    elim (cases_lt (magnitude b) (magnitude (get_or (c ∷ bs) r.0 0))) [
-      | inl later ↦ (suc r.0, let lt = r.1 in omega (arith, lt), first-or_later b (c ∷ bs) (magnitude (get_or (c ∷ bs) r.0 0)) (omega (arith, later)) r.2)
-      | inr first ↦ (0, some, first-or_later b (c ∷ bs) (magnitude b) (omega arith) (λ j lt. let m = r.2 j lt in omega (arith, m, first)))
+    elim (cases_lt (distance b) (distance (get_or (c ∷ bs) r.0 0))) [
+      | inl later ↦ (suc r.0, let lt = r.1 in omega (arith, lt), first-or_later b (c ∷ bs) (distance (get_or (c ∷ bs) r.0 0)) (omega (arith, later)) r.2)
+      | inr first ↦ (0, some, first-or_later b (c ∷ bs) (distance b) (omega arith) (λ j lt. let m = r.2 j lt in omega (arith, m, first)))
     ]
   where
-    first-or_later : (b : ℕ) (bs : List ℕ) (m : ℕ) → magnitude b ≤ m → ((j : ℕ) → j < length bs → magnitude (get_or bs j 0) ≤ m) → (j : ℕ) → j < length (b ∷ bs) → magnitude (get_or (b ∷ bs) j 0) ≤ m
+    first-or_later : (b : ℕ) (bs : List ℕ) (m : ℕ) → distance b ≤ m → ((j : ℕ) → j < length bs → distance (get_or bs j 0) ≤ m) → (j : ℕ) → j < length (b ∷ bs) → distance (get_or (b ∷ bs) j 0) ≤ m
     first-or_later b bs m here there zero lt = here
     first-or_later b bs m here there (suc j) lt = there j (omega arith)
 
 -- how far an index list lies from the first, by the strides without their signs
 abbrev pub lift : List ℕ → List ℕ → ℕ
-lift = sum_over_axes (λ i b. i * magnitude b)
+lift = sum_over_axes (λ i b. i * distance b)
 
 -- an index list of the box lies no farther than all axes reach
 pub lift-le : (ns bs is : List ℕ) → length bs ≡ length ns → InBox ns is → lift is bs ≤ sum_over_axes reach ns bs
@@ -41,7 +41,7 @@ lift-le (n ∷ ns) bs [] l h = absurd h
 lift-le (n ∷ ns) [] (i ∷ is) l h = absurd (omega arith)
 lift-le (n ∷ ns) (b ∷ bs) (i ∷ is) l h =
     let lt = h.0 in
-    let m : i * magnitude b ≤ (n - 1) * magnitude b = mul-le-mul_right (magnitude b) (omega arith) in
+    let m : i * distance b ≤ (n - 1) * distance b = mul-le-mul_right (distance b) (omega arith) in
     let ih = lift-le ns bs is (omega arith) h.1 in
     omega (arith, m, ih)
 
@@ -54,9 +54,9 @@ same_parts m i j r s lr ls e =
     (same, omega (arith, e, p))
 
 -- what the axes other than that of the largest stride reach together
-others-below : (ns bs : List ℕ) (k : ℕ) → length bs ≡ length ns → k < length ns → ((j : ℕ) → j < length bs → magnitude (get_or bs j 0) ≤ magnitude (get_or bs k 0)) → AreNested ns bs → 1 < get_or ns k 0 → sum_over_axes reach (remove ns k) (remove bs k) < magnitude (get_or bs k 0)
+others-below : (ns bs : List ℕ) (k : ℕ) → length bs ≡ length ns → k < length ns → ((j : ℕ) → j < length bs → distance (get_or bs j 0) ≤ distance (get_or bs k 0)) → AreNested ns bs → 1 < get_or ns k 0 → sum_over_axes reach (remove ns k) (remove bs k) < distance (get_or bs k 0)
 others-below ns bs k l lt big h long =
-    let m : ℕ = magnitude (get_or bs k 0) in
+    let m : ℕ = distance (get_or bs k 0) in
     let ln = length-remove ns k lt in
     let lb = length-remove bs k (omega arith) in
     let e = h.each k lt long in
@@ -64,7 +64,7 @@ others-below ns bs k l lt big h long =
     (λ j lj.
     let r = remove-at k j in
     let a = r.1 bs (omega arith) (omega arith) in
-    let s = ap magnitude a.1 in
+    let s = ap distance a.1 in
     let b = big r.0 a.0 in
     let w = within-near m (get_or (remove ns k) j 0) (get_or (remove bs k) j 0) (omega (arith, s, b)) in
     omega (arith, w)) in
@@ -82,14 +82,14 @@ lift-apart zero ns bs is js ec l h bi bj e = no_axes-same is js (let a = InBox-l
 lift-apart (suc count) ns bs is js ec l h bi bj e =
     let big = largest bs (omega arith) in
     let k : ℕ = big.0 in
-    let m : ℕ = magnitude (get_or bs k 0) in
+    let m : ℕ = distance (get_or bs k 0) in
     let lk : k < length bs = big.1 in
     let li = InBox-length ns is bi in
     let lj = InBox-length ns js bj in
     let ln = length-remove ns k (omega arith) in
     let lb = length-remove bs k (omega arith) in
-    let ri = sum_over_axes-remove (λ i b. i * magnitude b) is bs k (omega arith) (omega arith) in
-    let rj = sum_over_axes-remove (λ i b. i * magnitude b) js bs k (omega arith) (omega arith) in
+    let ri = sum_over_axes-remove (λ i b. i * distance b) is bs k (omega arith) (omega arith) in
+    let rj = sum_over_axes-remove (λ i b. i * distance b) js bs k (omega arith) (omega arith) in
     let bi2 = InBox-removed ns is k (omega arith) bi in
     let bj2 = InBox-removed ns js k (omega arith) bj in
     let gi = InBox-get ns is k bi (omega arith) in

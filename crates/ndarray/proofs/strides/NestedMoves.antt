@@ -5,7 +5,7 @@ use Rattle.std.proofs.lemmas.Bool.{cases_lt, cases_eq}
 use Rattle.std.proofs.lemmas.List.{length-set, length-reverse, get_or-reverse, get_or-set_same, get_or-set_other}
 use Rattle.std.proofs.lemmas.List.Edits.{swap_is, length-swap, length-remove, length-insert, get_or-remove_below, get_or-remove_above, get_or-insert_at, get_or-insert_below, get_or-insert_above}
 use Rattle.ndarray.specs.base.Nested.{reach, reach_within, AreNested}
-use Rattle.ndarray.proofs.strides.Magnitudes.{reach-short, within-short}
+use Rattle.ndarray.proofs.strides.Distances.{reach-short, within-short}
 use Rattle.ndarray.proofs.strides.Nesting.{nested-fewer}
 use Rattle.ndarray.proofs.strides.SumsOverAxes.{sum_over_axes-remove, sum_over_axes-insert, sum_over_axes-reverse, sum_over_axes-swap}
 

@@ -4,7 +4,7 @@ use Rattle.std.proofs.lemmas.List.{length-set, get_or-set_same, set-set, set-get
 use Rattle.std.proofs.lemmas.Nat.{div-add-mod'}
 use Rattle.std.proofs.Math.Nat.{add-mul-mod_self_left}
 use Rattle.ndarray.specs.Index.{InBox}
-use Rattle.ndarray.specs.base.Nested.{magnitude, reach}
+use Rattle.ndarray.specs.base.Nested.{distance, reach}
 use Rattle.ndarray.specs.base.Places.{dot, place, Reaches, Rearranges}
 use Rattle.ndarray.proofs.boxes.Boxes.{InBox-length, InBox-get, InBox-set_both}
 use Rattle.ndarray.proofs.strides.NestedCuts.{nested-cut}
@@ -17,7 +17,7 @@ pub record IsAxisCut (n from len step : ℕ) (at : ℕ → ℕ) : Type 0 where
   pub within : (i : ℕ) → i < len → at i < n
   pub steps : (i : ℕ) → i < len → (from + i * step) % 2 ^ 64 ≡ at i
   pub near : reach len step ≤ n - 1
-  pub moves : 1 < len → 0 < magnitude step
+  pub moves : 1 < len → 0 < distance step
 
 -- those of a part side by side
 IsAxisCut-part : (n from len : ℕ) → from + len ≤ n → n < 2 ^ 63 → IsAxisCut n from len 1 (λ i. from + i)

@@ -8,9 +8,9 @@ use Rattle.std.proofs.lemmas.Bool.{cases_lt}
 use Rattle.std.proofs.lemmas.Int.{ints, clamps}
 use Rattle.ndarray.specs.Slices.{IsSliceOf, slice_start, slice_end, end_from_start, slice_length, step_index, slice_index_at}
 use Rattle.ndarray.specs.declared.base.slice.Slice.{Slice}
-use Rattle.ndarray.specs.base.Nested.{magnitude, reach}
+use Rattle.ndarray.specs.base.Nested.{distance, reach}
 use Rattle.ndarray.proofs.views.Cuts.{IsAxisCut}
-use Rattle.ndarray.proofs.strides.Magnitudes.{magnitude-signed}
+use Rattle.ndarray.proofs.strides.Distances.{distance-signed}
 
 pub ceil-is : (x y : ℕ) → 0 < y → x / y + min 1 (x % y) ≡ (x + y - 1) / y
 ceil-is x y h =
@@ -121,7 +121,7 @@ module _ (n : ℕ) (s : Slice) (h : IsSliceOf n s) where
   slice-near (suc len) el word =
       let high = (slice-ends n s h).high in
       let r = reached len (omega arith) in
-      let m : (suc len - 1) * magnitude (cast_unsigned w64 s.step) ≡ len * unsigned_abs s.step = ap (λ x. x * magnitude (cast_unsigned w64 s.step)) (let e : suc len - 1 ≡ len = omega arith in e) ∙ ap (λ x. len * x) (magnitude-signed s.step word) in
+      let m : (suc len - 1) * distance (cast_unsigned w64 s.step) ≡ len * unsigned_abs s.step = ap (λ x. x * distance (cast_unsigned w64 s.step)) (let e : suc len - 1 ≡ len = omega arith in e) ∙ ap (λ x. len * x) (distance-signed s.step word) in
       omega arith
 
   -- they are a cut of the axis
@@ -139,5 +139,5 @@ module _ (n : ℕ) (s : Slice) (h : IsSliceOf n s) where
         within = λ i lt. step_index-below a b n i s.step e.order e.high (reached i (omega arith));
         steps = steps;
         near = slice-near len el word;
-        moves = λ long. let m = magnitude-signed s.step word in omega arith;
+        moves = λ long. let m = distance-signed s.step word in omega arith;
       }

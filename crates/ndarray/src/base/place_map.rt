@@ -5,7 +5,7 @@ ghost use Rattle.ndarray.specs.Grid.{cell, IsGrid};
 ghost use Rattle.ndarray.specs.Index.{InBox, size};
 ghost use Rattle.ndarray.specs.Limits.{IsWithinLimit};
 ghost use Rattle.ndarray.specs.base.Places.{place};
-ghost use Rattle.ndarray.specs.base.Nested.{magnitude, reach, sum_over_axes, forward_index, below_first, AreNested};
+ghost use Rattle.ndarray.specs.base.Nested.{distance, reach, sum_over_axes, forward_index, below_first, AreNested};
 ghost use Rattle.ndarray.specs.base.CellLayouts.{place_in};
 ghost use Rattle.ndarray.specs.base.Slots.{held_at};
 
@@ -17,8 +17,8 @@ use crate::base::storage::OwnedRepr;
 use std::marker::Model;
 
 /// A stride without its sign.
-pub(crate) fn magnitude(stride: usize) -> usize
-    ensures { result ≡ magnitude stride }
+pub(crate) fn distance(stride: usize) -> usize
+    ensures { result ≡ distance stride }
 {
     stride.min(stride.wrapping_neg())
 }
@@ -29,7 +29,7 @@ fn below_first(len: usize, stride: usize) -> usize
     requires near { reach len stride < 2 ^ 63 }
     ensures { result ≡ below_first len stride }
 {
-    let m = magnitude(stride);
+    let m = distance(stride);
     if m == stride { 0 } else { (len - 1) * m }
 }
 
@@ -38,7 +38,7 @@ fn forward_index(len: usize, stride: usize, i: usize) -> usize
     requires { i < len }
     ensures { result ≡ forward_index len stride i }
 {
-    if magnitude(stride) == stride {
+    if distance(stride) == stride {
         i
     } else {
         len - 1 - i
@@ -48,12 +48,12 @@ fn forward_index(len: usize, stride: usize, i: usize) -> usize
 /// Of the axes longer than 1 the one of the largest stride, signs left out.
 fn axis_of_largest_stride<D: Lengths>(dim: &D, strides: &D) -> Option<usize>
     requires { length (D.numbers strides.now) ≡ length (D.numbers dim.now) }
-    ensures { MatchOption result ((k : ℕ) → k < length (D.numbers dim.now) → slice_index (D.numbers dim.now) k ≤ 1) (λ k. (k < length (D.numbers dim.now)) × (1 < slice_index (D.numbers dim.now) k) × ((j : ℕ) → j < length (D.numbers dim.now) → 1 < slice_index (D.numbers dim.now) j → magnitude (slice_index (D.numbers strides.now) j) ≤ magnitude (slice_index (D.numbers strides.now) k))) }
+    ensures { MatchOption result ((k : ℕ) → k < length (D.numbers dim.now) → slice_index (D.numbers dim.now) k ≤ 1) (λ k. (k < length (D.numbers dim.now)) × (1 < slice_index (D.numbers dim.now) k) × ((j : ℕ) → j < length (D.numbers dim.now) → 1 < slice_index (D.numbers dim.now) j → distance (slice_index (D.numbers strides.now) j) ≤ distance (slice_index (D.numbers strides.now) k))) }
 {
     let mut best = None;
     let mut most = 0;
     for k in 0..dim.ndim() {
-        let m = magnitude(strides.axis(k));
+        let m = distance(strides.axis(k));
         if dim.axis(k) > 1 && m >= most {
             best = Some(k);
             most = m;
@@ -71,7 +71,7 @@ impl<D: Lengths> Layout<D> {
         if self.dim.axis(axis) <= 1 {
             return usize::MAX;
         }
-        magnitude(self.strides.axis(axis))
+        distance(self.strides.axis(axis))
     }
 
     /// How far the lowest place of a box that is not empty lies below the first.
@@ -106,7 +106,7 @@ impl<D: Lengths> Layout<D> {
         let mut index = D::zeros(dim.ndim());
         while let Some(k) = axis_of_largest_stride(&dim, &self.strides) {
             let stride = self.strides.axis(k);
-            let m = magnitude(stride);
+            let m = distance(stride);
             let len = dim.axis(k);
             let i = rest / m;
             if i >= len {

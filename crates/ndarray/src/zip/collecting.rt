@@ -18,7 +18,7 @@ use crate::order::Order;
 use crate::zip::closures::ItemCall;
 use crate::zip::pair::Pair;
 use crate::zip::producer::{NdProducer, preferred_order};
-use crate::zip::walk::{Turn, take_items};
+use crate::zip::walk::{Turn, walk_items};
 use std::alloc::{AllocError, Global};
 use std::marker::Model;
 
@@ -51,7 +51,7 @@ pub(crate) fn try_collect_items<
     ensures empty { size (P.lengths p) ≡ 0 → IsOk result }
 {
     let builder = ArrayBuilder::with_capacity(alloc, p.raw_dim(), order)?;
-    match take_items(p, order, Collecting { builder, f }) {
+    match walk_items(p, order, Collecting { builder, f }) {
         Ok(collected) => Ok(collected.builder.finish()),
         Err(refused) => Err(refused),
     }
@@ -136,14 +136,14 @@ impl<X, R: Drop, D: Lengths, C: ItemCall<X, Out = Result<R, AllocError>>> Turn<X
     for Collecting<R, D, C> {
     type Stop = AllocError;
 
-    ghost can_take = { λ s x. C.can_call s.f x × (length s.builder.cells < size s.builder.lengths) };
+    ghost can_accept = { λ s x. C.can_call s.f x × (length s.builder.cells < size s.builder.lengths) };
 
     ghost goes = { λ s x t. (r : R) × (answers C.call_gives s.f x r t.f × (t.builder ≡ pushed_to s.builder r)) };
 
     ghost stops = { λ s x e. (h : C) × C.call_gives s.f x (Err e) h };
 
     #[inline(always)]
-    fn take(self, item: X) -> Result<Collecting<R, D, C>, AllocError> {
+    fn accept(self, item: X) -> Result<Collecting<R, D, C>, AllocError> {
         let Collecting { mut builder, mut f } = self;
         match f.call(item) {
             Ok(answer) => {

@@ -9,7 +9,7 @@ use crate::order::Order;
 use crate::zip::closures::{FoldCall, ItemCall};
 use crate::zip::fold_while::FoldWhile;
 use crate::zip::producer::NdProducer;
-use crate::zip::walk::{Turn, take_items};
+use crate::zip::walk::{Turn, walk_items};
 use std::convert::Infallible;
 use std::marker::Model;
 
@@ -28,14 +28,14 @@ impl<C, B> Model for Folding<C, B> {
 impl<X, B, C: FoldCall<B, X, Out = B>> Turn<X> for Folding<C, B> {
     type Stop = Infallible;
 
-    ghost can_take = { λ s x. C.can_call s.0 s.1 x };
+    ghost can_accept = { λ s x. C.can_call s.0 s.1 x };
 
     ghost goes = { FoldTurn C.call_gives };
 
     ghost stops = { λ _ _ _. ⊥ };
 
     #[inline(always)]
-    fn take(self, item: X) -> Result<Folding<C, B>, Infallible> {
+    fn accept(self, item: X) -> Result<Folding<C, B>, Infallible> {
         let Folding { mut f, total } = self;
         let total = f.call(total, item);
         Ok(Folding { f, total })
@@ -52,7 +52,7 @@ pub(crate) fn fold_items<P: NdProducer, B, C: FoldCall<B, P::Item, Out = B>>(
     requires callable { MayFold (P.yields_at p) C.call_gives C.can_call (box_in order (P.lengths p)) f init }
     ensures ran { Folds (P.yields_at p) C.call_gives (box_in order (P.lengths p)) f init result }
 {
-    match take_items(p, order, Folding { f, total: init }) {
+    match walk_items(p, order, Folding { f, total: init }) {
         Ok(Folding { f: _f, total }) => total,
         Err(_) => unreachable!(),
     }
@@ -71,14 +71,14 @@ impl<C> Model for Visiting<C> {
 impl<X, C: ItemCall<X, Out = ()>> Turn<X> for Visiting<C> {
     type Stop = Infallible;
 
-    ghost can_take = { C.can_call };
+    ghost can_accept = { C.can_call };
 
     ghost goes = { AnswerTurn C.call_gives tt };
 
     ghost stops = { λ _ _ _. ⊥ };
 
     #[inline(always)]
-    fn take(self, item: X) -> Result<Visiting<C>, Infallible> {
+    fn accept(self, item: X) -> Result<Visiting<C>, Infallible> {
         let Visiting(mut f) = self;
         f.call(item);
         Ok(Visiting(f))
@@ -90,7 +90,7 @@ pub(crate) fn visit_items<P: NdProducer, C: ItemCall<P::Item, Out = ()>>(p: P, o
     requires callable { MayVisit (P.yields_at p) C.call_gives C.can_call (box_in order (P.lengths p)) f }
     ensures ran { Visits (P.yields_at p) C.call_gives (box_in order (P.lengths p)) f }
 {
-    match take_items(p, order, Visiting(f)) {
+    match walk_items(p, order, Visiting(f)) {
         Ok(_) => {}
         Err(_) => unreachable!(),
     }
@@ -109,14 +109,14 @@ impl<C> Model for WhileTrue<C> {
 impl<X, C: ItemCall<X, Out = bool>> Turn<X> for WhileTrue<C> {
     type Stop = ();
 
-    ghost can_take = { C.can_call };
+    ghost can_accept = { C.can_call };
 
     ghost goes = { AnswerTurn C.call_gives true };
 
     ghost stops = { λ f x _. (h : C) × C.call_gives f x false h };
 
     #[inline(always)]
-    fn take(self, item: X) -> Result<WhileTrue<C>, ()> {
+    fn accept(self, item: X) -> Result<WhileTrue<C>, ()> {
         let WhileTrue(mut f) = self;
         if f.call(item) {
             Ok(WhileTrue(f))
@@ -135,7 +135,7 @@ pub(crate) fn all_items<P: NdProducer, C: ItemCall<P::Item, Out = bool>>(
     requires callable { MayTest (P.yields_at p) C.call_gives C.can_call (box_in order (P.lengths p)) f true }
     ensures ran { TestsUntil (P.yields_at p) C.call_gives (box_in order (P.lengths p)) f true false result }
 {
-    take_items(p, order, WhileTrue(f)).is_ok()
+    walk_items(p, order, WhileTrue(f)).is_ok()
 }
 
 /// A closure that has returned `false` at each item.
@@ -151,14 +151,14 @@ impl<C> Model for WhileFalse<C> {
 impl<X, C: ItemCall<X, Out = bool>> Turn<X> for WhileFalse<C> {
     type Stop = ();
 
-    ghost can_take = { C.can_call };
+    ghost can_accept = { C.can_call };
 
     ghost goes = { AnswerTurn C.call_gives false };
 
     ghost stops = { λ f x _. (h : C) × C.call_gives f x true h };
 
     #[inline(always)]
-    fn take(self, item: X) -> Result<WhileFalse<C>, ()> {
+    fn accept(self, item: X) -> Result<WhileFalse<C>, ()> {
         let WhileFalse(mut f) = self;
         if f.call(item) {
             Err(())
@@ -177,7 +177,7 @@ pub(crate) fn any_items<P: NdProducer, C: ItemCall<P::Item, Out = bool>>(
     requires callable { MayTest (P.yields_at p) C.call_gives C.can_call (box_in order (P.lengths p)) f false }
     ensures ran { TestsUntil (P.yields_at p) C.call_gives (box_in order (P.lengths p)) f false true result }
 {
-    take_items(p, order, WhileFalse(f)).is_err()
+    walk_items(p, order, WhileFalse(f)).is_err()
 }
 
 /// A closure that has gone on at each item, and the total of its calls.
@@ -195,14 +195,14 @@ impl<C, B> Model for FoldingWhile<C, B> {
 impl<X, B, C: FoldCall<B, X, Out = FoldWhile<B>>> Turn<X> for FoldingWhile<C, B> {
     type Stop = B;
 
-    ghost can_take = { λ s x. C.can_call s.0 s.1 x };
+    ghost can_accept = { λ s x. C.can_call s.0 s.1 x };
 
     ghost goes = { GoTurn C.call_gives };
 
     ghost stops = { λ s x v. (h : C) × C.call_gives s.0 s.1 x (Done v) h };
 
     #[inline(always)]
-    fn take(self, item: X) -> Result<FoldingWhile<C, B>, B> {
+    fn accept(self, item: X) -> Result<FoldingWhile<C, B>, B> {
         let FoldingWhile { mut f, total } = self;
         match f.call(total, item) {
             FoldWhile::Continue(total) => Ok(FoldingWhile { f, total }),
@@ -221,7 +221,7 @@ pub(crate) fn fold_items_while<P: NdProducer, B, C: FoldCall<B, P::Item, Out = F
     requires callable { MayFoldWhile (P.yields_at p) C.call_gives C.can_call (box_in order (P.lengths p)) f init }
     ensures ran { FoldsWhile (P.yields_at p) C.call_gives (box_in order (P.lengths p)) f init result }
 {
-    match take_items(p, order, FoldingWhile { f, total: init }) {
+    match walk_items(p, order, FoldingWhile { f, total: init }) {
         Ok(folded) => {
             let FoldingWhile { f: _f, total } = folded;
             FoldWhile::Continue(total)

@@ -19,7 +19,7 @@ use crate::zip::assigning::assigning_order;
 use crate::zip::layout_places::LayoutPlaces;
 use crate::zip::pair::Pair;
 use crate::zip::producer::NdProducer;
-use crate::zip::walk::{Turn, take_items};
+use crate::zip::walk::{Turn, walk_items};
 use core::mem::replace_with;
 use std::alloc::AllocError;
 use std::marker::Model;
@@ -99,7 +99,7 @@ fn update_elements<
     ensures { WritesUntil S.at C.call_gives (P.yields_at updates.items) (box_in updates.order (P.lengths updates.items)) updates.f storage result.0 result.1 }
 {
     let Updates { items, order, f } = updates;
-    match take_items(items, order, Overwriting { storage, f }) {
+    match walk_items(items, order, Overwriting { storage, f }) {
         Ok(overwritten) => {
             let Overwriting { storage, f: _f } = overwritten;
             (storage, Ok(()))
@@ -135,14 +135,14 @@ impl<S, C> Model for Overwriting<S, C> {
 impl<X, A: Drop, S: DataMut<Elem = A>, C: CellCall<A, X>> Turn<(X, usize)> for Overwriting<S, C> {
     type Stop = (S, AllocError);
 
-    ghost can_take = { MayWrite S.at C.can_call };
+    ghost can_accept = { MayWrite S.at C.can_call };
 
     ghost goes = { WriteTurn S.at C.call_gives };
 
     ghost stops = { WriteStop S.at C.call_gives };
 
     #[inline(always)]
-    fn take(self, item: (X, usize)) -> Result<Overwriting<S, C>, (S, AllocError)> {
+    fn accept(self, item: (X, usize)) -> Result<Overwriting<S, C>, (S, AllocError)> {
         let Overwriting { mut storage, mut f } = self;
         let (x, place) = item;
         match f.call(storage.element(place), x) {

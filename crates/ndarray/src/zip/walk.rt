@@ -11,13 +11,13 @@ use crate::order::Order;
 use crate::zip::producer::NdProducer;
 use std::iter::once;
 
-/// What takes items one after another, up to one at which it stops.
+/// What accepts items one after another, up to one at which it stops.
 pub(crate) trait Turn<X>: Sized {
     /// What it stops with.
     type Stop;
 
-    // Whether it may take an item.
-    ghost can_take: { Self → X → Type 0 };
+    // Whether it may accept an item.
+    ghost can_accept: { Self → X → Type 0 };
 
     // Whether it may go on from an item as this.
     ghost goes: { Self → X → Self → Type 0 };
@@ -25,19 +25,19 @@ pub(crate) trait Turn<X>: Sized {
     // Whether it may stop at an item with this.
     ghost stops: { Self → X → Self.Stop → Type 0 };
 
-    /// Takes an item.
-    fn take(self, item: X) -> Result<Self, Self::Stop>
-        requires { can_take self item }
+    /// Accepts an item.
+    fn accept(self, item: X) -> Result<Self, Self::Stop>
+        requires { can_accept self item }
         ensures { MatchResult result (goes self item) (stops self item) };
 }
 
-/// Has all items of a producer taken in an order, one after another.
-pub(crate) fn take_items<P: NdProducer, T: Turn<P::Item>>(
+/// Has all items of a producer accepted in an order, one after another.
+pub(crate) fn walk_items<P: NdProducer, T: Turn<P::Item>>(
     p: P,
     order: Order,
     turn: T,
 ) -> Result<T, T::Stop>
-    requires can { MayTurnAt (TurnAt (P.yields_at p) T.goes) (TakesAt (P.yields_at p) T.can_take) turn (box_in order (P.lengths p)) }
+    requires can { MayTurnAt (TurnAt (P.yields_at p) T.goes) (TakesAt (P.yields_at p) T.can_accept) turn (box_in order (P.lengths p)) }
     ensures ran { EndsOrStops (TurnAt (P.yields_at p) T.goes) (StopsAt (P.yields_at p) T.stops) turn (box_in order (P.lengths p)) result }
 {
     let ordered = p.in_order(order);
@@ -45,31 +45,31 @@ pub(crate) fn take_items<P: NdProducer, T: Turn<P::Item>>(
         let Some(row) = P::one_row(ordered) else {
             unreachable!()
         };
-        take_rows::<P, _, _>(once(row), turn)
+        walk_rows::<P, _, _>(once(row), turn)
     } else {
-        take_rows::<P, _, _>(P::rows(ordered), turn)
+        walk_rows::<P, _, _>(P::rows(ordered), turn)
     }
 }
 
-/// Has the items of rows taken, one row after another.
-fn take_rows<P: NdProducer, R: Iterator<Item = P::Row>, T: Turn<P::Item>>(
+/// Has the items of rows accepted, one row after another.
+fn walk_rows<P: NdProducer, R: Iterator<Item = P::Row>, T: Turn<P::Item>>(
     mut rows: R,
     turn: T,
 ) -> Result<T, T::Stop>
     requires can_next { R.can_next rows }
     requires finite { IsFinite (R.remaining rows) }
-    requires can { (p : P) × ((iss : List (List (List ℕ))) × (RowsInTurn R.next_gives (P.row_form p) rows iss × MayTurnAt (TurnAt (P.yields_at p) T.goes) (TakesAt (P.yields_at p) T.can_take) turn (joined iss))) }
+    requires can { (p : P) × ((iss : List (List (List ℕ))) × (RowsInTurn R.next_gives (P.row_form p) rows iss × MayTurnAt (TurnAt (P.yields_at p) T.goes) (TakesAt (P.yields_at p) T.can_accept) turn (joined iss))) }
     ensures ran { (p : P) (iss : List (List (List ℕ))) → RowsInTurn R.next_gives (P.row_form p) rows iss → EndsOrStops (TurnAt (P.yields_at p) T.goes) (StopsAt (P.yields_at p) T.stops) turn (joined iss) result }
 {
     let mut turn = turn;
     while let Some(row) = rows.next() {
         if P::is_flat_row(&row) {
-            match take_run::<P, _, _>(P::flat_row(row), turn) {
+            match walk_run::<P, _, _>(P::flat_row(row), turn) {
                 Ok(next) => turn = next,
                 Err(stop) => return Err(stop),
             }
         } else {
-            match take_run::<P, _, _>(P::run_row(row), turn) {
+            match walk_run::<P, _, _>(P::run_row(row), turn) {
                 Ok(next) => turn = next,
                 Err(stop) => return Err(stop),
             }
@@ -78,19 +78,19 @@ fn take_rows<P: NdProducer, R: Iterator<Item = P::Row>, T: Turn<P::Item>>(
     Ok(turn)
 }
 
-/// Has the items of a run taken, one after another. It tests one end.
-fn take_run<P: NdProducer, R: Iterator<Item = P::Item>, T: Turn<P::Item>>(
+/// Has the items of a run accepted, one after another. It tests one end.
+fn walk_run<P: NdProducer, R: Iterator<Item = P::Item>, T: Turn<P::Item>>(
     mut run: R,
     turn: T,
 ) -> Result<T, T::Stop>
     requires can_next { R.can_next run }
     requires finite { IsFinite (R.remaining run) }
-    requires can { (p : P) × ((is : List (List ℕ)) × (YieldsInTurn R.next_gives (P.yields_at p) run is × MayTurnAt (TurnAt (P.yields_at p) T.goes) (TakesAt (P.yields_at p) T.can_take) turn is)) }
+    requires can { (p : P) × ((is : List (List ℕ)) × (YieldsInTurn R.next_gives (P.yields_at p) run is × MayTurnAt (TurnAt (P.yields_at p) T.goes) (TakesAt (P.yields_at p) T.can_accept) turn is)) }
     ensures ran { (p : P) (is : List (List ℕ)) → YieldsInTurn R.next_gives (P.yields_at p) run is → EndsOrStops (TurnAt (P.yields_at p) T.goes) (StopsAt (P.yields_at p) T.stops) turn is result }
 {
     let mut turn = turn;
     while let Some(item) = run.next() {
-        match turn.take(item) {
+        match turn.accept(item) {
             Ok(next) => turn = next,
             Err(stop) => return Err(stop),
         }

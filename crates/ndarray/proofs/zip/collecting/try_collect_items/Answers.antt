@@ -6,8 +6,8 @@ use Rattle.ndarray.proofs.runs.Collecting.{gathered-run, may-collect, stopped-so
 use Rattle.ndarray.proofs.runs.Turns.{ran-Ok}
 use Rattle.ndarray.proofs.zip.collecting.try_collect_items.Goals as goal
 
-pub take_items-requires : goal.take_items-requires
-take_items-requires g c =
+pub walk_items-requires : goal.walk_items-requires
+walk_items-requires g c =
     let b = c.in_ok-builder.ensures.room in
     let f = c.args.f in
     record {

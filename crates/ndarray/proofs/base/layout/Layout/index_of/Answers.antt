@@ -3,7 +3,7 @@ use Rattle.std.proofs.lemmas.List.{length-set, get_or-replicate, length-replicat
 use Rattle.std.proofs.lemmas.List.Sums.{sum_by-set}
 use Rattle.ndarray.specs.Index.{InBox}
 use Rattle.ndarray.specs.base.Places.{place}
-use Rattle.ndarray.specs.base.Nested.{magnitude, sum_over_axes, forward_index, below_first, AreNested}
+use Rattle.ndarray.specs.base.Nested.{distance, sum_over_axes, forward_index, below_first, AreNested}
 use Rattle.ndarray.proofs.boxes.Boxes.{InBox-some}
 use Rattle.ndarray.proofs.strides.IndexOfPlace.{SearchState, nested-known, sought-first, sought-below, sought-next, sought-last}
 use Rattle.ndarray.proofs.base.layout.Layout.index_of.Goals as goal
@@ -34,12 +34,12 @@ loop-k-init g c =
     }
 
 -- the size of the stride of the axis that is told
-stride_size : (g : _) (c : After-axis-len g) → c.magnitude-m.result ≡ magnitude (get_or (g.D.Lengths.numbers c.args.self.now.strides) c.in-Some.k 0)
-stride_size g c = c.magnitude-m.ensures ∙ ap magnitude c.axis-stride.ensures
+stride_size : (g : _) (c : After-axis-len g) → c.distance-m.result ≡ distance (get_or (g.D.Lengths.numbers c.args.self.now.strides) c.in-Some.k 0)
+stride_size g c = c.distance-m.ensures ∙ ap distance c.axis-stride.ensures
 
 module _ (g : _) (c : After-axis-len g) (is : List ℕ) (b : InBox (g.D.Lengths.numbers c.args.self.now.dim) is) (at : place c.args.self.now.start (g.D.Lengths.numbers c.args.self.now.strides) is ≡ c.args.at) where
   -- where the place has an index list, its index of the axis is below the length
-  below : c.loop-k.rest / c.magnitude-m.result < c.axis-len.result
+  below : c.loop-k.rest / c.distance-m.result < c.axis-len.result
   below =
       let i = c.loop-k.invariant in
       let e = c.in-Some.ensures in
@@ -47,14 +47,14 @@ module _ (g : _) (c : After-axis-len g) (is : List ℕ) (b : InBox (g.D.Lengths.
       rw (stride_size g c, c.axis-len.ensures) s
 
   -- and with it known the others are sought
-  next : (v : ℕ) → v ≡ forward_index c.axis-len.result c.axis-stride.result (c.loop-k.rest / c.magnitude-m.result) → SearchState (g.D.Lengths.numbers c.args.self.now.dim) (g.D.Lengths.numbers c.args.self.now.strides) (set (g.D.Lengths.numbers c.loop-k.dim) c.in-Some.k 1) (c.loop-k.rest % c.magnitude-m.result) (set (g.D.Lengths.numbers c.loop-k.index) c.in-Some.k v) is
+  next : (v : ℕ) → v ≡ forward_index c.axis-len.result c.axis-stride.result (c.loop-k.rest / c.distance-m.result) → SearchState (g.D.Lengths.numbers c.args.self.now.dim) (g.D.Lengths.numbers c.args.self.now.strides) (set (g.D.Lengths.numbers c.loop-k.dim) c.in-Some.k 1) (c.loop-k.rest % c.distance-m.result) (set (g.D.Lengths.numbers c.loop-k.index) c.in-Some.k v) is
   next v ev =
       let i = c.loop-k.invariant in
       let e = c.in-Some.ensures in
       let m = stride_size g c in
       rw m (sought-next (g.D.Lengths.numbers c.args.self.now.dim) (g.D.Lengths.numbers c.args.self.now.strides) (g.D.Lengths.numbers c.loop-k.dim) (g.D.Lengths.numbers c.loop-k.index) is c.loop-k.rest c.in-Some.k i.dims i.indices c.requires.as_many (omega arith) e.1 i.nested e.2 b (i.each is b at) v
-      (ev ∙ (ap (λ n. forward_index n c.axis-stride.result (c.loop-k.rest / c.magnitude-m.result)) c.axis-len.ensures
-      ∙ (ap (λ n. forward_index (get_or (g.D.Lengths.numbers c.loop-k.dim) c.in-Some.k 0) n (c.loop-k.rest / c.magnitude-m.result)) c.axis-stride.ensures
+      (ev ∙ (ap (λ n. forward_index n c.axis-stride.result (c.loop-k.rest / c.distance-m.result)) c.axis-len.ensures
+      ∙ (ap (λ n. forward_index (get_or (g.D.Lengths.numbers c.loop-k.dim) c.in-Some.k 0) n (c.loop-k.rest / c.distance-m.result)) c.axis-stride.ensures
       ∙ ap (λ n. forward_index (get_or (g.D.Lengths.numbers c.loop-k.dim) c.in-Some.k 0) (get_or (g.D.Lengths.numbers c.args.self.now.strides) c.in-Some.k 0) (c.loop-k.rest / n)) m))))
 
 pub returns-then-i-len : goal.returns-then-i-len
@@ -72,8 +72,8 @@ loop-k-preserved g c =
       indices = x ∙ i.indices;
       nested = subst (λ ms. AreNested ms (g.D.Lengths.numbers c.args.self.now.strides)) (sym c.set_axis-in-Some.ensures) (nested-known (g.D.Lengths.numbers c.loop-k.dim) (g.D.Lengths.numbers c.args.self.now.strides) c.in-Some.k (let y = i.dims in omega (arith, as_many, y)) e.0 e.1 i.nested);
       each = λ is b at.
-          subst (λ ms. SearchState (g.D.Lengths.numbers c.args.self.now.dim) (g.D.Lengths.numbers c.args.self.now.strides) ms (c.loop-k.rest % c.magnitude-m.result) (g.D.Lengths.numbers c.set_axis.new.self) is) (sym c.set_axis-in-Some.ensures)
-          (subst (λ xs. SearchState (g.D.Lengths.numbers c.args.self.now.dim) (g.D.Lengths.numbers c.args.self.now.strides) (set (g.D.Lengths.numbers c.loop-k.dim) c.in-Some.k 1) (c.loop-k.rest % c.magnitude-m.result) xs is) (sym c.set_axis.ensures)
+          subst (λ ms. SearchState (g.D.Lengths.numbers c.args.self.now.dim) (g.D.Lengths.numbers c.args.self.now.strides) ms (c.loop-k.rest % c.distance-m.result) (g.D.Lengths.numbers c.set_axis.new.self) is) (sym c.set_axis-in-Some.ensures)
+          (subst (λ xs. SearchState (g.D.Lengths.numbers c.args.self.now.dim) (g.D.Lengths.numbers c.args.self.now.strides) (set (g.D.Lengths.numbers c.loop-k.dim) c.in-Some.k 1) (c.loop-k.rest % c.distance-m.result) xs is) (sym c.set_axis.ensures)
           (next g (goal.at.loop-k-preserved g c).After-axis-len is b at c.forward_index.result c.forward_index.ensures));
     }
 

@@ -5,7 +5,7 @@ use Rattle.std.specs.Int.{cast_unsigned}
 use Rattle.std.proofs.Math.Nat.{mul-le-mul_right}
 use Rattle.std.proofs.lemmas.Bool.{cases_lt}
 use Rattle.std.proofs.lemmas.Bool.Decides.{nat_tests}
-use Rattle.ndarray.specs.base.Nested.{magnitude, reach, reach_within}
+use Rattle.ndarray.specs.base.Nested.{distance, reach, reach_within}
 
 -- ---- strides without their signs
 
@@ -14,8 +14,8 @@ abbrev pub GoesFar : ℕ → ℕ → Type 0
 GoesFar b x = (q : ℕ) × ((b ≡ x + 2 ^ 64 * q) ⊎ (b + x ≡ 2 ^ 64 * q))
 
 -- each stride goes as far as its size
-pub magnitude-goes : (b : ℕ) → GoesFar b (magnitude b)
-magnitude-goes b =
+pub distance-goes : (b : ℕ) → GoesFar b (distance b)
+distance-goes b =
     let q : ℕ = b / 2 ^ 64 in
     elim (cases_lt (b % 2 ^ 64) (2 ^ 63)) [
       | inl up ↦ (q, inl (omega arith))
@@ -23,9 +23,9 @@ magnitude-goes b =
     ]
 
 -- what goes x far has the size x
-magnitude-is : (b x : ℕ) → x < 2 ^ 63 → GoesFar b x → magnitude (b % 2 ^ 64) ≡ x
-magnitude-is b x fits (q, inl e) = omega arith
-magnitude-is b x fits (q, inr e) = omega arith
+distance-is : (b x : ℕ) → x < 2 ^ 63 → GoesFar b x → distance (b % 2 ^ 64) ≡ x
+distance-is b x fits (q, inl e) = omega arith
+distance-is b x fits (q, inr e) = omega arith
 
 -- a product goes as far as the product of both
 goes-times : (b s m t : ℕ) → m * t < 2 ^ 63 → GoesFar b m → GoesFar s t → GoesFar (b * s) (m * t)
@@ -46,27 +46,27 @@ goes-times b s m t fits (q, inr e) (r, inr g) =
     (b * r - q * t, inl (omega arith))
 
 -- the size of a stride times a step, where that is not too far
-pub magnitude-times : (b s : ℕ) → magnitude b * magnitude s < 2 ^ 63 → magnitude ((b * s) % 2 ^ 64) ≡ magnitude b * magnitude s
-magnitude-times b s fits = magnitude-is (b * s) (magnitude b * magnitude s) fits (goes-times b s (magnitude b) (magnitude s) fits (magnitude-goes b) (magnitude-goes s))
+pub distance-times : (b s : ℕ) → distance b * distance s < 2 ^ 63 → distance ((b * s) % 2 ^ 64) ≡ distance b * distance s
+distance-times b s fits = distance-is (b * s) (distance b * distance s) fits (goes-times b s (distance b) (distance s) fits (distance-goes b) (distance-goes s))
 
 -- a stride that goes up
-pub magnitude-small : (b : ℕ) → b < 2 ^ 63 → magnitude b ≡ b
-magnitude-small b fits = omega arith
+pub distance-small : (b : ℕ) → b < 2 ^ 63 → distance b ≡ b
+distance-small b fits = omega arith
 
 -- the size of the bits of a signed number is its absolute value
-pub magnitude-signed : (z : ℤ) → FitsSigned w64 z → magnitude (cast_unsigned w64 z) ≡ unsigned_abs z
-magnitude-signed (pos n) word = let f = word.sfits in omega arith
-magnitude-signed (negsuc n) word = let f = word.sfits in omega arith
+pub distance-signed : (z : ℤ) → FitsSigned w64 z → distance (cast_unsigned w64 z) ≡ unsigned_abs z
+distance-signed (pos n) word = let f = word.sfits in omega arith
+distance-signed (negsuc n) word = let f = word.sfits in omega arith
 
 -- ---- how far axes reach
 
 -- an axis of length 1 at most
 pub reach-short : (n b : ℕ) → n ≤ 1 → reach n b ≡ 0
-reach-short n b h = ap (λ x. x * magnitude b) (let e : n - 1 ≡ 0 = omega arith in e) ∙ omega arith
+reach-short n b h = ap (λ x. x * distance b) (let e : n - 1 ≡ 0 = omega arith in e) ∙ omega arith
 
 -- a longer axis reaches one stride at least
-pub reach-long : (n b : ℕ) → 1 < n → magnitude b ≤ reach n b
-reach-long n b h = let m : 1 * magnitude b ≤ (n - 1) * magnitude b = mul-le-mul_right (magnitude b) (omega arith) in omega arith
+pub reach-long : (n b : ℕ) → 1 < n → distance b ≤ reach n b
+reach-long n b h = let m : 1 * distance b ≤ (n - 1) * distance b = mul-le-mul_right (distance b) (omega arith) in omega arith
 
 cond-near : (m x r : ℕ) → x ≤ m → cond (nat_lt m x) 0 r ≡ r
 cond-near m x r h = grind (arith, nat_tests)
@@ -75,17 +75,17 @@ cond-far : (m x r : ℕ) → m < x → cond (nat_lt m x) 0 r ≡ 0
 cond-far m x r h = grind (arith, nat_tests)
 
 -- an axis counts where its stride is of size m at most
-pub within-near : (m n b : ℕ) → magnitude b ≤ m → reach_within m n b ≡ reach n b
-within-near m n b h = cond-near m (magnitude b) (reach n b) h
+pub within-near : (m n b : ℕ) → distance b ≤ m → reach_within m n b ≡ reach n b
+within-near m n b h = cond-near m (distance b) (reach n b) h
 
 -- and does not where it is larger
-pub within-far : (m n b : ℕ) → m < magnitude b → reach_within m n b ≡ 0
-within-far m n b h = cond-far m (magnitude b) (reach n b) h
+pub within-far : (m n b : ℕ) → m < distance b → reach_within m n b ≡ 0
+within-far m n b h = cond-far m (distance b) (reach n b) h
 
 -- it never counts more than its reach
 pub within-le : (m n b : ℕ) → reach_within m n b ≤ reach n b
 within-le m n b =
-    elim (cases_lt m (magnitude b)) [
+    elim (cases_lt m (distance b)) [
       | inl far ↦ (let e = within-far m n b far in omega (arith, e))
       | inr near ↦ (let e = within-near m n b near in omega (arith, e))
     ]

@@ -1,7 +1,7 @@
 use Rattle.std.proofs.Common.{List, ℕ}
 use Rattle.ndarray.specs.Rows.{RowsInTurn, joined}
 use Rattle.ndarray.proofs.runs.Rows.{RowsReached}
-use Rattle.ndarray.proofs.zip.walk.take_rows.Given as goal
+use Rattle.ndarray.proofs.zip.walk.walk_rows.Given as goal
 
 abbrev pub invariant-loop-row : goal.invariant-loop-row
 invariant-loop-row g l =

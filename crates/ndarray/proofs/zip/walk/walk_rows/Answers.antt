@@ -1,7 +1,7 @@
 use Rattle.std.proofs.Common.{refl, rules}
 use Rattle.ndarray.proofs.runs.Turns.{ran-Ok}
 use Rattle.ndarray.proofs.runs.Rows.{rows-start, may-row, next-row, row-stopped, rows-ended}
-use Rattle.ndarray.proofs.zip.walk.take_rows.Goals as goal
+use Rattle.ndarray.proofs.zip.walk.walk_rows.Goals as goal
 
 pub loop-row-init : goal.loop-row-init
 loop-row-init g c = (c.requires.can_next, c.requires.finite, λ p iss gives. rows-start _ _ _ _ _ refl gives)
@@ -15,8 +15,8 @@ flat_row-requires-clause-form g c =
     let r = may-row _ _ _ _ w.1.1.1 (c.loop-row.invariant.2 w.0 w.1.0 w.1.1.0) c.in-Some.ensures.steps in
     (w.0, (r.0, r.1.0))
 
-pub take_run-requires-clause-can : goal.take_run-requires-clause-can
-take_run-requires-clause-can g c =
+pub walk_run-requires-clause-can : goal.walk_run-requires-clause-can
+walk_run-requires-clause-can g c =
     let w = c.requires.can in
     let r = may-row _ _ _ _ w.1.1.1 (c.loop-row.invariant.2 w.0 w.1.0 w.1.1.0) c.in-Some.ensures.steps in
     (w.0, (r.0, (c.flat_row.ensures.gives w.0 r.0 r.1.0, r.1.1)))
@@ -39,8 +39,8 @@ run_row-requires g c =
     let r = may-row _ _ _ _ w.1.1.1 (c.loop-row.invariant.2 w.0 w.1.0 w.1.1.0) c.in-Some.ensures.steps in
     (w.0, (r.0, r.1.0))
 
-pub take_run-requires-else-is_flat_row-clause-can : goal.take_run-requires-else-is_flat_row-clause-can
-take_run-requires-else-is_flat_row-clause-can g c =
+pub walk_run-requires-else-is_flat_row-clause-can : goal.walk_run-requires-else-is_flat_row-clause-can
+walk_run-requires-else-is_flat_row-clause-can g c =
     let w = c.requires.can in
     let r = may-row _ _ _ _ w.1.1.1 (c.loop-row.invariant.2 w.0 w.1.0 w.1.1.0) c.in-Some.ensures.steps in
     (w.0, (r.0, (c.run_row.ensures.gives w.0 r.0 r.1.0, r.1.1)))
@@ -49,10 +49,10 @@ pub loop-row-preserved : goal.loop-row-preserved
 loop-row-preserved g c = (
   search rules,
   search rules,
-  λ p iss gives. next-row _ _ _ _ (c.loop-row.invariant.2 p iss gives) c.in-Some.ensures.steps (λ is form. ran-Ok _ _ _ _ _ (c.in-Ok-take_run.ensures.ran p is (c.run_row.ensures.gives p is form))),
+  λ p iss gives. next-row _ _ _ _ (c.loop-row.invariant.2 p iss gives) c.in-Some.ensures.steps (λ is form. ran-Ok _ _ _ _ _ (c.in-Ok-walk_run.ensures.ran p is (c.run_row.ensures.gives p is form))),
 )
 
-pub returns-in-Err-take_run : goal.returns-in-Err-take_run
-returns-in-Err-take_run g c = record {
-  ran = λ p iss gives. row-stopped _ _ _ _ _ c.in-Err-take_run.stop (c.loop-row.invariant.2 p iss gives) c.in-Some.ensures.steps (λ is form. c.in-Err-take_run.ensures.ran p is (c.run_row.ensures.gives p is form));
+pub returns-in-Err-walk_run : goal.returns-in-Err-walk_run
+returns-in-Err-walk_run g c = record {
+  ran = λ p iss gives. row-stopped _ _ _ _ _ c.in-Err-walk_run.stop (c.loop-row.invariant.2 p iss gives) c.in-Some.ensures.steps (λ is form. c.in-Err-walk_run.ensures.ran p is (c.run_row.ensures.gives p is form));
 }
