@@ -16,6 +16,7 @@ pub mod LaneCells
 pub mod LanePairs
 pub mod LaneSums
 pub mod LaneTests
+pub mod LaneTotals
 pub mod Matrices
 pub mod Products
 pub mod RunningProducts

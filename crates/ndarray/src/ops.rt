@@ -9,7 +9,7 @@ ghost use Rattle.std.specs.Prelude.{◌≡◌, ◌↔◌, IsTrue, MatchOption};
 ghost use Rattle.ndarray.specs.Broadcast.{BroadcastTogether, broadcast_lengths};
 
 mod add;
-mod assign_operators;
+pub(crate) mod assign_operators;
 mod bitand;
 mod bitor;
 mod bitxor;
@@ -18,7 +18,7 @@ mod computing;
 mod div;
 mod left_scalars;
 mod mul;
-mod operations;
+pub(crate) mod operations;
 mod range_tests;
 mod rem;
 mod shl;

@@ -162,6 +162,19 @@ impl<S: Data, D: RemoveAxis> ArrayBase<S, D> {
         ensures axes { D.Smaller.has_axes (length result.lengths) }
         ensures whole { IsGrid result }
     {
+        self.into_item(axis, index)
+    }
+}
+
+impl<S: Data, D: Dimension> ArrayBase<S, D> {
+    /// Item `index` along an axis, also of an array whose type of dimension may have no axes.
+    pub(crate) fn into_item(self, axis: Axis, index: usize) -> ArrayBase<S, D::Smaller>
+        requires axis { axis.0 < length self.lengths }
+        requires within { index < slice_index self.lengths axis.0 }
+        ensures value { result ≡ axis_item self axis.0 index }
+        ensures axes { D.Smaller.has_axes (length result.lengths) }
+        ensures whole { IsGrid result }
+    {
         let _axes = self.ndim();
         let ArrayBase { storage, layout } = self;
         ArrayBase {

@@ -11,7 +11,7 @@ ghost use Rattle.ndarray.specs.base.Strided.{LieSideBySide};
 ghost use Rattle.ndarray.specs.declared.base.shape.Order.TheVariants.{RowMajor};
 
 use crate::base::axis::Axis;
-use crate::base::dimension::{Dimension, Lengths, RemoveAxis};
+use crate::base::dimension::{Dimension, Lengths};
 use crate::base::shape::{Order, axis_at};
 
 /// The lengths of an array, the place of its first index list, and how far the next place lies on
@@ -236,7 +236,7 @@ impl<D: Lengths> Layout<D> {
     }
 }
 
-impl<D: RemoveAxis> Layout<D> {
+impl<D: Dimension> Layout<D> {
     /// That of the item at an index of an axis.
     pub(crate) fn item(&self, axis: Axis, index: usize) -> Layout<D::Smaller>
         requires as_many { length (D.numbers self.now.strides) ≡ length (D.numbers self.now.dim) }
@@ -249,13 +249,11 @@ impl<D: RemoveAxis> Layout<D> {
             start: self
                 .start
                 .wrapping_add(index.wrapping_mul(self.strides.axis(axis.0))),
-            dim: self.dim.remove_axis(axis),
-            strides: self.strides.remove_axis(axis),
+            dim: self.dim.try_remove_axis(axis),
+            strides: self.strides.try_remove_axis(axis),
         }
     }
-}
 
-impl<D: Dimension> Layout<D> {
     /// The same with an axis of length 1 put in.
     pub(crate) fn insert_axis(self, axis: Axis) -> Layout<D::Larger>
         requires as_many { length (D.numbers self.strides) ≡ length (D.numbers self.dim) }

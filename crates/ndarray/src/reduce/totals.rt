@@ -1,9 +1,12 @@
 //! Totals of the cells of an array, and of each lane: what sums and products have in common, once.
 
-ghost use Rattle.std.specs.Prelude.{◌≡◌, ◌<◌, length, IfOk};
+ghost use Rattle.std.specs.Prelude.{◌≡◌, ◌<◌, length, IfOk, IsOk, ⊤};
 ghost use Rattle.ndarray.specs.Algebra.{CommutativeMonoid};
 ghost use Rattle.ndarray.specs.AlongAxis.{IsSummableArray, IsTotalOf};
 ghost use Rattle.ndarray.specs.Elementwise.{CanMap, MakesMapped};
+ghost use Rattle.ndarray.specs.Grid.{array_by};
+ghost use Rattle.ndarray.specs.Index.{size};
+ghost use Rattle.ndarray.specs.Limits.{IsWithinLimit};
 ghost use Rattle.ndarray.specs.Subviews.{lanes_of};
 ghost use Rattle.ndarray.specs.Sums.{IsSummableBy, total_by};
 
@@ -14,10 +17,13 @@ use crate::base::storage::Data;
 use crate::base::strided::Strided;
 use crate::elements::{ProductElem, SumElem};
 use crate::iter::runs::CellRuns;
+use crate::ops::assign_operators::assign;
+use crate::ops::operations::Operation;
 use crate::order::Order;
 use crate::unrolled::unrolled_fold;
 use crate::zip::closures::ItemCall;
 use crate::zip::collecting::collect_items;
+use crate::zip::units::Units;
 use std::alloc::{AllocError, Global};
 use std::marker::PhantomData;
 
@@ -148,8 +154,27 @@ fn total_of_run<T: TotalOperation<A>, A: Copy>(cells: Strided<'_, A>) -> A
     total
 }
 
-/// The total of each lane along an axis.
+/// The total of each lane along an axis: by lanes where their cells lie nearer to one another than those of the items along the
+/// axis, else item by item.
 pub(crate) fn totals_along<T: TotalOperation<A>, A: Copy, D: Dimension>(
+    alloc: Global,
+    array: &ArrayView<'_, A, D>,
+    axis: Axis,
+) -> Result<Array<A, D::Smaller>, AllocError>
+    requires axis { axis.0 < length array.now.lengths }
+    requires lanes { CanMap (IsSummableArray T.operation T.InRange T.meaning) (lanes_of array.now axis.0) }
+    ensures made { MakesMapped D.Smaller.has_axes (IsTotalOf T.operation T.meaning) (lanes_of array.now axis.0) result }
+    ensures axes { IfOk result (λ r. D.Smaller.has_axes (length r.lengths)) }
+{
+    if array.has_smallest_steps(axis) {
+        totals_by_lanes::<T, A, D>(alloc, array, axis)
+    } else {
+        totals_by_items::<T, A, D>(alloc, array, axis)
+    }
+}
+
+/// The same lane by lane.
+fn totals_by_lanes<T: TotalOperation<A>, A: Copy, D: Dimension>(
     alloc: Global,
     array: &ArrayView<'_, A, D>,
     axis: Axis,
@@ -176,5 +201,70 @@ impl<'a, A: Copy, T: TotalOperation<A>> ItemCall<ArrayView<'a, A, Ix1>> for Lane
 
     fn call(&mut self, lane: ArrayView<'a, A, Ix1>) -> A {
         total::<T, A, Ix1>(&lane)
+    }
+}
+
+/// The same item by item: each item along the axis in turn is joined to the totals so far.
+fn totals_by_items<T: TotalOperation<A>, A: Copy, D: Dimension>(
+    alloc: Global,
+    array: &ArrayView<'_, A, D>,
+    axis: Axis,
+) -> Result<Array<A, D::Smaller>, AllocError>
+    requires axis { axis.0 < length array.now.lengths }
+    requires lanes { CanMap (IsSummableArray T.operation T.InRange T.meaning) (lanes_of array.now axis.0) }
+    ensures made { MakesMapped D.Smaller.has_axes (IsTotalOf T.operation T.meaning) (lanes_of array.now axis.0) result }
+    ensures axes { IfOk result (λ r. D.Smaller.has_axes (length r.lengths)) }
+{
+    let dim = array.raw_dim().try_remove_axis(axis);
+    let mut totals = filled(alloc, dim, T::of_none())?;
+    if totals.len() == 0 {
+        // The axis may be long where there is nothing to join.
+        return Ok(totals);
+    }
+    for k in 0..array.len_of(axis) {
+        let item = array.view().into_item(axis, k);
+        assign::<TotalOfTwo<T>, A, A, _, _, D::Smaller, D::Smaller>(&mut totals, &item);
+    }
+    Ok(totals)
+}
+
+/// An array that has one element in all cells.
+fn filled<A: Copy, D: Lengths>(alloc: Global, dim: D, element: A) -> Result<Array<A, D>, AllocError>
+    requires { IsWithinLimit (D.numbers dim) }
+    ensures cells { IfOk result (λ r. r ≡ array_by (D.numbers dim) (λ _. element)) }
+    ensures axes { IfOk result (λ r. D.has_axes (length r.lengths)) }
+    ensures empty { size (D.numbers dim) ≡ 0 → IsOk result }
+{
+    collect_items(alloc, Units::of(dim), Order::RowMajor, Same(element))
+}
+
+/// One element wherever it is called.
+#[derive(Drop)]
+struct Same<A>(A);
+
+impl<A: Copy> ItemCall<()> for Same<A> {
+    type Out = A;
+
+    ghost can_call = { λ _ _. ⊤ };
+
+    ghost call_gives = { λ c _ r d. (d ≡ c) × (r ≡ c.0) };
+
+    fn call(&mut self, _item: ()) -> A {
+        self.0
+    }
+}
+
+/// The total of two elements, as an operation.
+struct TotalOfTwo<T>(PhantomData<T>);
+
+impl<A: Copy, T: TotalOperation<A>> Operation<A, A> for TotalOfTwo<T> {
+    type Output = A;
+
+    ghost can_apply = { λ x y. T.InRange (T.operation.op (T.meaning x) (T.meaning y)) };
+
+    ghost apply_gives = { λ x y z. T.meaning z ≡ T.operation.op (T.meaning x) (T.meaning y) };
+
+    fn apply(a: A, b: A) -> A {
+        T::of_two(a, b)
     }
 }

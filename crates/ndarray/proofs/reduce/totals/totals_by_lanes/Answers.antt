@@ -6,7 +6,7 @@ use Rattle.ndarray.specs.Subviews.{lanes_of}
 use Rattle.ndarray.specs.declared.base.shape.Order.TheVariants.{RowMajor}
 use Rattle.ndarray.proofs.callers.Collecting.{if_ok-both}
 use Rattle.ndarray.proofs.cells.Elementwise.{maps-of}
-use Rattle.ndarray.proofs.reduce.totals.totals_along.Goals as goal
+use Rattle.ndarray.proofs.reduce.totals.totals_by_lanes.Goals as goal
 
 pub returns-clause-made : goal.returns-clause-made
 returns-clause-made g c =

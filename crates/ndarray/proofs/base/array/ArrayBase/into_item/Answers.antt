@@ -5,7 +5,7 @@ use Rattle.ndarray.specs.base.Places.{Rearranges}
 use Rattle.ndarray.proofs.strides.Reach.{length-cells_at}
 use Rattle.ndarray.proofs.views.Images.{Reaches-rearranged, grid-seen}
 use Rattle.ndarray.proofs.views.Items.{rearranges-item}
-use Rattle.ndarray.proofs.base.array.ArrayBase.index_axis_move.Goals as goal
+use Rattle.ndarray.proofs.base.array.ArrayBase.into_item.Goals as goal
 
 item : (g : _) (c : goal.After-drop-layout-2 g) → Rearranges (g.S.Data.apart c.self.inside.storage) (g.D.Lengths.numbers c.self.inside.layout.dim) c.self.inside.layout.start (g.D.Lengths.numbers c.self.inside.layout.strides) (g.D.Smaller.Lengths.numbers c.item.result.dim) c.item.result.start (g.D.Smaller.Lengths.numbers c.item.result.strides) (λ js. insert js c.args.axis.0 c.args.index)
 item g c =
