@@ -1,6 +1,7 @@
 -- Arrays and their cells.
 pub mod AlongAxis
 pub mod Assignments
+pub mod BlockRows
 pub mod CellRows
 pub mod Cells
 pub mod CellsInOrder

@@ -8,5 +8,6 @@ pub mod Pairs
 pub mod Permutations
 pub mod Prefixes
 pub mod Pushes
+pub mod Ranges
 pub mod Refits
 pub mod TestedElements

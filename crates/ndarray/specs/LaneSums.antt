@@ -1,9 +1,9 @@
 -- Inner sums of the lanes of two arrays, as they are pushed one after another.
-use Rattle.std.specs.Prelude.{◌≡◌, List, ◌++◌, length, map}
+use Rattle.std.specs.Prelude.{◌≡◌, List, length, map}
 use Rattle.ndarray.specs.Grid.{Grid}
 use Rattle.ndarray.specs.Products.{products_of}
 use Rattle.ndarray.specs.Sums.{IsSummable, total}
-use Rattle.ndarray.specs.base.Builder.{BuilderState}
+use Rattle.ndarray.specs.base.Builder.{BuilderState, PushesValues}
 use Rattle.ndarray.specs.declared.elements.Valued.{Ghosts as ValuedGhosts}
 
 module _ {A : Type 0} (e : ValuedGhosts A) where
@@ -16,7 +16,5 @@ module _ {A : Type 0} (e : ValuedGhosts A) where
   lane_sum x y = total e.addition (products_of e.multiplication e.meaning x.cells y.cells)
 
   -- elements that have the sums of a row and each of some columns as their values were pushed
-  pub record PushesSums (row : Grid A) (columns : List (Grid A)) (old new : BuilderState A) : Type 0 where
-    pub lengths : new.lengths ≡ old.lengths
-    pub order : new.order ≡ old.order
-    pub values : map e.meaning new.cells ≡ map e.meaning old.cells ++ map (lane_sum row) columns
+  abbrev pub PushesSums : Grid A → List (Grid A) → BuilderState A → BuilderState A → Type 0
+  PushesSums row columns = PushesValues e.meaning (map (lane_sum row) columns)

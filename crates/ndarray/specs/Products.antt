@@ -161,14 +161,6 @@ module _ {A : Type 0} (e : ValuedGhosts A) where
   abbrev pub HasProductsInRange : Matrix e.Carrier → Matrix e.Carrier → Type 0
   HasProductsInRange a b = (i j k l : ℕ) → i < a.rows → j < a.columns → k < b.rows → l < b.columns → e.InRange (e.multiplication.op (a.cell i j) (b.cell k l))
 
-  -- two arrays of two axes, and a row and a column of their Kronecker product
-  pub record CanMultiplyBlocks (g h : Grid A) (p q : ℕ) : Type 0 where
-    pub left : length g.lengths ≡ 2
-    pub right : length h.lengths ≡ 2
-    pub row : p < slice_index g.lengths 0 * slice_index h.lengths 0
-    pub column : q < slice_index g.lengths 1 * slice_index h.lengths 1
-    pub products : HasProductsInRange (matrix_of g) (matrix_of h)
-
   -- ---- any number of axes
 
   -- the products along the common axis: of the lane of the left along its last axis and that of the right along its last but one, at the two parts of an index list of the product

@@ -4,7 +4,6 @@ use Rattle.std.proofs.Math.Nat.{div-lt_iff_lt-mul, mod-lt}
 use Rattle.std.proofs.lemmas.List.{length-append}
 use Rattle.std.proofs.lemmas.List.Edits.{length-remove}
 use Rattle.ndarray.specs.DotLaws.{HasOneOrTwoAxes}
-use Rattle.ndarray.specs.Index.{InBox}
 use Rattle.ndarray.specs.Limits.{IsWithinLimit}
 use Rattle.ndarray.specs.Products.{ShapesMultiply, kronecker_lengths, product_lengths}
 use Rattle.ndarray.proofs.boxes.Sizes.{length-fits, nonzero-one_of}
@@ -77,19 +76,3 @@ kronecker-rows_fit ns ms h = length-fits (kronecker_lengths ns ms) 0 (omega arit
 pub quotient-below : (p l m : ℕ) → p < l * m → (0 < m) × (p / m < l) × (p % m < m)
 quotient-below p l zero h = absurd (let z : l * 0 ≡ 0 = omega arith in omega (arith, h, z))
 quotient-below p l (suc m) h = (omega arith, (div-lt_iff_lt-mul {k = suc m} {x = p} {y = l} (omega arith)).1 h, mod-lt p {m = suc m} (omega arith))
-
-pub in-two : (ns : List ℕ) (i j : ℕ) → length ns ≡ 2 → i < get_or ns 0 0 → j < get_or ns 1 0 → InBox ns (i ∷ j ∷ [])
-in-two ns i j p a b = subst (λ l. InBox l (i ∷ j ∷ [])) (sym (two-lengths ns p)) (a, (b, tt))
-
--- where the cells of a block lie: by the quotients in the first matrix, and by the remainders in the second
-pub block-in_first : (ns ms : List ℕ) (p q m r : ℕ) (is : List ℕ) → length ns ≡ 2 → p < get_or ns 0 0 * get_or ms 0 0 → q < get_or ns 1 0 * get_or ms 1 0 → m ≡ get_or ms 0 0 → r ≡ get_or ms 1 0 → is ≡ p / m ∷ q / r ∷ [] → InBox ns is
-block-in_first ns ms p q m r is two row column em er e =
-    let a = quotient-below p (get_or ns 0 0) m (subst (λ k. p < get_or ns 0 0 * k) (sym em) row) in
-    let b = quotient-below q (get_or ns 1 0) r (subst (λ k. q < get_or ns 1 0 * k) (sym er) column) in
-    subst (InBox ns) (sym e) (in-two ns (p / m) (q / r) two a.1 b.1)
-
-pub block-in_second : (ns ms : List ℕ) (p q m r : ℕ) (is : List ℕ) → length ms ≡ 2 → p < get_or ns 0 0 * get_or ms 0 0 → q < get_or ns 1 0 * get_or ms 1 0 → m ≡ get_or ms 0 0 → r ≡ get_or ms 1 0 → is ≡ p % m ∷ q % r ∷ [] → InBox ms is
-block-in_second ns ms p q m r is two row column em er e =
-    let a = quotient-below p (get_or ns 0 0) m (subst (λ k. p < get_or ns 0 0 * k) (sym em) row) in
-    let b = quotient-below q (get_or ns 1 0) r (subst (λ k. q < get_or ns 1 0 * k) (sym er) column) in
-    subst (InBox ms) (sym e) (in-two ms (p % m) (q % r) two (subst (λ k. p % m < k) em a.2) (subst (λ k. q % r < k) er b.2))

@@ -1,9 +1,7 @@
 -- The rows of one array and the columns of another, each with each, and the index lists of their product.
 use Rattle.std.proofs.Common.{◌≡◌, ◌∙◌, ◌-◌, ◌<◌, ℕ, List, ◌++◌, All, ap, arith, drop, get_or, length, map, remove, subst, sym, take}
-use Rattle.std.proofs.Math.ListN.{get_or-map}
 use Rattle.std.proofs.Math.Seq.{drop-append_seam, take-append_seam}
 use Rattle.std.specs.Prelude.{flat_map}
-use Rattle.std.proofs.lemmas.List.{length-map}
 use Rattle.std.proofs.lemmas.List.Folds.{flat_map-map}
 use Rattle.std.proofs.lemmas.List.Edits.{length-remove}
 use Rattle.std.proofs.lemmas.List.Elements.{All-contains, All-map}
@@ -16,7 +14,7 @@ use Rattle.ndarray.proofs.boxes.Boxes.{InBox-append, InBox-length}
 use Rattle.ndarray.proofs.boxes.JoinedBoxes.{InBox-cut, row_order-append}
 use Rattle.ndarray.proofs.boxes.Orders.{row_order-is}
 use Rattle.ndarray.proofs.callers.Collecting.{lanes_of-some}
-use Rattle.ndarray.proofs.lists.Elements.{map-same}
+use Rattle.ndarray.proofs.lists.Elements.{map-same, mapped-all}
 use Rattle.ndarray.proofs.lists.FlatMaps.{flat_map-same_where, map-flat_map}
 
 -- the lanes of the left and of the right that meet in a product
@@ -29,9 +27,6 @@ columns_of b = lanes_of b (length b.lengths - 2)
 -- what holds of a row and each column
 abbrev pub EachColumn : {A : Type 0} → (Grid A → Grid A → Type 0) → Grid A → Grid A → Type 0
 EachColumn P b x = All (P x) (columns_of b).cells
-
-mapped-all : {X Y : Type 0} (P : Y → Type 0) (f : X → Y) (xs : List X) → All P (map f xs) → All (λ x. P (f x)) xs
-mapped-all P f xs all = λ k d lt. subst P (get_or-map f xs k d) (all k (f d) (let l = length-map xs f in omega (arith, l, lt)))
 
 module _ {A : Type 0} (a b : Grid A) (shapes : ShapesMultiply a.lengths b.lengths) where
   pub last : length a.lengths - 1 < length a.lengths

@@ -1,11 +1,11 @@
 -- Arrays that have the values of products.
-use Rattle.std.proofs.Common.{◌≡◌, ◌∙◌, ℕ, zero, suc, ◌<◌, ◌/◌, ◌%◌, get_or, List, [], ◌∷◌, Some, ap, arith, map, subst, sym}
+use Rattle.std.proofs.Common.{◌≡◌, ◌∙◌, ℕ, zero, suc, ◌<◌, get_or, List, [], ◌∷◌, Some, ap, arith, map, subst, sym}
 use Rattle.std.specs.Prelude.{Result, IfOk, IsOk, slice_get}
 use Rattle.ndarray.specs.Entries.{HasEntries}
-use Rattle.ndarray.specs.Grid.{Grid, IsGrid, cell}
+use Rattle.ndarray.specs.Grid.{Grid, IsGrid}
 use Rattle.ndarray.specs.Index.{row_order, size}
-use Rattle.ndarray.specs.Matrices.{Matrix, kronecker_product}
-use Rattle.ndarray.specs.Products.{Accumulates, AccumulatesEntries, AddsScaled, CanSumInner, HasSumsInRange, HasValues, MakesValues, matrix_of, product_of, value_at, value_or}
+use Rattle.ndarray.specs.Matrices.{Matrix}
+use Rattle.ndarray.specs.Products.{Accumulates, AccumulatesEntries, AddsScaled, CanSumInner, HasSumsInRange, HasValues, MakesValues, product_of}
 use Rattle.ndarray.specs.base.Ranks.{rank}
 use Rattle.ndarray.specs.declared.elements.Valued.{Ghosts as ValuedGhosts}
 use Rattle.ndarray.proofs.boxes.Boxes.{InBox-some}
@@ -72,13 +72,3 @@ module _ {A : Type 0} (e : ValuedGhosts A) where
 
     pub product-of_views : (product_of e (F w) (G z)).cell i j ≡ (product_of e (F a) (G b)).cell i j
     product-of_views = ap (λ u. (product_of e (F u) (G z)).cell i j) left ∙ ap (λ u. (product_of e (F a) (G u)).cell i j) right
-
-  -- the value at a row and a column of a Kronecker product, from the two cells that it is made of
-  pub block-value : (a b : Grid A) (p q m r : ℕ) (first second : List ℕ) (x y : A) → m ≡ get_or b.lengths 0 0 → r ≡ get_or b.lengths 1 0
-      → first ≡ p / m ∷ q / r ∷ [] → second ≡ p % m ∷ q % r ∷ [] → cell a first ≡ Some x → cell b second ≡ Some y
-      → (kronecker_product e.multiplication (matrix_of e a) (matrix_of e b)).cell p q ≡ e.multiplication.op (e.meaning x) (e.meaning y)
-  block-value a b p q m r first second x y em er ef es ax ay =
-      let f : first ≡ p / get_or b.lengths 0 0 ∷ q / get_or b.lengths 1 0 ∷ [] = ef ∙ (ap (λ k. p / k ∷ q / r ∷ []) em ∙ ap (λ k. p / get_or b.lengths 0 0 ∷ q / k ∷ []) er) in
-      let s : second ≡ p % get_or b.lengths 0 0 ∷ q % get_or b.lengths 1 0 ∷ [] = es ∙ (ap (λ k. p % k ∷ q % r ∷ []) em ∙ ap (λ k. p % get_or b.lengths 0 0 ∷ q % k ∷ []) er) in
-      ap (λ o. e.multiplication.op (value_or e.meaning e.addition.unit o) (value_at e b (p % get_or b.lengths 0 0 ∷ q % get_or b.lengths 1 0 ∷ []))) (ap (cell a) (sym f) ∙ ax)
-      ∙ ap (λ o. e.multiplication.op (e.meaning x) (value_or e.meaning e.addition.unit o)) (ap (cell b) (sym s) ∙ ay)

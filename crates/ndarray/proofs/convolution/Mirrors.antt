@@ -11,7 +11,7 @@ use Rattle.ndarray.specs.Grid.{Grid, cell}
 use Rattle.ndarray.specs.Index.{row_order}
 use Rattle.ndarray.specs.Products.{products_of}
 use Rattle.ndarray.specs.Subviews.{window}
-use Rattle.ndarray.proofs.convolution.ProductLists.{range-later, range-last}
+use Rattle.ndarray.proofs.lists.Ranges.{range-later, range-last}
 
 -- ---- lists backwards
 

@@ -18,7 +18,8 @@ use Rattle.ndarray.specs.Sums.{total}
 use Rattle.ndarray.proofs.convolution.Filters.{filters_compose, slice_get-later}
 use Rattle.ndarray.proofs.convolution.Full.{full_length-some}
 use Rattle.ndarray.proofs.convolution.Mirrors.{HasCellsInRows, map-range, valid_products-reversed}
-use Rattle.ndarray.proofs.convolution.ProductLists.{filter_map-map, filter_map-range, range-later}
+use Rattle.ndarray.proofs.convolution.ProductLists.{filter_map-map, filter_map-range}
+use Rattle.ndarray.proofs.lists.Ranges.{range-later}
 use Rattle.ndarray.proofs.convolution.ValueSums.{below-same, length-below}
 use Rattle.ndarray.proofs.convolution.Windows.{filter_map-none, windows_agree}
 

@@ -12,7 +12,8 @@ use Rattle.ndarray.specs.Products.{products_of}
 use Rattle.ndarray.specs.Views.{axis_part}
 use Rattle.ndarray.proofs.callers.Joining.{one_axis-is}
 use Rattle.ndarray.proofs.convolution.Filters.{slice_get-later}
-use Rattle.ndarray.proofs.convolution.Pairs.{none-along, range-append}
+use Rattle.ndarray.proofs.convolution.Pairs.{none-along}
+use Rattle.ndarray.proofs.lists.Ranges.{range-append}
 use Rattle.ndarray.proofs.convolution.ProductLists.{filter_map-range, no_second}
 use Rattle.ndarray.proofs.convolution.Windows.{filter_map-none}
 use Rattle.ndarray.proofs.lists.Elements.{slice_get-Some}

@@ -10,13 +10,7 @@ use Rattle.std.proofs.lemmas.Option.{slice_get_past}
 use Rattle.ndarray.specs.Algebra.{CommutativeMonoid}
 use Rattle.ndarray.specs.Convolution.{convolution_products, product_of_both}
 use Rattle.ndarray.proofs.convolution.ProductLists.{filter_map-range, no_second}
-
-pub range-append : (a n m : ℕ) → range_with_len a (n + m) ≡ range_with_len a n ++ range_with_len (a + n) m
-range-append a zero m = ap (λ k. range_with_len a k) (omega arith) ∙ ap (λ k. range_with_len k m) (omega arith)
-range-append a (suc n) m =
-    ap (range_with_len a) (let e : suc n + m ≡ suc (n + m) = omega arith in e)
-    ∙ (ap (λ l. a ∷ l) (range-append (a + 1) n m)
-    ∙ ap (λ k. a ∷ (range_with_len (a + 1) n ++ range_with_len k m)) (omega arith))
+use Rattle.ndarray.proofs.lists.Ranges.{flat_map-range, range-append}
 
 module _ {Y : Type 0} where
   pub none-along : (f : ℕ → Option Y) (a n : ℕ) → ((i : ℕ) → a ≤ i → i < a + n → f i ≡ None) → filter_map f (range_with_len a n) ≡ []
@@ -66,12 +60,6 @@ module _ {Y : Type 0} where
       first : (o : Option Y) (r : List Y) → cons_option o [] ++ r ≡ cons_option o r
       first None r = refl
       first (Some y) r = refl
-
-  flat_map-range : (f h : ℕ → List Y) (a n : ℕ) → ((i : ℕ) → a ≤ i → i < a + n → f i ≡ h i) → flat_map f (range_with_len a n) ≡ flat_map h (range_with_len a n)
-  flat_map-range f h a zero e = refl
-  flat_map-range f h a (suc n) e =
-      ap (λ l. l ++ flat_map f (range_with_len (a + 1) n)) (e a (omega arith) (omega arith))
-      ∙ ap (λ l. h a ++ l) (flat_map-range f h (a + 1) n (λ i l m. e i (omega arith) (omega arith)))
 
 module _ {A C : Type 0} (times : CommutativeMonoid C) (value : A → C) where
   -- over all places i of the first list and j of the second, the products where i + j = s

@@ -1,11 +1,12 @@
 -- The list of the products that a convolution adds up, at one place.
-use Rattle.std.proofs.Common.{◌≡◌, ℕ, zero, suc, ◌+◌, ◌-◌, ◌<◌, ◌≤◌, List, [], ◌∷◌, ◌++◌, map, length, Option, Some, None, refl, sym, ap, ◌∙◌, arith, add-one}
+use Rattle.std.proofs.Common.{◌≡◌, ℕ, zero, suc, ◌+◌, ◌-◌, ◌<◌, ◌≤◌, List, [], ◌∷◌, map, length, Option, Some, None, refl, sym, ap, ◌∙◌, arith, add-one}
 use Rattle.std.specs.Prelude.{slice_get, filter_map}
 use Rattle.std.specs.List.{range_with_len, cons_option}
 use Rattle.ndarray.specs.Algebra.{CommutativeMonoid}
 use Rattle.ndarray.specs.Convolution.{product_of_both, convolution_products}
 use Rattle.ndarray.specs.Sums.{total}
 use Rattle.ndarray.proofs.convolution.Cauchy.{cauchy}
+use Rattle.ndarray.proofs.lists.Ranges.{range-later}
 
 pub filter_map-map : {X Y Z : Type 0} (f : X → Y) (h : Y → Option Z) (xs : List X) → filter_map h (map f xs) ≡ filter_map (λ x. h (f x)) xs
 filter_map-map f h [] = refl
@@ -17,18 +18,6 @@ filter_map-range f h a zero e = refl
 filter_map-range f h a (suc n) e =
     ap (λ o. cons_option o (filter_map f (range_with_len (a + 1) n))) (e a (omega arith) (omega arith))
     ∙ ap (cons_option (h a)) (filter_map-range f h (a + 1) n (λ i l m. e i (omega arith) (omega arith)))
-
--- the numbers after the first
-pub range-later : (a n : ℕ) → range_with_len (suc a) n ≡ map suc (range_with_len a n)
-range-later a zero = refl
-range-later a (suc n) = ap (λ k. suc a ∷ range_with_len k n) (omega arith) ∙ ap (λ l. suc a ∷ l) (range-later (a + 1) n)
-
-pub range-first : (n : ℕ) → range_with_len 0 (suc n) ≡ 0 ∷ map suc (range_with_len 0 n)
-range-first n = ap (λ l. 0 ∷ l) (range-later 0 n)
-
-pub range-last : (a n : ℕ) → range_with_len a (suc n) ≡ range_with_len a n ++ (a + n) ∷ []
-range-last a zero = ap (λ k. k ∷ []) (omega arith)
-range-last a (suc n) = ap (λ l. a ∷ l) (range-last (a + 1) n) ∙ ap (λ k. a ∷ (range_with_len (a + 1) n ++ k ∷ [])) (omega arith)
 
 -- there is no product where there is no second element
 pub no_second : {A C : Type 0} (times : CommutativeMonoid C) (value : A → C) (x : Option A) → product_of_both times value x None ≡ None

@@ -9,7 +9,8 @@ use Rattle.ndarray.specs.Convolution.{product_of_both, convolution_products, fil
 use Rattle.ndarray.specs.Matrices.{values_below}
 use Rattle.ndarray.specs.Products.{products_of}
 use Rattle.ndarray.specs.Sums.{total, IsSummable}
-use Rattle.ndarray.proofs.convolution.ProductLists.{filter_map-range, no_second, range-last}
+use Rattle.ndarray.proofs.convolution.ProductLists.{filter_map-range, no_second}
+use Rattle.ndarray.proofs.lists.Ranges.{range-last}
 use Rattle.ndarray.proofs.convolution.Full.{full_length-some, full_length-left}
 use Rattle.ndarray.proofs.convolution.NeutralValues.{WithNeutral, WithNeutral-more, WithNeutral-append, WithNeutral-total, WithNeutral-summable}
 use Rattle.ndarray.proofs.convolution.ValueSums.{below-same}

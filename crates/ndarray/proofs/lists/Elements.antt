@@ -3,9 +3,10 @@ use Rattle.std.proofs.Common.{◌≡◌, ℕ, ◌+◌, ◌<◌, ◌≤◌, min, 
 use Rattle.std.specs.Prelude.{filter_map, zip, slice_get, MatchOption, All, IsTrue}
 use Rattle.std.specs.Option.{is_some}
 use Rattle.std.specs.List.{cons_option, AllByRecursion}
+use Rattle.std.proofs.Math.ListN.{get_or-map}
 use Rattle.std.proofs.Math.Seq.{drop-cons}
 use Rattle.std.proofs.lemmas.Option.{slice_get_past, slice_get-get_or}
-use Rattle.std.proofs.lemmas.List.{length-drop, drop_all, reverse-append, get_or_at, same_lists}
+use Rattle.std.proofs.lemmas.List.{length-drop, length-map, drop_all, reverse-append, get_or_at, same_lists}
 use Rattle.std.proofs.lemmas.Bool.{cases_eq}
 use Rattle.std.proofs.lemmas.Grind.{get_or-set_at}
 use Rattle.std.proofs.lemmas.List.Edits.{length-swap, swapped_from_swap}
@@ -217,3 +218,7 @@ replicate-is x (y ∷ ys) h =
     let here = All-head (λ z. z ≡ x) y ys h in
     let rest = replicate-is x ys (All-tail (λ z. z ≡ x) y ys h) in
     cc
+
+-- what holds of each image
+pub mapped-all : {X Y : Type 0} (P : Y → Type 0) (f : X → Y) (xs : List X) → All P (map f xs) → All (λ x. P (f x)) xs
+mapped-all P f xs all = λ k d lt. subst P (get_or-map f xs k d) (all k (f d) (let l = length-map xs f in omega (arith, l, lt)))

@@ -1,5 +1,5 @@
 -- Elements that are pushed one after another, or some at a time, in the values that are known of them: those so far, with those to come, are the whole.
-use Rattle.std.proofs.Common.{◌≡◌, ◌∙◌, ◌+◌, ◌<◌, ◌≤◌, List, [], ◌∷◌, ◌++◌, ap, append_assoc, arith, length, map, suc, sym}
+use Rattle.std.proofs.Common.{◌≡◌, ◌∙◌, ◌+◌, ◌<◌, ◌≤◌, List, [], ◌∷◌, ◌++◌, ap, append-nil, append_assoc, arith, length, map, suc, sym}
 use Rattle.std.specs.Prelude.{flat_map}
 use Rattle.std.proofs.lemmas.List.{length-append, length-map, map-append}
 
@@ -32,3 +32,7 @@ module _ {A C X : Type 0} (value : A → C) (whole : List C) (cells : List A) (n
         let pushed = length-map cells value in
         let left : length (flat_map g now) ≡ length (g x) + length (flat_map g rest) = ap (λ l. length (flat_map g l)) first ∙ length-append (g x) (flat_map g rest) in
         omega (arith, all, both, pushed, left)
+
+-- with none to come, what was pushed has the values of the whole
+pub all-pushed : {A C X : Type 0} (value : A → C) (sums : X → List C) (cells : List A) (rows : List X) (entries : List C) → rows ≡ [] → map value cells ++ flat_map sums rows ≡ entries → map value cells ≡ entries
+all-pushed value sums cells rows entries none values = sym (append-nil (map value cells)) ∙ (ap (λ l. map value cells ++ flat_map sums l) (sym none) ∙ values)

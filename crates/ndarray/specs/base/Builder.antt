@@ -1,5 +1,5 @@
--- An array that is filled one cell after another: for `base`, `zip::collecting`, `stacking::blocks` and `linalg::dynamic`.
-use Rattle.std.specs.Prelude.{ℕ, ◌≤◌, ◌++◌, ◌∷◌, [], List}
+-- An array that is filled one cell after another: for `base`, `zip::collecting`, `stacking::blocks` and `linalg`.
+use Rattle.std.specs.Prelude.{◌≡◌, ℕ, ◌≤◌, ◌++◌, ◌∷◌, [], List, map}
 use Rattle.ndarray.specs.Index.{size}
 use Rattle.ndarray.specs.Limits.{IsWithinLimit}
 use Rattle.ndarray.specs.declared.base.shape.Order.{Order}
@@ -22,3 +22,9 @@ pushed_all p xs = record { lengths = p.lengths; order = p.order; cells = p.cells
 pub record HasRoom (ns : List ℕ) (capacity : ℕ) : Type 0 where
   pub limit : IsWithinLimit ns
   pub room : size ns ≤ capacity
+
+-- the same with cells more of which the values are known
+pub record PushesValues {A C : Type 0} (value : A → C) (more : List C) (old new : BuilderState A) : Type 0 where
+  pub lengths : new.lengths ≡ old.lengths
+  pub order : new.order ≡ old.order
+  pub values : map value new.cells ≡ map value old.cells ++ more

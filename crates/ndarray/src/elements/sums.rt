@@ -1,4 +1,4 @@
-//! Sums of elements, in the values that they have.
+//! Sums and products of elements, in the values that they have.
 
 ghost use Rattle.std.specs.Prelude.{◌≡◌};
 
@@ -11,6 +11,15 @@ pub(crate) fn add<A: LinalgScalar>(x: A, y: A) -> A
     ensures { A.meaning result ≡ A.addition.op (A.meaning x) (A.meaning y) }
 {
     x + y
+}
+
+/// A product.
+#[inline(always)]
+pub(crate) fn multiply<A: LinalgScalar>(x: A, y: A) -> A
+    requires { A.InRange (A.multiplication.op (A.meaning x) (A.meaning y)) }
+    ensures { A.meaning result ≡ A.multiplication.op (A.meaning x) (A.meaning y) }
+{
+    x * y
 }
 
 /// A sum, and a product added to it.

@@ -39,7 +39,7 @@ pub(crate) fn inner<A: LinalgScalar>(x: &ArrayView<'_, A, Ix1>, y: &ArrayView<'_
 
 /// The cells of a vector, one after another.
 #[inline(always)]
-fn cells_of<'a, A>(vector: ArrayView<'a, A, Ix1>) -> Strided<'a, A>
+pub(crate) fn cells_of<'a, A>(vector: ArrayView<'a, A, Ix1>) -> Strided<'a, A>
     ensures { result ≡ vector.entry.cells }
 {
     let len = vector.raw_dim().into_pattern();

@@ -1,16 +1,23 @@
 //! Kronecker products.
 
-ghost use Rattle.std.specs.Prelude.{◌≡◌, ◌↔◌, ◌*◌, ◌∷◌, [], IsTrue};
+ghost use Rattle.std.specs.Prelude.{◌↔◌, ◌*◌, ◌+◌, ◌<◌, ◌≤◌, ◌∷◌, [], All, IsTrue, length};
+ghost use Rattle.ndarray.specs.BlockRows.{CanMultiply, CanMultiplyEach, block_rows, multiples, multiples_by};
+ghost use Rattle.ndarray.specs.Index.{size};
 ghost use Rattle.ndarray.specs.Limits.{IsWithinLimit};
 ghost use Rattle.ndarray.specs.Matrices.{kronecker_product};
-ghost use Rattle.ndarray.specs.Products.{CanMultiplyBlocks, HasProductsInRange, MakesMatrix, kronecker_lengths, matrix_of};
+ghost use Rattle.ndarray.specs.Products.{HasProductsInRange, MakesMatrix, kronecker_lengths, matrix_of};
+ghost use Rattle.ndarray.specs.Subviews.{axis_items};
+ghost use Rattle.ndarray.specs.base.Builder.{PushesValues};
 
 use crate::base::array::{Array, ArrayBase, ArrayView};
-use crate::base::axis::Axis;
-use crate::base::dimension::{Dimension, Ix2, Lengths};
+use crate::base::builder::ArrayBuilder;
+use crate::base::dimension::{Dimension, Ix1, Ix2, Lengths};
 use crate::base::storage::Data;
+use crate::base::strided::Strided;
 use crate::elements::LinalgScalar;
-use crate::linalg::entries::{Entries, array_of};
+use crate::elements::sums::multiply;
+use crate::linalg::inner::cells_of;
+use crate::order::Order;
 use std::alloc::{AllocError, Global};
 
 /// Whether two matrices have a Kronecker product: the lengths of the result that are not 0, which are those of the
@@ -61,35 +68,104 @@ pub fn kron<A: LinalgScalar, S: Data<Elem = A>, S2: Data<Elem = A>>(
     requires products { HasProductsInRange A.Valued (matrix_of A.Valued a.now) (matrix_of A.Valued b.now) }
     ensures { MakesMatrix A.Valued (kronecker_product A.multiplication (matrix_of A.Valued a.now) (matrix_of A.Valued b.now)) result }
 {
+    blocks(alloc, &a.view(), &b.view())
+}
+
+/// The product of two views, row by row: a row of it has for each cell of a row of `a` that cell times a row of `b`.
+fn blocks<A: LinalgScalar>(
+    alloc: Global,
+    a: &ArrayView<'_, A, Ix2>,
+    b: &ArrayView<'_, A, Ix2>,
+) -> Result<Array<A, Ix2>, AllocError>
+    requires limit { IsWithinLimit (kronecker_lengths a.now.lengths b.now.lengths) }
+    requires products { HasProductsInRange A.Valued (matrix_of A.Valued a.now) (matrix_of A.Valued b.now) }
+    ensures { MakesMatrix A.Valued (kronecker_product A.multiplication (matrix_of A.Valued a.now) (matrix_of A.Valued b.now)) result }
+{
     let (l, n) = a.raw_dim().into_pattern();
     let (m, r) = b.raw_dim().into_pattern();
-    let blocks = Blocks {
-        left: a.view(),
-        right: b.view(),
-    };
-    array_of(alloc, Ix2(l * m, n * r), blocks)
+    let dim = Ix2(l * m, n * r);
+    let size = dim.size();
+    let mut products = ArrayBuilder::with_capacity(alloc, dim, Order::RowMajor)?;
+    if size == 0 {
+        // However many rows there are.
+        return Ok(products.finish());
+    }
+    for row in a.outer_iter() {
+        push_block_rows(&mut products, &row, b);
+    }
+    Ok(products.finish())
 }
 
-/// The products of the cells of one matrix with those of another, block by block.
-#[derive(Drop)]
-struct Blocks<'a, 'b, A> {
-    left: ArrayView<'a, A, Ix2>,
-    right: ArrayView<'b, A, Ix2>,
+/// Pushes the products of a row and each row of a matrix.
+fn push_block_rows<A: LinalgScalar>(
+    products: &mut ArrayBuilder<A, Ix2>,
+    row: &ArrayView<'_, A, Ix1>,
+    b: &ArrayView<'_, A, Ix2>,
+)
+    requires axes { 0 < length b.now.lengths }
+    requires can { All (λ below. CanMultiplyEach A.Valued row.now.cells below.cells) (axis_items b.now 0) }
+    requires room { length products.old.cells + length (block_rows A.Valued row.now (axis_items b.now 0)) ≤ size products.old.lengths }
+    ensures { PushesValues A.meaning (block_rows A.Valued row.now (axis_items b.now 0)) products.old products.new }
+{
+    for below in b.outer_iter() {
+        push_products(products, row, &below);
+    }
 }
 
-impl<'a, 'b, A: LinalgScalar> Entries<(usize, usize)> for Blocks<'a, 'b, A> {
-    type Elem = A;
+/// Pushes the products of each cell of one row and each of another.
+fn push_products<A: LinalgScalar>(
+    products: &mut ArrayBuilder<A, Ix2>,
+    row: &ArrayView<'_, A, Ix1>,
+    below: &ArrayView<'_, A, Ix1>,
+)
+    requires can { CanMultiplyEach A.Valued row.now.cells below.now.cells }
+    requires room { length products.old.cells + length (multiples_by A.Valued row.now.cells below.now.cells) ≤ size products.old.lengths }
+    ensures { PushesValues A.meaning (multiples_by A.Valued row.now.cells below.now.cells) products.old products.new }
+{
+    let cells = cells_of(below.again());
+    for factor in cells_of(row.again()) {
+        push_multiples(products, *factor, cells.again());
+    }
+}
 
-    ghost can_compute = { λ s t. CanMultiplyBlocks A.Valued s.left s.right t.0 t.1 };
+/// Pushes the products of an element and each of some cells.
+fn push_multiples<A: LinalgScalar>(
+    products: &mut ArrayBuilder<A, Ix2>,
+    factor: A,
+    cells: Strided<'_, A>,
+)
+    requires can { All (CanMultiply A.Valued factor) cells }
+    requires room { length products.old.cells + length cells ≤ size products.old.lengths }
+    ensures { PushesValues A.meaning (multiples A.Valued factor cells.entry) products.old products.new }
+{
+    match cells.side_by_side() {
+        Some(slice) => push_slice(products, factor, slice),
+        None => push_steps(products, factor, cells),
+    }
+}
 
-    ghost computes = { λ s t r. A.meaning r ≡ (kronecker_product A.multiplication (matrix_of A.Valued s.left) (matrix_of A.Valued s.right)).cell t.0 t.1 };
+/// The same of cells that lie side by side.
+fn push_slice<A: LinalgScalar>(products: &mut ArrayBuilder<A, Ix2>, factor: A, cells: &[A])
+    requires can { All (CanMultiply A.Valued factor) cells.now }
+    requires room { length products.old.cells + length cells.now ≤ size products.old.lengths }
+    ensures { PushesValues A.meaning (multiples A.Valued factor cells.now) products.old products.new }
+{
+    for cell in cells {
+        products.push(multiply(factor, *cell));
+    }
+}
 
-    fn entry(&self, at: (usize, usize)) -> A {
-        let (p, q) = at;
-        let m = self.right.len_of(Axis(0));
-        let r = self.right.len_of(Axis(1));
-        let x = self.left.item(&Ix2(p / m, q / r));
-        let y = self.right.item(&Ix2(p % m, q % r));
-        *x * *y
+/// The same of cells that lie a step apart.
+fn push_steps<A: LinalgScalar>(
+    products: &mut ArrayBuilder<A, Ix2>,
+    factor: A,
+    cells: Strided<'_, A>,
+)
+    requires can { All (CanMultiply A.Valued factor) cells }
+    requires room { length products.old.cells + length cells ≤ size products.old.lengths }
+    ensures { PushesValues A.meaning (multiples A.Valued factor cells.entry) products.old products.new }
+{
+    for cell in cells {
+        products.push(multiply(factor, *cell));
     }
 }

@@ -1,4 +1,4 @@
-use Rattle.std.proofs.Common.{◌≡◌, ◌∙◌, ◌++◌, List, [], ℕ, All, ap, append-nil, arith, length, map, refl, subst, sym}
+use Rattle.std.proofs.Common.{◌≡◌, ◌∙◌, ◌++◌, List, ℕ, All, ap, arith, length, map, refl, subst, sym}
 use Rattle.std.specs.Prelude.{flat_map}
 use Rattle.std.proofs.lemmas.List.{length-map}
 use Rattle.std.proofs.lemmas.List.Elements.{All-head, All-tail}
@@ -11,7 +11,7 @@ use Rattle.ndarray.proofs.cells.Cells.{cells-row_major}
 use Rattle.ndarray.proofs.cells.LanePairs.{EachColumn, columns_of}
 use Rattle.ndarray.proofs.cells.LaneSums.{lanes-can_sum, sums-in_row_order}
 use Rattle.ndarray.proofs.cells.Products.{values-in_row_order, values-none}
-use Rattle.ndarray.proofs.lists.Pushes.{some-pushed, some-room}
+use Rattle.ndarray.proofs.lists.Pushes.{all-pushed, some-pushed, some-room}
 use Rattle.ndarray.proofs.linalg.dynamic.product.Goals as goal
 
 lengths-of : (ks ns ms ls rs : List ℕ) → ks ≡ product_lengths ns ms → ns ≡ ls → ms ≡ rs → ks ≡ product_lengths ls rs
@@ -82,10 +82,6 @@ returns-then-size-eq0 g c =
       made = values-none g.A.Valued (product_lengths c.args.x.now.lengths c.args.y.now.lengths) (dot_entries g.A.Valued c.args.x.now c.args.y.now) c.finish.result same c.finish.ensures.whole (ap size (sym dim) ∙ (sym c.size-size.ensures ∙ c.if-size-eq0.true));
       empty = λ none. refl;
     }
-
--- with no row to come, what was pushed has the values of the entries
-all-pushed : {A C X : Type 0} (value : A → C) (sums : X → List C) (cells : List A) (rows : List X) (entries : List C) → rows ≡ [] → map value cells ++ flat_map sums rows ≡ entries → map value cells ≡ entries
-all-pushed value sums cells rows entries none values = sym (append-nil (map value cells)) ∙ (ap (λ l. map value cells ++ flat_map sums l) (sym none) ∙ values)
 
 pub finish-requires-2 : goal.finish-requires-2
 finish-requires-2 g c =
