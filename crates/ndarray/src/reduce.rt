@@ -17,8 +17,9 @@ use crate::base::axis::Axis;
 use crate::base::dimension::{Dimension, Lengths};
 use crate::base::storage::Data;
 use crate::elements::{ProductElem, SumElem};
+use crate::ops::operations::{Addition, Multiplication};
 pub use crate::reduce::range_tests::{checked_dot, dot_fits};
-use crate::reduce::totals::{Product, Sum, total, totals_along};
+use crate::reduce::totals::{total, totals_along};
 use std::alloc::{AllocError, Global};
 
 impl<A: SumElem, S: Data<Elem = A>, D: Lengths> ArrayBase<S, D> {
@@ -38,7 +39,7 @@ impl<A: SumElem, S: Data<Elem = A>, D: Lengths> ArrayBase<S, D> {
         requires { IsSummableBy A.addition A.InRange A.meaning self.now.cells }
         ensures { A.meaning result ≡ total_by A.addition A.meaning self.now.cells }
     {
-        total::<Sum, A, D>(&self.view())
+        total::<Addition, A, D>(&self.view())
     }
 }
 
@@ -58,7 +59,7 @@ impl<A: ProductElem, S: Data<Elem = A>, D: Lengths> ArrayBase<S, D> {
         requires { IsSummableBy A.multiplication A.InRange A.meaning self.now.cells }
         ensures { A.meaning result ≡ total_by A.multiplication A.meaning self.now.cells }
     {
-        total::<Product, A, D>(&self.view())
+        total::<Multiplication, A, D>(&self.view())
     }
 }
 
@@ -80,7 +81,7 @@ impl<A: SumElem, S: Data<Elem = A>, D: Dimension> ArrayBase<S, D> {
         ensures sums { MakesMapped D.Smaller.has_axes (IsTotalOf A.addition A.meaning) (lanes_of self.now axis.0) result }
         ensures axes { IfOk result (λ r. D.Smaller.has_axes (length r.lengths)) }
     {
-        totals_along::<Sum, A, D>(alloc, &self.view(), axis)
+        totals_along::<Addition, A, D>(alloc, &self.view(), axis)
     }
 }
 
@@ -105,6 +106,6 @@ impl<A: ProductElem, S: Data<Elem = A>, D: Dimension> ArrayBase<S, D> {
         ensures products { MakesMapped D.Smaller.has_axes (IsTotalOf A.multiplication A.meaning) (lanes_of self.now axis.0) result }
         ensures axes { IfOk result (λ r. D.Smaller.has_axes (length r.lengths)) }
     {
-        totals_along::<Product, A, D>(alloc, &self.view(), axis)
+        totals_along::<Multiplication, A, D>(alloc, &self.view(), axis)
     }
 }

@@ -64,7 +64,7 @@ impl<D: Lengths> Indices<D> {
     /// The lengths.
     ///
     /// ```
-    /// let lists = indices((2, 3))?;
+    /// let lists = indices((2, 3));
     /// let (rows, columns) = lists.raw_dim().into_pattern(); // 2 and 3
     /// ```
     pub fn raw_dim(&self) -> D
@@ -104,7 +104,7 @@ impl<D: Lengths> Indices<D> {
     ///
     /// ```
     /// // (0, 0), (0, 1) and (1, 0), (1, 1)
-    /// let (upper, lower) = indices((2, 2))?.split_at(Axis(0), 1);
+    /// let (upper, lower) = indices((2, 2)).split_at(Axis(0), 1);
     /// ```
     pub fn split_at(self, axis: Axis, index: usize) -> (Self, Self)
         requires axis { axis.0 < length self.lengths }

@@ -18,7 +18,7 @@ use crate::base::strided::Strided;
 use crate::elements::{ProductElem, SumElem};
 use crate::iter::runs::CellRuns;
 use crate::ops::assign_operators::assign;
-use crate::ops::operations::Operation;
+use crate::ops::operations::{Addition, Multiplication, Operation};
 use crate::order::Order;
 use crate::unrolled::unrolled_fold;
 use crate::zip::closures::ItemCall;
@@ -55,10 +55,7 @@ pub(crate) trait TotalOperation<A: Copy> {
     ghost same_meaning: { (x y : A) → meaning x ≡ meaning y → x ≡ y };
 }
 
-/// Addition.
-pub(crate) struct Sum;
-
-impl<A: SumElem> TotalOperation<A> for Sum {
+impl<A: SumElem> TotalOperation<A> for Addition {
     ghost Carrier = { A.Carrier };
 
     ghost meaning = { A.meaning };
@@ -80,10 +77,7 @@ impl<A: SumElem> TotalOperation<A> for Sum {
     ghost same_meaning = { A.same_meaning };
 }
 
-/// Multiplication.
-pub(crate) struct Product;
-
-impl<A: ProductElem> TotalOperation<A> for Product {
+impl<A: ProductElem> TotalOperation<A> for Multiplication {
     ghost Carrier = { A.Carrier };
 
     ghost meaning = { A.meaning };
