@@ -18,6 +18,7 @@ pub mod LaneSums
 pub mod LaneTests
 pub mod Matrices
 pub mod Products
+pub mod RowProducts
 pub mod RunningProducts
 pub mod Scans
 pub mod TestedCells
