@@ -20,6 +20,7 @@ pub mod LaneTests
 pub mod LaneTotals
 pub mod Matrices
 pub mod Products
+pub mod RowProducts
 pub mod RunningProducts
 pub mod Scans
 pub mod TestedCells

@@ -33,6 +33,7 @@ pub mod PartialFolds
 pub mod Producers
 pub mod Products
 pub mod RowCells
+pub mod RowSums
 pub mod Rows
 pub mod Runs
 pub mod Scans

@@ -11,8 +11,10 @@ mod entries;
 mod general;
 mod inner;
 mod kronecker;
+mod matrix_products;
 mod products;
 mod range_tests;
+mod row_sums;
 mod scaled_addition;
 
 pub use crate::linalg::chains::{chain_ok, kron_dot, kron_dot_ok, mat_vec_chain};

@@ -18,9 +18,10 @@ use Rattle.ndarray.proofs.callers.Elementwise.{array_by-follows}
 use Rattle.ndarray.proofs.callers.Joining.{one_axis-is}
 use Rattle.ndarray.proofs.cells.Cells.{cell-Some}
 use Rattle.ndarray.proofs.convolution.Mapped.{filtered-map, full_convolution-map}
-use Rattle.ndarray.proofs.convolution.OneAxis.{array_by-one, filtered-valid, map-range-below, row_order-one}
+use Rattle.ndarray.proofs.convolution.OneAxis.{array_by-one, filtered-valid, row_order-one}
 use Rattle.ndarray.proofs.convolution.WholeWindows.{in_rows}
 use Rattle.ndarray.proofs.lists.Elements.{map-same}
+use Rattle.ndarray.proofs.sums.RowSums.{map-range-below}
 
 -- a kernel of one axis that has cells, and an array of one axis
 pub positive-one : {A B : Type 0} (g : Grid A) (kernel : Grid B) → length g.lengths ≡ 1 → length kernel.lengths ≡ 1 → IsGrid kernel → 1 ≤ length kernel.cells → ArePositive g.lengths kernel.lengths

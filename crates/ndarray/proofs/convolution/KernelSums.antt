@@ -15,7 +15,8 @@ use Rattle.ndarray.proofs.algebra.Totals.{total-flat}
 use Rattle.ndarray.proofs.boxes.Orders.{row_order-is}
 use Rattle.ndarray.proofs.cells.Cells.{cell-Some, tabulate-cell}
 use Rattle.ndarray.proofs.convolution.Mirrors.{row_order-mirrored}
-use Rattle.ndarray.proofs.convolution.OneAxis.{map-range-below, row_order-one}
+use Rattle.ndarray.proofs.convolution.OneAxis.{row_order-one}
+use Rattle.ndarray.proofs.sums.RowSums.{map-range-below}
 use Rattle.ndarray.proofs.convolution.ProductLists.{filter_map-map}
 use Rattle.ndarray.proofs.convolution.Swapped.{reverse-filter_map}
 use Rattle.ndarray.proofs.convolution.ValueSums.{below-same}

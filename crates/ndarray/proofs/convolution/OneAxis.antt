@@ -22,6 +22,7 @@ use Rattle.ndarray.proofs.convolution.ProductLists.{filter_map-map, filter_map-r
 use Rattle.ndarray.proofs.lists.Ranges.{range-later}
 use Rattle.ndarray.proofs.convolution.ValueSums.{below-same, length-below}
 use Rattle.ndarray.proofs.convolution.Windows.{filter_map-none, windows_agree}
+use Rattle.ndarray.proofs.sums.RowSums.{map-range-below}
 
 singles : (ks : List ℕ) → flat_map (λ k. map (λ is. k ∷ is) ([] ∷ [])) ks ≡ map (λ k. k ∷ []) ks
 singles [] = refl
@@ -30,10 +31,6 @@ singles (k ∷ ks) = ap (λ xs. (k ∷ []) ∷ xs) (singles ks)
 pub row_order-one : (n : ℕ) → row_order (n ∷ []) ≡ map (λ k. k ∷ []) (range_with_len 0 n)
 unfolding row_order
 row_order-one n = singles (range_with_len 0 n)
-
-pub map-range-below : {C : Type 0} (f : ℕ → C) (n : ℕ) → map f (range_with_len 0 n) ≡ values_below n f
-map-range-below f zero = refl
-map-range-below f (suc n) = ap (λ l. f 0 ∷ map f l) (range-later 0 n) ∙ ap (λ l. f 0 ∷ l) (map-map f suc (range_with_len 0 n) ∙ map-range-below (λ i. f (suc i)) n)
 
 -- values along one axis
 pub array_by-one : {C : Type 0} (f : ℕ → C) (n : ℕ) → array_by (n ∷ []) (λ is. f (slice_index is 0)) ≡ one_axis (values_below n f)

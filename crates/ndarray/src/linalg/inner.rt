@@ -2,7 +2,7 @@
 
 ghost use Rattle.std.specs.Prelude.{◌≡◌, length};
 ghost use Rattle.ndarray.specs.Grid.{IsGrid};
-ghost use Rattle.ndarray.specs.Products.{CanSumInner, column_of, matrix_of, product_of, products_of, row_of};
+ghost use Rattle.ndarray.specs.Products.{CanSumInner, column_of, matrix_of, product_of, products_of};
 ghost use Rattle.ndarray.specs.Sums.{IsSummable, total};
 
 use crate::base::array::ArrayView;
@@ -88,24 +88,5 @@ impl<'a, 'b, A: LinalgScalar> Entries<usize> for RowsByVector<'a, 'b, A> {
 
     fn entry(&self, at: usize) -> A {
         inner(&self.left.index_axis(Axis(0), at), &self.right)
-    }
-}
-
-/// The inner sums of a vector with the columns of a matrix.
-#[derive(Drop)]
-pub(crate) struct VectorByColumns<'a, 'b, A> {
-    pub(crate) left: ArrayView<'a, A, Ix1>,
-    pub(crate) right: ArrayView<'b, A, Ix2>,
-}
-
-impl<'a, 'b, A: LinalgScalar> Entries<usize> for VectorByColumns<'a, 'b, A> {
-    type Elem = A;
-
-    ghost can_compute = { λ s j. CanSumInner A.Valued (row_of A.Valued s.left) (matrix_of A.Valued s.right) 0 j × (length s.left.lengths ≡ 1) × (length s.right.lengths ≡ 2) × IsGrid s.left };
-
-    ghost computes = { λ s j r. A.meaning r ≡ (product_of A.Valued (row_of A.Valued s.left) (matrix_of A.Valued s.right)).cell 0 j };
-
-    fn entry(&self, at: usize) -> A {
-        inner(&self.left, &self.right.index_axis(Axis(1), at))
     }
 }

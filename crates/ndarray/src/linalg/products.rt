@@ -6,11 +6,11 @@ ghost use Rattle.ndarray.specs.Products.{HasSumsInRange, MakesColumn, MakesMatri
 ghost use Rattle.ndarray.specs.Sums.{IsSummable, total};
 
 use crate::base::array::{Array, ArrayBase};
-use crate::base::dimension::{Dimension, Ix1, Ix2, IxDyn, Lengths};
+use crate::base::dimension::{Ix1, Ix2, IxDyn, Lengths};
 use crate::base::storage::Data;
 use crate::elements::LinalgScalar;
-use crate::linalg::entries::array_of;
-use crate::linalg::inner::{RowsByColumns, RowsByVector, VectorByColumns, inner};
+use crate::linalg::inner::inner;
+use crate::linalg::matrix_products::{matrix_product, row_product};
 use arrayvec::ArrayVec;
 use std::alloc::{AllocError, Global};
 
@@ -127,12 +127,7 @@ impl<A: LinalgScalar, S: Data<Elem = A>, S2: Data<Elem = A>> Dot<ArrayBase<S2, I
     ghost dot_gives = { λ a b r. MakesRow A.Valued (product_of A.Valued (row_of A.Valued a) (matrix_of A.Valued b)) r };
 
     fn dot(&self, alloc: Global, rhs: &ArrayBase<S2, Ix2>) -> Result<Array<A, Ix1>, AllocError> {
-        let (_, n) = rhs.raw_dim().into_pattern();
-        let sums = VectorByColumns {
-            left: self.view(),
-            right: rhs.view(),
-        };
-        array_of(alloc, Ix1(n), sums)
+        row_product(alloc, &self.view(), &rhs.view())
     }
 }
 
@@ -145,12 +140,7 @@ impl<A: LinalgScalar, S: Data<Elem = A>, S2: Data<Elem = A>> Dot<ArrayBase<S2, I
     ghost dot_gives = { λ a b r. MakesColumn A.Valued (product_of A.Valued (matrix_of A.Valued a) (column_of A.Valued b)) r };
 
     fn dot(&self, alloc: Global, rhs: &ArrayBase<S2, Ix1>) -> Result<Array<A, Ix1>, AllocError> {
-        let (m, _) = self.raw_dim().into_pattern();
-        let sums = RowsByVector {
-            left: self.view(),
-            right: rhs.view(),
-        };
-        array_of(alloc, Ix1(m), sums)
+        row_product(alloc, &rhs.view(), &self.t())
     }
 }
 
@@ -163,13 +153,7 @@ impl<A: LinalgScalar, S: Data<Elem = A>, S2: Data<Elem = A>> Dot<ArrayBase<S2, I
     ghost dot_gives = { λ a b r. MakesMatrix A.Valued (product_of A.Valued (matrix_of A.Valued a) (matrix_of A.Valued b)) r };
 
     fn dot(&self, alloc: Global, rhs: &ArrayBase<S2, Ix2>) -> Result<Array<A, Ix2>, AllocError> {
-        let (m, _) = self.raw_dim().into_pattern();
-        let (_, n) = rhs.raw_dim().into_pattern();
-        let sums = RowsByColumns {
-            left: self.view(),
-            right: rhs.view(),
-        };
-        array_of(alloc, Ix2(m, n), sums)
+        matrix_product(alloc, &self.view(), &rhs.view())
     }
 }
 

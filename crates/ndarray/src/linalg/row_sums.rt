@@ -1,0 +1,138 @@
+//! Rows of products: the sums of the products of a vector with each column of a matrix.
+
+ghost use Rattle.std.specs.Prelude.{◌≡◌, ◌+◌, ◌++◌, ◌<◌, ◌≤◌, length, map, replicate, slice_index};
+ghost use Rattle.std.specs.Vec.{vec_capacity};
+ghost use Rattle.ndarray.specs.RowSums.{AddsScaledRow, CanAddScaledRow, CanSumRow, row_sums, row_sums_to};
+
+use crate::base::array::ArrayView;
+use crate::base::axis::Axis;
+use crate::base::dimension::{Dimension, Ix1, Ix2};
+use crate::base::strided::Strided;
+use crate::elements::LinalgScalar;
+use crate::elements::sums::add_product;
+use crate::linalg::inner::{cells_of, inner};
+
+/// Pushes the sums of the products of a vector with each column of a matrix.
+pub(crate) fn push_row<A: LinalgScalar>(
+    sums: &mut Vec<A>,
+    x: &ArrayView<'_, A, Ix1>,
+    right: &ArrayView<'_, A, Ix2>,
+)
+    requires can { CanSumRow A.Valued x.now right.now }
+    requires room { length sums.old.items + slice_index right.now.lengths 1 ≤ vec_capacity sums.old }
+    ensures values { map A.meaning sums.new.items ≡ map A.meaning sums.old.items ++ row_sums A.Valued x.now right.now }
+    ensures capacity { vec_capacity sums.old ≤ vec_capacity sums.new }
+{
+    if has_close_rows(right) {
+        push_by_rows(sums, x, right);
+    } else {
+        push_by_columns(sums, x, right);
+    }
+}
+
+/// Whether a matrix is walked fast by rows: they are long, and their cells lie no farther apart than those of the columns.
+pub(crate) fn has_close_rows<A>(matrix: &ArrayView<'_, A, Ix2>) -> bool {
+    let (_, columns) = matrix.raw_dim().into_pattern();
+    columns >= 8 && matrix.are_closer_along(1, 0)
+}
+
+/// Pushes the sums all at once: of each row of the matrix, the products are added to them.
+fn push_by_rows<A: LinalgScalar>(
+    sums: &mut Vec<A>,
+    x: &ArrayView<'_, A, Ix1>,
+    right: &ArrayView<'_, A, Ix2>,
+)
+    requires can { CanSumRow A.Valued x.now right.now }
+    requires room { length sums.old.items + slice_index right.now.lengths 1 ≤ vec_capacity sums.old }
+    ensures values { map A.meaning sums.new.items ≡ map A.meaning sums.old.items ++ row_sums A.Valued x.now right.now }
+    ensures capacity { vec_capacity sums.old ≤ vec_capacity sums.new }
+{
+    let (_, columns) = right.raw_dim().into_pattern();
+    let before = sums.len();
+    push_zeros(sums, columns);
+    add_rows(&mut sums[before..], x, right);
+}
+
+/// Pushes zeros.
+fn push_zeros<A: LinalgScalar>(sums: &mut Vec<A>, many: usize)
+    requires { length sums.old.items + many ≤ vec_capacity sums.old }
+    ensures items { sums.new.items ≡ sums.old.items ++ replicate many A.zero }
+    ensures capacity { vec_capacity sums.new ≡ vec_capacity sums.old }
+{
+    for _ in 0..many {
+        sums.push_reserved(A::zero());
+    }
+}
+
+/// Adds to sums that are zero the products of a vector with each column of a matrix, row by row of the matrix.
+fn add_rows<A: LinalgScalar>(
+    sums: &mut [A],
+    x: &ArrayView<'_, A, Ix1>,
+    right: &ArrayView<'_, A, Ix2>,
+)
+    requires can { CanSumRow A.Valued x.now right.now }
+    requires zeros { map A.meaning sums.old ≡ row_sums_to A.Valued 0 x.now right.now }
+    ensures { map A.meaning sums.new ≡ row_sums A.Valued x.now right.now }
+{
+    let (rows, _) = right.raw_dim().into_pattern();
+    let mut numbers = cells_of(x.view());
+    for i in 0..rows {
+        let Some(number) = numbers.next() else {
+            unreachable!()
+        };
+        add_scaled(sums, *number, cells_of(right.index_axis(Axis(0), i)));
+    }
+}
+
+/// Adds a number times each cell of a row to the sum at its place.
+fn add_scaled<A: LinalgScalar>(sums: &mut [A], x: A, row: Strided<'_, A>)
+    requires { CanAddScaledRow A.Valued x sums.old row }
+    ensures { AddsScaledRow A.Valued x row.entry sums.old sums.new }
+{
+    match row.side_by_side() {
+        Some(cells) => add_scaled_slice(sums, x, cells),
+        None => add_scaled_steps(sums, x, row),
+    }
+}
+
+/// The same of cells that lie side by side.
+fn add_scaled_slice<A: LinalgScalar>(sums: &mut [A], x: A, cells: &[A])
+    requires { CanAddScaledRow A.Valued x sums.old cells.now }
+    ensures { AddsScaledRow A.Valued x cells.now sums.old sums.new }
+{
+    let mut j = 0;
+    'cells: while j < cells.len() {
+        sums[j] = add_product(sums[j], x, cells[j]);
+        j += 1;
+    }
+}
+
+/// The same of cells that lie a step apart.
+fn add_scaled_steps<A: LinalgScalar>(sums: &mut [A], x: A, row: Strided<'_, A>)
+    requires { CanAddScaledRow A.Valued x sums.old row }
+    ensures { AddsScaledRow A.Valued x row.entry sums.old sums.new }
+{
+    let mut cells = row;
+    let mut j = 0;
+    while let Some(cell) = cells.next() {
+        sums[j] = add_product(sums[j], x, *cell);
+        j += 1;
+    }
+}
+
+/// Pushes the sums one after another: the inner sum with each column.
+fn push_by_columns<A: LinalgScalar>(
+    sums: &mut Vec<A>,
+    x: &ArrayView<'_, A, Ix1>,
+    right: &ArrayView<'_, A, Ix2>,
+)
+    requires can { CanSumRow A.Valued x.now right.now }
+    requires room { length sums.old.items + slice_index right.now.lengths 1 ≤ vec_capacity sums.old }
+    ensures values { map A.meaning sums.new.items ≡ map A.meaning sums.old.items ++ row_sums A.Valued x.now right.now }
+    ensures capacity { vec_capacity sums.old ≤ vec_capacity sums.new }
+{
+    let (_, columns) = right.raw_dim().into_pattern();
+    for j in 0..columns {
+        sums.push_reserved(inner(x, &right.index_axis(Axis(1), j)));
+    }
+}
