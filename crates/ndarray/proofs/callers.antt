@@ -5,6 +5,7 @@ pub mod ColumnOrder
 pub mod Convolving
 pub mod Differences
 pub mod Elementwise
+pub mod EqualSlices
 pub mod Folding
 pub mod IndexLists
 pub mod Joining

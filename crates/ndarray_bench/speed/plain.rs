@@ -1,35 +1,344 @@
-//! The same walks as plain loops over the vectors: `plain N TURNS`.
+//! The same calls as plain loops over the vectors: `plain GROUP N TURNS`.
 
 use std::hint::black_box;
 use std::time::Instant;
 
-const PRODUCTS: [&str; 2] = ["product", "product_best_order"];
-
-const NAMES: [&str; 42] = [
-    "sum", "sum_transposed", "sum_reversed", "sum_stepped", "sums_fit", "sums_fit_transposed", "checked_sum", "sum_axis_rows", "sum_axis_columns", "iter", "iter_transposed", "iter_stepped", "iter_mut", "indexed_iter", "indexed_iter_mut",
-    "to_owned", "to_owned_column_major", "into_iter_of_a_copy", "windows_3x3", "axis_iter", "columns", "zip_one_fold", "zip_one_for_each", "zip_two_fold",
-    "zip_three_fold", "zip_two_for_each", "zip_two_map_collect", "zip_two_map_assign_into",
-    "zip_two_map_assign_into_view", "zip_two_for_each_mixed",
-    "zip_two_fold_column_major", "zip_two_fold_mixed", "zip_two_map_collect_mixed",
-    "ref_add_ref", "ref_add_ref_mixed", "ref_add_row", "ref_add_scalar", "owned_add_ref", "owned_add_scalar", "add_assign",
+const WALKS: [&str; 42] = [
+    "sum", "sum_transposed", "sum_reversed", "sum_stepped", "sums_fit", "sums_fit_transposed", "checked_sum",
+    "sum_axis_rows", "sum_axis_columns", "iter", "iter_transposed", "iter_stepped", "iter_mut", "indexed_iter",
+    "indexed_iter_mut", "to_owned", "to_owned_column_major", "into_iter_of_a_copy", "windows_3x3", "axis_iter",
+    "columns", "zip_one_fold", "zip_one_for_each", "zip_two_fold", "zip_three_fold", "zip_two_for_each",
+    "zip_two_map_collect", "zip_two_map_assign_into", "zip_two_map_assign_into_view", "zip_two_for_each_mixed",
+    "zip_two_fold_column_major", "zip_two_fold_mixed", "zip_two_map_collect_mixed", "ref_add_ref",
+    "ref_add_ref_mixed", "ref_add_row", "ref_add_scalar", "owned_add_ref", "owned_add_scalar", "add_assign",
     "add_assign_mixed", "add_assign_row",
 ];
 
-fn main() {
-    let words: Vec<usize> = std::env::args().skip(1).map(|it| it.parse().unwrap()).collect();
-    let (n, turns) = (words[0], words[1]);
-    let (mut a, b, c) = (vec![3i64; n * n], vec![4i64; n * n], vec![5i64; n * n]);
-    let names: &[&str] = if n <= 256 { &PRODUCTS } else { &NAMES };
-    for name in names {
-        let (mut best, mut answers) = (u128::MAX, 0i64);
-        for _ in 0..turns {
-            let start = Instant::now();
-            let answer = walk(name, n, black_box(&mut a), black_box(&b), black_box(&c));
-            best = best.min(start.elapsed().as_nanos());
-            answers = answers.wrapping_add(black_box(answer));
-        }
-        println!("{name} {} {answers}", best * 1000 / (n * n) as u128);
+const NARROW: [&str; 4] = [
+    "ref_add_ref", "ref_add_scalar", "add_assign", "add_assign_scalar",
+];
+
+const JOINS: [&str; 13] = [
+    "triu", "triu_column_major", "tril", "concatenate_rows", "concatenate_columns", "stack_first", "stack_last",
+    "product_axis_rows", "product_axis_columns", "cumprod_rows", "cumprod_columns", "diff_rows", "diff_columns",
+];
+
+const FILTERS: [&str; 14] = [
+    "box_filter", "indexed_map_collect", "update", "update_view", "update_view_column_major",
+    "update_view_second_columns", "scan_rows", "scan_columns", "zip_four_fold", "zip_six_fold", "zip_column_fold",
+    "zip_view_for_each", "conv_valid_3x3", "conv_full_32",
+];
+
+const PRODUCTS: [&str; 4] = ["product", "product_left_transposed", "product_right_transposed", "product_both_transposed"];
+
+const VECTORS: [&str; 3] = ["vector_times_matrix", "matrix_times_vector", "transposed_times_vector"];
+
+/// Prints the least time of some turns of a call, an item of an n by n table.
+fn report(name: &str, n: usize, turns: usize, mut call: impl FnMut() -> i64) {
+    let (mut best, mut answers) = (u128::MAX, 0i64);
+    for _ in 0..turns {
+        let start = Instant::now();
+        let answer = call();
+        best = best.min(start.elapsed().as_nanos());
+        answers = answers.wrapping_add(black_box(answer));
     }
+    println!("{name} {} {answers}", best * 1000 / (n * n) as u128);
+}
+
+fn main() {
+    let words: Vec<String> = std::env::args().skip(1).collect();
+    let (n, turns): (usize, usize) = (words[1].parse().unwrap(), words[2].parse().unwrap());
+    let (mut a, b, c) = (vec![3i64; n * n], vec![4i64; n * n], vec![5i64; n * n]);
+    match words[0].as_str() {
+        "walks" => {
+            for name in WALKS {
+                report(name, n, turns, || walk(name, n, black_box(&mut a), black_box(&b), black_box(&c)));
+            }
+            let (mut bytes, more_bytes) = (vec![3u8; n * n], vec![4u8; n * n]);
+            let (mut numbers, more_numbers) = (vec![3i32; n * n], vec![4i32; n * n]);
+            for name in NARROW {
+                report(&format!("byte_{name}"), n, turns, || narrow(name, n, black_box(&mut bytes), black_box(&more_bytes), |x, y| x.wrapping_add(y), 1) as i64);
+                report(&format!("word_{name}"), n, turns, || narrow(name, n, black_box(&mut numbers), black_box(&more_numbers), |x, y| x.wrapping_add(y), 1) as i64);
+            }
+        }
+        "joins" => {
+            let (a, left, right) = (vec![3u32; n * n], vec![3u32; (n / 20) * (n / 20)], vec![5u32; 400]);
+            for name in JOINS {
+                report(name, n, turns, || join(name, n, black_box(&a)) as i64);
+            }
+            report("kron", n, turns, || blocks(n / 20, black_box(&left), 20, black_box(&right)) as i64);
+        }
+        "filters" => {
+            for name in FILTERS {
+                report(name, n, turns, || filter(name, n, black_box(&mut a), black_box(&b)));
+            }
+        }
+        "products" | "vectors" => {
+            let names: &[&str] = if words[0] == "products" { &PRODUCTS } else { &VECTORS };
+            for name in names {
+                report(name, n, turns, || product(name, n, black_box(&b), black_box(&c)));
+            }
+        }
+        _ => {}
+    }
+}
+
+#[inline(never)]
+fn narrow<A: Copy>(name: &str, n: usize, a: &mut [A], b: &[A], add: impl Fn(A, A) -> A, one: A) -> A {
+    match name {
+        "ref_add_ref" => return a.iter().zip(b).map(|(x, y)| add(*x, *y)).collect::<Vec<A>>()[n + 1],
+        "ref_add_scalar" => return a.iter().map(|x| add(*x, one)).collect::<Vec<A>>()[n + 1],
+        "add_assign" => {
+            for (x, y) in a.iter_mut().zip(b) {
+                *x = add(*x, *y);
+            }
+        }
+        _ => {
+            for x in a.iter_mut() {
+                *x = add(*x, one);
+            }
+        }
+    }
+    a[n + 1]
+}
+
+/// Calls on residues modulo 2^32.
+#[inline(never)]
+fn join(name: &str, n: usize, a: &[u32]) -> u32 {
+    let mut made: Vec<u32> = Vec::with_capacity(2 * n * n);
+    match name {
+        "triu" | "triu_column_major" => {
+            for (i, row) in a.chunks(n).enumerate() {
+                made.resize(made.len() + i, 0);
+                made.extend_from_slice(&row[i..]);
+            }
+        }
+        "tril" => {
+            for (i, row) in a.chunks(n).enumerate() {
+                made.extend_from_slice(&row[..i + 1]);
+                made.resize(made.len() + n - i - 1, 0);
+            }
+        }
+        "concatenate_rows" | "stack_first" => {
+            made.extend_from_slice(a);
+            made.extend_from_slice(a);
+        }
+        "concatenate_columns" => {
+            for row in a.chunks(n) {
+                made.extend_from_slice(row);
+                made.extend_from_slice(row);
+            }
+        }
+        "stack_last" => {
+            made.resize(2 * n * n, 0);
+            for (pair, x) in made.chunks_exact_mut(2).zip(a) {
+                pair.copy_from_slice(&[*x, *x]);
+            }
+        }
+        "product_axis_rows" => made.extend(a.chunks(n).map(|row| row.iter().fold(1u32, |p, x| p.wrapping_mul(*x)))),
+        "product_axis_columns" => {
+            made.resize(n, 1);
+            for row in a.chunks(n) {
+                for (p, x) in made.iter_mut().zip(row) {
+                    *p = p.wrapping_mul(*x);
+                }
+            }
+        }
+        "cumprod_rows" => {
+            for row in a.chunks(n) {
+                let mut product = 1u32;
+                for x in row {
+                    product = product.wrapping_mul(*x);
+                    made.push(product);
+                }
+            }
+        }
+        "cumprod_columns" => {
+            made.extend_from_slice(a);
+            for i in 1..n {
+                let (before, row) = made.split_at_mut(i * n);
+                for (p, q) in row[..n].iter_mut().zip(&before[(i - 1) * n..]) {
+                    *p = p.wrapping_mul(*q);
+                }
+            }
+        }
+        "diff_rows" => {
+            for row in a.chunks(n) {
+                made.extend(row[1..].iter().zip(row).map(|(y, x)| y.wrapping_sub(*x)));
+            }
+        }
+        _ => made.extend(a[n..].iter().zip(a).map(|(y, x)| y.wrapping_sub(*x))),
+    }
+    made[1]
+}
+
+#[inline(never)]
+fn blocks(n: usize, a: &[u32], m: usize, b: &[u32]) -> u32 {
+    let mut made = Vec::with_capacity(n * n * m * m);
+    for left in a.chunks(n) {
+        for right in b.chunks(m) {
+            for x in left {
+                made.extend(right.iter().map(|y| x.wrapping_mul(*y)));
+            }
+        }
+    }
+    made[1]
+}
+
+/// The sum of each square of 3 by 3, of what its cells count.
+#[inline(always)]
+fn each_square(n: usize, a: &[i64], count: impl Fn(usize, usize, i64) -> i64) -> i64 {
+    let mut made = Vec::with_capacity(n * n);
+    for i in 0..n - 2 {
+        for j in 0..n - 2 {
+            let mut sum = 0i64;
+            for k in 0..3 {
+                for l in 0..3 {
+                    sum = sum.wrapping_add(count(k, l, a[(i + k) * n + j + l]));
+                }
+            }
+            made.push(sum);
+        }
+    }
+    made[n]
+}
+
+#[inline(never)]
+fn filter(name: &str, n: usize, a: &mut [i64], b: &[i64]) -> i64 {
+    let mut sum = 0i64;
+    match name {
+        "box_filter" => return each_square(n, a, |_, _, x| x),
+        "conv_valid_3x3" => return each_square(n, a, |k, l, x| x.wrapping_mul(b[(2 - k) * n + 2 - l])),
+        "conv_full_32" => {
+            let mut made = vec![0i64; a.len() + 31];
+            for (i, x) in a.iter().enumerate() {
+                for (sum, y) in made[i..i + 32].iter_mut().zip(&b[..32]) {
+                    *sum = sum.wrapping_add(x.wrapping_mul(*y));
+                }
+            }
+            return made[1];
+        }
+        "indexed_map_collect" => {
+            let mut made = Vec::with_capacity(n * n);
+            for (i, row) in a.chunks(n).enumerate() {
+                made.extend(row.iter().enumerate().map(|(j, x)| if i < j { x.wrapping_add(1) } else { *x }));
+            }
+            return made[n + 1];
+        }
+        "update" | "update_view" => {
+            for (i, row) in a.chunks_mut(n).enumerate() {
+                for (j, x) in row.iter_mut().enumerate() {
+                    *x = if i < j { x.wrapping_add(1) } else { *x };
+                }
+            }
+        }
+        "update_view_column_major" => {
+            for (j, column) in a.chunks_mut(n).enumerate() {
+                for (i, x) in column.iter_mut().enumerate() {
+                    *x = if i < j { x.wrapping_add(1) } else { *x };
+                }
+            }
+        }
+        "update_view_second_columns" => {
+            for (i, row) in a.chunks_mut(n).enumerate() {
+                for (j, x) in row.iter_mut().step_by(2).enumerate() {
+                    *x = if i < j { x.wrapping_add(1) } else { *x };
+                }
+            }
+        }
+        "scan_rows" => {
+            for row in a.chunks_mut(n) {
+                let mut sum = 0i64;
+                for x in row {
+                    sum = sum.wrapping_add(*x);
+                    *x = sum;
+                }
+            }
+        }
+        "scan_columns" => {
+            for i in 1..n {
+                let (before, row) = a.split_at_mut(i * n);
+                for (sum, x) in row[..n].iter_mut().zip(&before[(i - 1) * n..]) {
+                    *sum = sum.wrapping_add(*x);
+                }
+            }
+        }
+        "zip_four_fold" => {
+            for (((w, x), y), z) in a.iter().zip(b).zip(a.iter()).zip(b) {
+                sum = sum.wrapping_add(w.wrapping_mul(*x)).wrapping_add(y.wrapping_mul(*z));
+            }
+        }
+        "zip_six_fold" => {
+            for (((((u, v), w), x), y), z) in a.iter().zip(b).zip(a.iter()).zip(b).zip(a.iter()).zip(b) {
+                sum = sum.wrapping_add(u.wrapping_mul(*v)).wrapping_add(w.wrapping_mul(*x)).wrapping_add(y.wrapping_mul(*z));
+            }
+        }
+        "zip_column_fold" => {
+            for (row, y) in a.chunks(n).zip(b.chunks(n)) {
+                for x in row {
+                    sum = sum.wrapping_add(x.wrapping_mul(y[0]));
+                }
+            }
+        }
+        _ => {
+            for (x, y) in a.iter_mut().zip(b) {
+                *x = x.wrapping_add(*y);
+            }
+        }
+    }
+    sum
+}
+
+/// Products in the best order of loops for the layouts.
+#[inline(never)]
+fn product(name: &str, n: usize, a: &[i64], b: &[i64]) -> i64 {
+    let mut made = vec![0i64; n * n];
+    match name {
+        "product" | "product_both_transposed" => {
+            // Of two sides by columns the product by columns is that of the sides exchanged, by rows.
+            let (a, b) = if name == "product" { (a, b) } else { (b, a) };
+            for (sums, row) in made.chunks_mut(n).zip(a.chunks(n)) {
+                for (x, other) in row.iter().zip(b.chunks(n)) {
+                    add_scaled(sums, *x, other);
+                }
+            }
+        }
+        "product_left_transposed" => {
+            for (i, sums) in made.chunks_mut(n).enumerate() {
+                for (row, other) in a.chunks(n).zip(b.chunks(n)) {
+                    add_scaled(sums, row[i], other);
+                }
+            }
+        }
+        "product_right_transposed" => {
+            for (sums, row) in made.chunks_mut(n).zip(a.chunks(n)) {
+                for (sum, column) in sums.iter_mut().zip(b.chunks(n)) {
+                    *sum = inner(row, column);
+                }
+            }
+        }
+        "matrix_times_vector" => {
+            for (sum, row) in made.iter_mut().zip(b.chunks(n)) {
+                *sum = inner(row, &a[..n]);
+            }
+        }
+        _ => {
+            for (x, row) in a[..n].iter().zip(b.chunks(n)) {
+                add_scaled(&mut made[..n], *x, row);
+            }
+        }
+    }
+    made[1]
+}
+
+fn add_scaled(sums: &mut [i64], x: i64, ys: &[i64]) {
+    for (sum, y) in sums.iter_mut().zip(ys) {
+        *sum = sum.wrapping_add(x.wrapping_mul(*y));
+    }
+}
+
+fn inner(xs: &[i64], ys: &[i64]) -> i64 {
+    xs.iter().zip(ys).fold(0, |sum: i64, (x, y)| sum.wrapping_add(x.wrapping_mul(*y)))
 }
 
 fn sum_of<'a>(numbers: impl Iterator<Item = &'a i64>) -> i64 {
@@ -181,26 +490,6 @@ fn walk(name: &str, n: usize, a: &mut [i64], b: &[i64], c: &[i64]) -> i64 {
             let mut made = Vec::with_capacity(n * n);
             for cells in a.chunks(n) {
                 made.extend(cells.iter().zip(row).map(|(x, y)| x.wrapping_add(*y)));
-            }
-            return made[n + 1];
-        }
-        "product" => {
-            let mut made = Vec::with_capacity(n * n);
-            for row in b.chunks(n) {
-                for j in 0..n {
-                    made.push(row.iter().enumerate().fold(0, |sum: i64, (k, x)| sum.wrapping_add(x.wrapping_mul(c[k * n + j]))));
-                }
-            }
-            return made[n + 1];
-        }
-        "product_best_order" => {
-            let mut made = vec![0i64; n * n];
-            for (sums, row) in made.chunks_mut(n).zip(b.chunks(n)) {
-                for (x, other) in row.iter().zip(c.chunks(n)) {
-                    for (sum, y) in sums.iter_mut().zip(other) {
-                        *sum = sum.wrapping_add(x.wrapping_mul(*y));
-                    }
-                }
             }
             return made[n + 1];
         }

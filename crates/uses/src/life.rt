@@ -23,13 +23,14 @@ ghost use Rattle.uses.specs.Life.{generation, living, living_in_row, next_state_
 use ndarray::{Array, ArrayBase, ArrayView, Data, Dimension, Ix2, Zip};
 use std::alloc::{AllocError, Global};
 
-/// The grid after a number of steps.
+/// The grid after a number of steps. The error is allocation failure.
 pub fn after<S: Data<Elem = bool>>(
     alloc: Global,
     grid: &ArrayBase<S, Ix2>,
     steps: u64,
 ) -> Result<Array<bool, Ix2>, AllocError>
-    ensures { IfOk result (λ last. last ≡ generation steps grid.now) }
+    ensures cells { IfOk result (λ last. last ≡ generation steps grid.now) }
+    ensures empty { size grid.now.lengths ≡ 0 → IsOk result }
 {
     let mut now = grid.to_owned(alloc)?;
     for _ in 0..steps {

@@ -14,7 +14,7 @@
 //! with_totals(alloc, &table)?; // [[1, 2, 3], [4, 5, 6], [5, 7, 9]]
 //! ```
 
-ghost use Rattle.std.specs.Prelude.{◌≡◌, ◌≢◌, ◌↔◌, ◌+◌, ◌∷◌, [], drop, slice_index, Err, Some, FitsSigned, IfErr, IfOk, IfSome, IsSome};
+ghost use Rattle.std.specs.Prelude.{◌≡◌, ◌≢◌, ◌↔◌, ◌+◌, ◌∷◌, [], drop, slice_index, Err, Some, FitsSigned, IfErr, IfOk, IfSome, IsOk, IsSome};
 ghost use Rattle.std.specs.Int.{w64};
 ghost use Rattle.ndarray.specs.Errors.{shape_error};
 ghost use Rattle.ndarray.specs.Grid.{IsGrid, array_by};
@@ -62,6 +62,7 @@ pub fn with_totals<S: Data<Elem = i64>>(
 ) -> Result<Option<Array<i64, Ix2>>, StackError>
     ensures fits { IfOk result (λ made. IsSome made ↔ IsSummable int_sums (FitsSigned w64) table.now.cells) }
     ensures errors { (k : ErrorKind) → result ≡ Err (Shape (shape_error k)) → concatenate_error 0 (table.now.lengths ∷ (1 ∷ drop 1 table.now.lengths) ∷ []) ≡ Some k }
+    ensures unfit { (IsSummable int_sums (FitsSigned w64) table.now.cells → ⊥) → IsOk result }
     ensures totals { IfOk result (λ made. IfSome made (λ t. t ≡ array_by ((slice_index table.now.lengths 0 + 1) ∷ drop 1 table.now.lengths) (total_below table.now))) }
 {
     let table = table.view();

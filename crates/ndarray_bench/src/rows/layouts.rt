@@ -18,6 +18,8 @@ pub enum Layout {
     Stepped,
     /// From the last place to the first, with each axis reversed.
     Reversed,
+    /// One after another, the last index but one fastest; of three axes or more.
+    MiddleFast,
 }
 
 /// All layouts.
@@ -26,6 +28,7 @@ pub const LAYOUTS: &[Layout] = &[
     Layout::ColumnMajor,
     Layout::Stepped,
     Layout::Reversed,
+    Layout::MiddleFast,
 ];
 
 /// What the places of a larger table hold that the table does not reach.
@@ -38,6 +41,7 @@ impl fmt::Display for Layout {
             Layout::ColumnMajor => "column-major",
             Layout::Stepped => "every second place",
             Layout::Reversed => "reversed",
+            Layout::MiddleFast => "last axis but one fastest",
         };
         write!(f, "{name}")
     }
@@ -48,7 +52,8 @@ impl fmt::Display for Layout {
 pub struct Table {
     /// How they lie.
     pub layout: Layout,
-    // The lengths of what lies in memory, larger than the table's where it has every second place.
+    // The lengths of what lies in memory: larger than the table's where it has every second place, and with the last two exchanged
+    // where the last index but one is fastest.
     lengths: IxDyn,
     /// What lies in memory.
     pub cells: Vec<i64>,
@@ -69,6 +74,9 @@ impl Table {
         }
         if layout == Layout::Stepped {
             return spread(alloc, lengths, cells);
+        }
+        if layout == Layout::MiddleFast {
+            return with_middle_fast(alloc, lengths, cells);
         }
         let cells = arrange(alloc, lengths.slice(), cells, layout)?;
         Ok(Table {
@@ -138,6 +146,10 @@ fn arrange(
 
 /// Leaves of what lies in memory the table.
 pub fn cut<S: Data>(array: &mut ArrayBase<S, IxDyn>, layout: Layout) {
+    let ndim = array.ndim();
+    if layout == Layout::MiddleFast && ndim >= 2 {
+        array.swap_axes(ndim - 2, ndim - 1);
+    }
     let second = Slice::new(0, None, 2);
     for axis in 0..array.ndim() {
         if layout == Layout::Stepped && array.slice_ok(Axis(axis), second) {
@@ -176,6 +188,48 @@ fn row_position(lengths: &[usize], place: usize) -> usize {
         rest = rest.checked_div(*length).unwrap_or(0);
     }
     position
+}
+
+/// The table with the last index but one fastest, where there are three axes or more.
+fn with_middle_fast(alloc: Global, lengths: IxDyn, cells: Vec<i64>) -> Result<Table, AllocError> {
+    let ndim = lengths.ndim();
+    if ndim < 3 {
+        return Ok(Table::in_rows(lengths, cells));
+    }
+    let (rows, columns) = (lengths.axis(ndim - 2), lengths.axis(ndim - 1));
+    let mut exchanged = lengths;
+    exchanged.set_axis(ndim - 2, columns);
+    exchanged.set_axis(ndim - 1, rows);
+    Ok(Table {
+        layout: Layout::MiddleFast,
+        lengths: exchanged,
+        cells: by_columns(alloc, rows, columns, cells.as_slice())?,
+    })
+}
+
+/// The cells of tables of so many rows and columns, one table after another, each with the row index fastest.
+fn by_columns(
+    alloc: Global,
+    rows: usize,
+    columns: usize,
+    cells: &[i64],
+) -> Result<Vec<i64>, AllocError> {
+    let mut turned = Vec::new(alloc);
+    let table = rows.wrapping_mul(columns);
+    for place in 0..cells.len() {
+        let inside = place.checked_rem(table).unwrap_or(0);
+        let row = inside.checked_rem(rows).unwrap_or(0);
+        let column = inside.checked_div(rows).unwrap_or(0);
+        let position = place
+            .wrapping_sub(inside)
+            .wrapping_add(row.wrapping_mul(columns))
+            .wrapping_add(column);
+        let Some(cell) = cells.get(position) else {
+            return Ok(turned);
+        };
+        turned.push(*cell)?;
+    }
+    Ok(turned)
 }
 
 /// The table at every second place along each axis of a larger one, where that is not too large.
