@@ -18,6 +18,7 @@ pub mod LaneSums
 pub mod LaneTests
 pub mod LaneTotals
 pub mod Matrices
+pub mod ProductRows
 pub mod Products
 pub mod RunningProducts
 pub mod Scans
