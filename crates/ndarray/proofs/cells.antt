@@ -19,6 +19,7 @@ pub mod LaneSums
 pub mod LaneTests
 pub mod LaneTotals
 pub mod Matrices
+pub mod ProductRows
 pub mod Products
 pub mod RowProducts
 pub mod RunningProducts

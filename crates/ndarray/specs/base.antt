@@ -12,6 +12,7 @@ pub mod RegionParts
 pub mod PlaceMap
 pub mod Places
 pub mod Ranks
+pub mod RunningProducts
 pub mod Masks
 pub mod Builder
 pub mod Slots

@@ -18,7 +18,7 @@ use Rattle.ndarray.proofs.algebra.Stacks.{tabulate-whole}
 use Rattle.ndarray.proofs.boxes.Orders.{row_order-one}
 use Rattle.ndarray.proofs.cells.Cells.{cell-Some}
 use Rattle.ndarray.proofs.cells.Matrices.{row-values}
-use Rattle.ndarray.proofs.convolution.OneAxis.{map-range-below}
+use Rattle.ndarray.proofs.sums.RowSums.{map-range-below}
 use Rattle.ndarray.proofs.lists.Elements.{map-same, mapped-all}
 use Rattle.ndarray.proofs.lists.FlatMaps.{flat_map-same, map-flat_map}
 use Rattle.ndarray.proofs.lists.Ranges.{All-range, flat_map-blocks, flat_map-range, map-blocks}

@@ -15,6 +15,7 @@ use Rattle.ndarray.specs.Subviews.{lane, lanes_of}
 use Rattle.ndarray.specs.declared.base.shape.Order.TheVariants.{RowMajor}
 use Rattle.ndarray.specs.base.Strides.{AreStridesOf}
 use Rattle.ndarray.specs.base.Ranks.{axis_in, block_in, rank}
+use Rattle.ndarray.specs.base.RunningProducts.{AreBlocks, AtProduct, RunningProducts}
 use Rattle.ndarray.proofs.boxes.Boxes.{InBox-length, InBox-get, InBox-set, InBox-drop, InBox-some}
 use Rattle.ndarray.proofs.boxes.Orders.{box_in-at, box_in-back, length-box_in, rank_in-lt}
 use Rattle.ndarray.proofs.boxes.Walks.{rank_in-set}
@@ -33,7 +34,7 @@ slice_get-before [] ys k lt = absurd (omega arith)
 slice_get-before (x ∷ xs) ys zero lt = refl
 slice_get-before (x ∷ xs) ys (suc k) lt = slice_get-before xs ys k (omega arith)
 
-slice_get-seam : {X : Type 0} (xs : List X) (y : X) (ys : List X) → slice_get (xs ++ y ∷ ys) (length xs) ≡ Some y
+pub slice_get-seam : {X : Type 0} (xs : List X) (y : X) (ys : List X) → slice_get (xs ++ y ∷ ys) (length xs) ≡ Some y
 slice_get-seam [] y ys = refl
 slice_get-seam (x ∷ xs) y ys = slice_get-seam xs y ys
 
@@ -48,23 +49,6 @@ cumulate-on : {A : Type 0} (can : A → A → Type 0) (gives : A → A → A →
     → ((j : ℕ) (x : A) → j < v → slice_get xs (suc j) ≡ Some x → gives x (p j) (p (suc j))) → (x : A) → slice_get xs (suc v) ≡ Some x → can x (p v)
 cumulate-on can gives [] p v h first chain x e = absurd (cc)
 cumulate-on can gives (y ∷ xs) p v h first chain x e = let same : y ≡ p 0 = cc in multiply-on can gives xs p v (subst (λ z. CanMultiplyOn can gives z xs) same h) chain x e
-
-module _ {A : Type 0} (gives : A → A → A → Type 0) (g : Grid A) (k : ℕ) where
-  -- what is at an index list of the products so far
-  record AtProduct (ms : List A) (is : List ℕ) : Type 0 where
-    first : (x : A) → get_or is k 0 ≡ 0 → cell g is ≡ Some x → slice_get ms (rank g.lengths is) ≡ Some x
-    next : (v : ℕ) (x p : A) → get_or is k 0 ≡ suc v → cell g is ≡ Some x → slice_get ms (rank g.lengths (set is k v)) ≡ Some p → (z : A) × (slice_get ms (rank g.lengths is) ≡ Some z) × gives x p z
-
-  -- these products have been pushed, and these index lists are left
-  pub record RunningProducts (ms : List A) (left : List (List ℕ)) : Type 0 where
-    pub indices : left ≡ drop (length ms) (row_order g.lengths)
-    so_far : (is : List ℕ) → InBox g.lengths is → rank g.lengths is < length ms → AtProduct ms is
-
--- neighbours along the axis k are block places apart in row order
-pub record AreBlocks {A : Type 0} (g : Grid A) (k block : ℕ) : Type 0 where
-  whole : IsGrid g
-  below : k < length g.lengths
-  is_block : block ≡ block_in RowMajor g.lengths (length g.lengths - 1 - k)
 
 pub own-blocks : {A : Type 0} (g : Grid A) (k : ℕ) → IsGrid g → k < length g.lengths → AreBlocks g k (block_in RowMajor g.lengths (length g.lengths - 1 - k))
 own-blocks g k whole below = record { whole = whole; below = below; is_block = refl }
@@ -109,7 +93,7 @@ module _ {A : Type 0} (g : Grid A) (k block : ℕ) (blocks : AreBlocks g k block
 
 module _ {A : Type 0} (gives : A → A → A → Type 0) (g : Grid A) (k block : ℕ) (blocks : AreBlocks g k block) where
   pub products-start : (left : List (List ℕ)) → left ≡ row_order g.lengths → RunningProducts gives g k [] left
-  products-start left e = record { indices = e; so_far = λ is b r. absurd (omega arith) }
+  products-start left e = record { indices = e; room = omega arith; so_far = λ is b r. absurd (omega arith) }
 
   -- the next index list is i
   module _ (ms : List A) (i : List ℕ) (left left' : List (List ℕ)) (h : RunningProducts gives g k ms left) (next_i : left ≡ i ∷ left') where
@@ -136,6 +120,9 @@ module _ {A : Type 0} (gives : A → A → A → Type 0) (g : Grid A) (k block :
     pub products-room : length ms < size g.lengths
     products-room = here.room
 
+    pub products-place : rank g.lengths i ≡ length ms
+    products-place = here.place
+
     pub products-axis : length i ≡ length g.lengths
     products-axis = InBox-length g.lengths i here.within
 
@@ -146,8 +133,8 @@ module _ {A : Type 0} (gives : A → A → A → Type 0) (g : Grid A) (k block :
         let e = here.place in
         (block-pos g k block blocks i here.within, omega (arith, r, e))
 
-    before : (v : ℕ) → get_or i k 0 ≡ suc v → rank g.lengths (set i k v) ≡ length ms - block
-    before v e = let r = rank-back g k block blocks i v here.within e in let p = here.place in omega (arith, r, p)
+    pub products-before : (v : ℕ) → get_or i k 0 ≡ suc v → rank g.lengths (set i k v) ≡ length ms - block
+    products-before v e = let r = rank-back g k block blocks i v here.within e in let p = here.place in omega (arith, r, p)
 
     only-one : (is : List ℕ) → InBox g.lengths is → rank g.lengths is ≡ length ms → is ≡ i
     only-one is b r = sym (box_in-at RowMajor g.lengths is [] b) ∙ (ap (λ q. get_or (row_order g.lengths) q []) (r ∙ sym here.place) ∙ box_in-at RowMajor g.lengths i [] here.within)
@@ -160,7 +147,7 @@ module _ {A : Type 0} (gives : A → A → A → Type 0) (g : Grid A) (k block :
         let at_here : AtProduct gives g k (ms ++ z ∷ []) i = record {
           first = λ y zero e. last ∙ (ap Some (is_first zero) ∙ (sym here_x ∙ e));
           next = λ v y p some e q.
-              let at = before v some in
+              let at = products-before v some in
               let pos = block-pos g k block blocks i here.within in
               let far = products-back (omega arith) in
               let same : y ≡ x = (let w = sym e ∙ here_x in cc) in
@@ -169,6 +156,7 @@ module _ {A : Type 0} (gives : A → A → A → Type 0) (g : Grid A) (k block :
         } in
         record {
           indices = here.indices ∙ ap (λ n. drop n (row_order g.lengths)) (sym long);
+          room = let q = here.room in omega (arith, long, q);
           so_far = λ is b r. elim (cases_lt (rank g.lengths is) (length ms)) [
             | inl earlier ↦
                 (let a = h.so_far is b earlier in
@@ -205,7 +193,7 @@ module _ {A : Type 0} (gives : A → A → A → Type 0) (g : Grid A) (k block :
         let value : ℕ → A = λ j. get_or ms (rank g.lengths (n j)) x in
         let at : (j : ℕ) → j ≤ v → slice_get ms (rank g.lengths (n j)) ≡ Some (value j) = λ j le. slice_get-get_or ms (rank g.lengths (n j)) x (low j le) in
         let lane_at = lane-cell g blocks.whole k blocks.below i b in
-        let last : value v ≡ p = (let s = sym (at v (omega arith)) ∙ (ap (slice_get ms) (before v ev) ∙ at_p) in cc) in
+        let last : value v ≡ p = (let s = sym (at v (omega arith)) ∙ (ap (slice_get ms) (products-before v ev) ∙ at_p) in cc) in
         let (x0, e0) = cell-Some g blocks.whole (n 0) (box 0 (omega arith)) in
         subst (can x) last
         (cumulate-on can gives (lane g k (remove i k)).cells value v (may (remove i k) (lane g k (remove i k)) (lane-among g blocks.whole k blocks.below i b))
@@ -218,12 +206,12 @@ module _ {A : Type 0} (gives : A → A → A → Type 0) (g : Grid A) (k block :
         x (lane_at (suc v) (omega (arith, fits)) ∙ (ap (cell g) (ap (set i k) (sym ev) ∙ set-get_or i k 0) ∙ here_x)))
 
   -- nothing is left
-  pub products-all : (ms : List A) (left : List (List ℕ)) → RunningProducts gives g k ms left → length ms ≤ size g.lengths → left ≡ [] → length ms ≡ size g.lengths
-  products-all ms left h le none =
+  pub products-all : (ms : List A) (left : List (List ℕ)) → RunningProducts gives g k ms left → left ≡ [] → length ms ≡ size g.lengths
+  products-all ms left h none =
       let long = length-box_in RowMajor g.lengths in
       let dropped = length-drop (length ms) (row_order g.lengths) in
       let z = ap length (sym h.indices ∙ none) in
-      omega (arith, z, dropped, long, le)
+      omega (arith, z, dropped, long, h.room)
 
   -- the array of all of them
   pub cumulates-of : (ms : List A) (left : List (List ℕ)) (r : Grid A) → RunningProducts gives g k ms left → length ms ≡ size g.lengths → IsGrid r → r.lengths ≡ g.lengths → cells_in RowMajor r ≡ ms → Cumulates gives k g r

@@ -1,10 +1,12 @@
 //! Running products along an axis.
 
-ghost use Rattle.std.specs.Prelude.{◌≡◌, ◌<◌, ◌≤◌, ◌-◌, length, slice_get, IfOk, IsOk, Some};
+ghost use Rattle.std.specs.Prelude.{◌≡◌, ◌≢◌, ◌<◌, ◌≤◌, ◌-◌, ◌++◌, List, ℕ, length, slice_get, IfOk, IsOk, Some};
 ghost use Rattle.ndarray.specs.AlongAxis.{CanCumulate, Cumulates};
 ghost use Rattle.ndarray.specs.Elementwise.{CanMap};
 ghost use Rattle.ndarray.specs.Index.{size};
 ghost use Rattle.ndarray.specs.Subviews.{lanes_of};
+ghost use Rattle.ndarray.specs.base.Ranks.{row_from};
+ghost use Rattle.ndarray.specs.base.RunningProducts.{AreBlocks, RunningProducts};
 
 use crate::base::array::{Array, ArrayBase, ArrayView};
 use crate::base::axis::Axis;
@@ -12,7 +14,8 @@ use crate::base::builder::ArrayBuilder;
 use crate::base::dimension::Lengths;
 use crate::base::layout::default_strides;
 use crate::base::storage::Data;
-use crate::order::{Order, Walk};
+use crate::order::rows::BoxRows;
+use crate::order::{Order, Row};
 use std::alloc::{AllocError, Global};
 use std::ops::Mul;
 
@@ -39,7 +42,7 @@ impl<A: Copy + Mul<A, Output = A>, S: Data<Elem = A>, D: Lengths> ArrayBase<S, D
     }
 }
 
-/// The running products along an axis of a view.
+/// The running products along an axis of a view, row by row.
 fn running_products<A: Copy + Mul<A, Output = A>, D: Lengths>(
     alloc: Global,
     array: &ArrayView<'_, A, D>,
@@ -55,14 +58,97 @@ fn running_products<A: Copy + Mul<A, Output = A>, D: Lengths>(
     // How many cells there are from one to the next along the axis.
     let step = default_strides(&dim, Order::RowMajor).axis(axis.0);
     let mut products = ArrayBuilder::with_capacity(alloc, array.raw_dim(), Order::RowMajor)?;
-    for index in Walk::new(dim, Order::RowMajor) {
-        let product = next_product(array.item(&index), index.axis(axis.0), &products, step);
-        products.push(product);
+    let mut rows = BoxRows::new(dim, Order::RowMajor);
+    while let Some(row) = rows.next() {
+        products = with_row(products, array, axis.0, step, &row);
     }
     Ok(products.finish())
 }
 
+/// Pushes the products of a row.
+fn with_row<A: Copy + Mul<A, Output = A>, D: Lengths>(
+    products: ArrayBuilder<A, D>,
+    array: &ArrayView<'_, A, D>,
+    axis: usize,
+    step: usize,
+    row: &Row<D>,
+) -> ArrayBuilder<A, D>
+    requires step { AreBlocks array.now axis step }
+    requires defined { CanMap (λ lane. CanCumulate A.can_mul A.mul_gives lane.cells) (lanes_of array.now axis) }
+    requires lengths { products.lengths ≡ array.now.lengths }
+    requires some { 0 < row.now.count }
+    requires next { (rest : List (List ℕ)) × RunningProducts A.mul_gives array.now axis products.cells (row_from (D.numbers row.now.first) row.now.axis row.now.count ++ rest) }
+    ensures lengths { result.lengths ≡ products.lengths }
+    ensures order { result.order ≡ products.order }
+    ensures pushed { (rest : List (List ℕ)) → RunningProducts A.mul_gives array.now axis products.cells (row_from (D.numbers row.now.first) row.now.axis row.now.count ++ rest) → RunningProducts A.mul_gives array.now axis result.cells rest }
+{
+    if row.axis == axis {
+        with_lane(products, array, step, row)
+    } else {
+        with_other_row(products, array, axis, step, row)
+    }
+}
+
+/// The same of a row along the axis: each product but the first is made of the one before it.
+fn with_lane<A: Copy + Mul<A, Output = A>, D: Lengths>(
+    products: ArrayBuilder<A, D>,
+    array: &ArrayView<'_, A, D>,
+    step: usize,
+    row: &Row<D>,
+) -> ArrayBuilder<A, D>
+    requires step { AreBlocks array.now row.now.axis step }
+    requires defined { CanMap (λ lane. CanCumulate A.can_mul A.mul_gives lane.cells) (lanes_of array.now row.now.axis) }
+    requires lengths { products.lengths ≡ array.now.lengths }
+    requires some { 0 < row.now.count }
+    requires next { (rest : List (List ℕ)) × RunningProducts A.mul_gives array.now row.now.axis products.cells (row_from (D.numbers row.now.first) row.now.axis row.now.count ++ rest) }
+    ensures lengths { result.lengths ≡ products.lengths }
+    ensures order { result.order ≡ products.order }
+    ensures pushed { (rest : List (List ℕ)) → RunningProducts A.mul_gives array.now row.now.axis products.cells (row_from (D.numbers row.now.first) row.now.axis row.now.count ++ rest) → RunningProducts A.mul_gives array.now row.now.axis result.cells rest }
+{
+    let mut cells = array.cells_along(&row.first, row.axis, row.count);
+    let Some(first) = cells.next() else {
+        unreachable!()
+    };
+    let mut products = products;
+    let mut product = next_product(first, row.first.axis(row.axis), &products, step);
+    products.push(product);
+    while let Some(cell) = cells.next() {
+        product = *cell * product;
+        products.push(product);
+    }
+    products
+}
+
+/// The same of a row of which all cells have one index on the axis.
+fn with_other_row<A: Copy + Mul<A, Output = A>, D: Lengths>(
+    products: ArrayBuilder<A, D>,
+    array: &ArrayView<'_, A, D>,
+    axis: usize,
+    step: usize,
+    row: &Row<D>,
+) -> ArrayBuilder<A, D>
+    requires step { AreBlocks array.now axis step }
+    requires defined { CanMap (λ lane. CanCumulate A.can_mul A.mul_gives lane.cells) (lanes_of array.now axis) }
+    requires lengths { products.lengths ≡ array.now.lengths }
+    requires other { row.now.axis ≢ axis }
+    requires some { 0 < row.now.count }
+    requires next { (rest : List (List ℕ)) × RunningProducts A.mul_gives array.now axis products.cells (row_from (D.numbers row.now.first) row.now.axis row.now.count ++ rest) }
+    ensures lengths { result.lengths ≡ products.lengths }
+    ensures order { result.order ≡ products.order }
+    ensures pushed { (rest : List (List ℕ)) → RunningProducts A.mul_gives array.now axis products.cells (row_from (D.numbers row.now.first) row.now.axis row.now.count ++ rest) → RunningProducts A.mul_gives array.now axis result.cells rest }
+{
+    let index = row.first.axis(axis);
+    let mut cells = array.cells_along(&row.first, row.axis, row.count);
+    let mut products = products;
+    while let Some(cell) = cells.next() {
+        let product = next_product(cell, index, &products, step);
+        products.push(product);
+    }
+    products
+}
+
 /// The product at a cell: the cell itself at index 0 of the axis, else times the product that was pushed `step` pushes ago.
+#[inline(always)]
 fn next_product<A: Copy + Mul<A, Output = A>, D: Lengths>(
     cell: &A,
     index: usize,
