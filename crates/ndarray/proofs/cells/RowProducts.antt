@@ -98,10 +98,11 @@ module _ {A : Type 0} (e : ValuedGhosts A) where
           row-added e y (get_or b.lengths 1 0) (get_or x.lengths 0 0) i (λ j k. e.multiplication.op (value_at e x (k ∷ [])) (value_at e b (k ∷ j ∷ []))) (λ j. value_at e b (i ∷ j ∷ [])) sums r.cells so_far
           (row-values e.meaning e.addition.unit b r two whole_r i is_item) products
 
-    -- r is column j of b
-    pub column-meets : (j : ℕ) (r : Grid A) → IsGrid r → r ≡ axis_item b 1 j
-        → (products_of e.multiplication e.meaning x.cells r.cells ≡ inner_products e.multiplication (row_of e x) (matrix_of e b) 0 j) × (length x.cells ≡ length r.cells)
-    column-meets j r whole_r is_item = lists-meet e.multiplication e.meaning x.cells r.cells _ _ _ _ numbers (column-values e.meaning e.addition.unit b r two whole_r j is_item) can.inner
+    -- the numbers of x, and column j of b
+    pub column-meets : (xs ys : List A) → xs ≡ x.cells → (j : ℕ) (r : Grid A) → IsGrid r → r ≡ axis_item b 1 j → ys ≡ r.cells
+        → (products_of e.multiplication e.meaning xs ys ≡ inner_products e.multiplication (row_of e x) (matrix_of e b) 0 j) × (length xs ≡ length ys)
+    column-meets xs ys all j r whole_r is_item column =
+        lists-meet e.multiplication e.meaning xs ys _ _ _ _ (ap (map e.meaning) all ∙ numbers) (ap (map e.meaning) column ∙ column-values e.meaning e.addition.unit b r two whole_r j is_item) can.inner
 
   -- ---- a row of the left side
 

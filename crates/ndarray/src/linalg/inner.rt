@@ -20,19 +20,26 @@ pub(crate) fn inner<A: LinalgScalar>(x: &ArrayView<'_, A, Ix1>, y: &ArrayView<'_
     requires sums { IsSummable A.addition A.InRange (products_of A.multiplication A.meaning x.now.cells y.now.cells) }
     ensures { A.meaning result ≡ total A.addition (products_of A.multiplication A.meaning x.now.cells y.now.cells) }
 {
-    if let Some(xs) = x.as_slice() {
-        if let Some(ys) = y.as_slice() {
+    inner_of(cells_of(x.view()), cells_of(y.view()))
+}
+
+/// The same of two lists of cells.
+pub(crate) fn inner_of<A: LinalgScalar>(left: Strided<'_, A>, right: Strided<'_, A>) -> A
+    requires same { length left ≡ length right }
+    requires sums { IsSummable A.addition A.InRange (products_of A.multiplication A.meaning left right) }
+    ensures { A.meaning result ≡ total A.addition (products_of A.multiplication A.meaning left.entry right.entry) }
+{
+    if let Some(xs) = left.side_by_side() {
+        if let Some(ys) = right.side_by_side() {
             return unrolled_dot(xs, ys);
         }
     }
+    let mut xs = left;
+    let mut ys = right;
     let mut sum = A::zero();
-    let mut left = cells_of(x.view());
-    let mut right = cells_of(y.view());
-    while let Some(a) = left.next() {
-        let Some(b) = right.next() else {
-            unreachable!()
-        };
-        sum = add_product(sum, *a, *b);
+    while let Some(x) = xs.next() {
+        let Some(y) = ys.next() else { unreachable!() };
+        sum = add_product(sum, *x, *y);
     }
     sum
 }

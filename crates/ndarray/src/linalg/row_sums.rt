@@ -10,7 +10,7 @@ use crate::base::dimension::{Dimension, Ix1, Ix2};
 use crate::base::strided::Strided;
 use crate::elements::LinalgScalar;
 use crate::elements::sums::add_product;
-use crate::linalg::inner::{cells_of, inner};
+use crate::linalg::inner::{cells_of, inner_of};
 
 /// Pushes the sums of the products of a vector with each column of a matrix.
 pub(crate) fn push_row<A: LinalgScalar>(
@@ -132,7 +132,9 @@ fn push_by_columns<A: LinalgScalar>(
     ensures capacity { vec_capacity sums.old ≤ vec_capacity sums.new }
 {
     let (_, columns) = right.raw_dim().into_pattern();
+    let numbers = cells_of(x.view());
     for j in 0..columns {
-        sums.push_reserved(inner(x, &right.index_axis(Axis(1), j)));
+        let column = cells_of(right.index_axis(Axis(1), j));
+        sums.push_reserved(inner_of(numbers.again(), column));
     }
 }

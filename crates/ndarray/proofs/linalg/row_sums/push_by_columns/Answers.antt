@@ -8,18 +8,18 @@ use Rattle.ndarray.proofs.sums.InnerSums.{length-below}
 use Rattle.ndarray.proofs.sums.RowSums.{below-more}
 use Rattle.ndarray.proofs.linalg.row_sums.push_by_columns.Goals as goal
 
-pub inner-requires-clause-same : goal.inner-requires-clause-same
-inner-requires-clause-same g c κs within =
+pub inner_of-requires-clause-same : goal.inner_of-requires-clause-same
+inner_of-requires-clause-same g c κs within =
     let v = g.A.Valued in
-    let meets = column-meets v c.args.x.now c.args.right.now c.raw_dim.ensures.axes c.requires.can c.loop-j.j c.index_axis.result c.index_axis.ensures.whole c.index_axis.ensures.value in
+    let meets = column-meets v c.args.x.now c.args.right.now c.raw_dim.ensures.axes c.requires.can c.again.result c.cells_of-column.result (c.again.ensures ∙ (c.cells_of-numbers.ensures ∙ ap (λ w. w.cells) c.view.ensures.same)) c.loop-j.j c.index_axis.result c.index_axis.ensures.whole c.index_axis.ensures.value c.cells_of-column.ensures in
     meets.1
 
-pub inner-requires-clause-sums : goal.inner-requires-clause-sums
-inner-requires-clause-sums g c κs within =
+pub inner_of-requires-clause-sums : goal.inner_of-requires-clause-sums
+inner_of-requires-clause-sums g c κs within =
     let v = g.A.Valued in
     let columns = ap (λ k. get_or k 1 0) (c.into_pattern-columns.ensures ∙ c.raw_dim.ensures.lengths) in
     let lt = c.loop-j-test.true in
-    let meets = column-meets v c.args.x.now c.args.right.now c.raw_dim.ensures.axes c.requires.can c.loop-j.j c.index_axis.result c.index_axis.ensures.whole c.index_axis.ensures.value in
+    let meets = column-meets v c.args.x.now c.args.right.now c.raw_dim.ensures.axes c.requires.can c.again.result c.cells_of-column.result (c.again.ensures ∙ (c.cells_of-numbers.ensures ∙ ap (λ w. w.cells) c.view.ensures.same)) c.loop-j.j c.index_axis.result c.index_axis.ensures.whole c.index_axis.ensures.value c.cells_of-column.ensures in
     subst (IsSummable v.addition v.InRange) (sym meets.0) (c.requires.can.sums 0 c.loop-j.j (omega arith) (omega (arith, lt, columns)))
 
 pub push_reserved-requires : goal.push_reserved-requires
@@ -48,14 +48,14 @@ loop-j-preserved g c =
     let b = c.args.right.now in
     let sum = (product_of v (row_of v x) (matrix_of v b)).cell 0 in
     let old = map v.meaning c.args.sums.now.items in
-    let meets = column-meets v c.args.x.now c.args.right.now c.raw_dim.ensures.axes c.requires.can c.loop-j.j c.index_axis.result c.index_axis.ensures.whole c.index_axis.ensures.value in
-    let next = c.inner.ensures ∙ ap (total v.addition) meets.0 in
+    let meets = column-meets v c.args.x.now c.args.right.now c.raw_dim.ensures.axes c.requires.can c.again.result c.cells_of-column.result (c.again.ensures ∙ (c.cells_of-numbers.ensures ∙ ap (λ w. w.cells) c.view.ensures.same)) c.loop-j.j c.index_axis.result c.index_axis.ensures.whole c.index_axis.ensures.value c.cells_of-column.ensures in
+    let next = c.inner_of.ensures ∙ ap (total v.addition) meets.0 in
     record {
       values =
           ap (map v.meaning) c.push_reserved.ensures.items
-          ∙ (map-append v.meaning c.loop-j.sums.items (c.inner.result ∷ [])
-          ∙ (ap (λ l. l ++ v.meaning c.inner.result ∷ []) c.loop-j.invariant.values
-          ∙ (append_assoc old (values_below c.loop-j.j sum) (v.meaning c.inner.result ∷ [])
+          ∙ (map-append v.meaning c.loop-j.sums.items (c.inner_of.result ∷ [])
+          ∙ (ap (λ l. l ++ v.meaning c.inner_of.result ∷ []) c.loop-j.invariant.values
+          ∙ (append_assoc old (values_below c.loop-j.j sum) (v.meaning c.inner_of.result ∷ [])
           ∙ ap (λ l. old ++ l) (ap (λ t. values_below c.loop-j.j sum ++ t ∷ []) next ∙ sym (rw add-one (below-more c.loop-j.j sum))))));
       capacity = c.push_reserved.ensures.capacity ∙ c.loop-j.invariant.capacity;
     }
