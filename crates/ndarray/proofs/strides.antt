@@ -3,6 +3,7 @@ pub mod Contiguous
 pub mod ContiguousCells
 pub mod ForwardAxes
 pub mod IndexOfPlace
+pub mod IndexedRows
 pub mod Magnitudes
 pub mod NestedBoxes
 pub mod NestedCuts
