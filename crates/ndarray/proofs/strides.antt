@@ -1,9 +1,10 @@
 -- Where cells lie: strides, places, and which strides are nested.
 pub mod Contiguous
 pub mod ContiguousCells
+pub mod Distances
 pub mod ForwardAxes
 pub mod IndexOfPlace
-pub mod Distances
+pub mod IndexedRows
 pub mod NestedBoxes
 pub mod NestedCuts
 pub mod NestedLifts

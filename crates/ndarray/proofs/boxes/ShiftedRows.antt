@@ -33,7 +33,7 @@ lists-row ss ns is axis n within =
     (map-same (cell (array_by ns (shifted_index ss))) (λ js. Some (shifted_index ss js)) (InBox ns) (row_from is axis n) (λ js b. array_by-cell ns (shifted_index ss) js b) within ∙ sym (map-map Some (shifted_index ss) (row_from is axis n))))
 
 -- a row of the box ends below the length of its axis
-row-room : (ns : List ℕ) (axis n : ℕ) (is : List ℕ) → axis < length is → axis < length ns → All (InBox ns) (row_from is axis (suc n)) → get_or is axis 0 + suc n ≤ get_or ns axis 0
+pub row-room : (ns : List ℕ) (axis n : ℕ) (is : List ℕ) → axis < length is → axis < length ns → All (InBox ns) (row_from is axis (suc n)) → get_or is axis 0 + suc n ≤ get_or ns axis 0
 row-room ns axis zero is lt ln within = let b = InBox-get ns is axis (All-head (InBox ns) is [] within) ln in omega arith
 row-room ns axis (suc n) is lt ln within =
     let js : List ℕ = set is axis (get_or is axis 0 + 1) in

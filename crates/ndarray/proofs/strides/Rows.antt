@@ -162,7 +162,7 @@ module _ (start : ℕ) (bs : List ℕ) where
       ap (λ ps. place start bs is ∷ ps) (ih ∙ ap (λ p. places_from p (get_or bs axis 0) n) (sym (place-any start bs is axis l)))
 
   -- the index lists of a row, and those behind it, each with its place
-  row-with_places : (axis n : ℕ) (is : List ℕ) → length bs ≡ length is → zip (row_from is axis n) (places_from (place start bs is) (get_or bs axis 0) n) ≡ with_places start bs (row_from is axis n)
+  pub row-with_places : (axis n : ℕ) (is : List ℕ) → length bs ≡ length is → zip (row_from is axis n) (places_from (place start bs is) (get_or bs axis 0) n) ≡ with_places start bs (row_from is axis n)
   row-with_places axis zero is l = refl
   row-with_places axis (suc n) is l =
       let js : List ℕ = set is axis (get_or is axis 0 + 1) in
@@ -190,12 +190,6 @@ module _ (start : ℕ) (bs : List ℕ) where
         ap (places_along start bs) (taken-parts ys zs is axis count t)
         ∙ (map-append (place start bs) (row_from is axis count) zs
         ∙ ap (λ l. l ++ places_along start bs zs) (row-places axis count is row-as_many))
-
-    pub with_places-split : with_places start bs ys ≡ zip (row_from is axis count) (places_from (place start bs is) (get_or bs axis 0) count) ++ with_places start bs zs
-    with_places-split =
-        ap (with_places start bs) (taken-parts ys zs is axis count t)
-        ∙ (map-append (λ js. (js, place start bs js)) (row_from is axis count) zs
-        ∙ ap (λ l. l ++ with_places start bs zs) (sym (row-with_places axis count is row-as_many)))
 
     pub places-count : count + length zs ≡ length ys
     places-count =

@@ -1,7 +1,9 @@
 -- Cells that are borrowed one after another, along a list of index lists.
-use Rattle.std.specs.Prelude.{◌≡◌, ℕ, ◌<◌, List, length, map, zip, filter_map, Option, All, AllPairs, IsTrue, Bool, nat_eq}
+use Rattle.std.specs.Prelude.{◌≡◌, ℕ, ◌+◌, ◌<◌, ◌^◌, List, length, map, zip, filter_map, Option, All, AllPairs, IsTrue, Bool, nat_eq}
 use Rattle.std.specs.List.{list_any}
 use Rattle.std.specs.Option.{is_some}
+use Rattle.ndarray.specs.Index.{InBox}
+use Rattle.ndarray.specs.Limits.{IsWithinLimit}
 use Rattle.ndarray.specs.Rows.{joined}
 use Rattle.ndarray.specs.base.Masks.{mask_from}
 use Rattle.ndarray.specs.base.Places.{place}
@@ -31,6 +33,13 @@ pub record AreDistinctPlaces {A : Type 0} (at : ℕ → Option A) (ps : List ℕ
 pub record HaveRows {A : Type 0} (at : ℕ → Option A) (start : ℕ) (bs : List ℕ) (rows : List (List (List ℕ))) : Type 0 where
   pub each : All (λ row. (0 < length row) × All (λ is. length bs ≡ length is) row) rows
   pub distinct : AreDistinctPlaces at (places_along start bs (joined rows))
+
+-- the rows are not empty and in the box, which has as many axes as there are strides; with `more` index lists they have fewer than 2 ^ 63
+pub record HaveIndexedRows (ns bs : List ℕ) (rows : List (List (List ℕ))) (more : ℕ) : Type 0 where
+  pub each : All (λ row. (0 < length row) × All (InBox ns) row) rows
+  pub as_many : length bs ≡ length ns
+  pub limit : IsWithinLimit ns
+  pub few : more + length (joined rows) < 2 ^ 63
 
 -- of n places, those in the list
 unfoldable pub mask_at : List ℕ → ℕ → List Bool

@@ -1,8 +1,8 @@
 //! The rows of a box.
 
-ghost use Rattle.std.specs.Prelude.{◌≡◌, [], ◌∷◌, MatchOption};
+ghost use Rattle.std.specs.Prelude.{◌≡◌, ◌<◌, ◌^◌, [], ◌∷◌, MatchOption, length};
 ghost use Rattle.ndarray.specs.Limits.{IsWithinLimit};
-ghost use Rattle.ndarray.specs.Rows.{rows_in, one_if_some};
+ghost use Rattle.ndarray.specs.Rows.{joined, rows_in, one_if_some};
 ghost use Rattle.ndarray.specs.base.Ranks.{row_from};
 
 use crate::base::dimension::Lengths;
@@ -69,6 +69,25 @@ impl<D: Lengths> BoxRows<D> {
             firsts: Walk::starting_at(dim, Order::RowMajor, index, 0),
             axis: 0,
             count: 0,
+        }
+    }
+
+    /// How many index lists they have together.
+    pub(crate) fn len(&self) -> usize
+        requires { length (joined self.now) < 2 ^ 64 }
+        ensures { result ≡ length (joined self.now) }
+    {
+        self.firsts.len() * self.count
+    }
+
+    /// The same once more.
+    pub(crate) fn again(&self) -> Self
+        ensures { result ≡ self.now }
+    {
+        BoxRows {
+            firsts: self.firsts.again(),
+            axis: self.axis,
+            count: self.count,
         }
     }
 

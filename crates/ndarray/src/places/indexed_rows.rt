@@ -13,7 +13,8 @@ ghost use Rattle.ndarray.specs.places.ElementPlaces.{with_places};
 use crate::base::dimension::Lengths;
 use crate::base::layout::Layout;
 use crate::base::shape::axis_at;
-use crate::order::{Order, Row, Walk};
+use crate::order::rows::BoxRows;
+use crate::order::{Order, Row};
 use std::marker::Model;
 
 /// The index lists of one row that are still to come, each with its place: `left` of them, from `next` on along the
@@ -112,18 +113,19 @@ impl<D: Lengths> IndexedRow<D> {
 pub(crate) struct IndexedPlaces<D: Lengths> {
     row: IndexedRow<D>,
     layout: Layout<D>,
-    walk: Walk<D>,
+    rows: BoxRows<D>,
 }
 
 impl<D: Lengths> Model for IndexedPlaces<D> {
-    ghost use Rattle.std.specs.Prelude.{List, ℕ, ◌≡◌, ◌++◌, ◌+◌, ◌<◌, ◌^◌, length, All};
-    ghost use Rattle.ndarray.specs.places.ElementPlaces.{with_places};
+    ghost use Rattle.std.specs.Prelude.{List, ℕ, ◌++◌, length};
+    ghost use Rattle.ndarray.specs.Rows.{joined};
+    ghost use Rattle.ndarray.specs.places.ElementPlaces.{HaveIndexedRows, with_places};
 
     ghost Value = { List (List ℕ × ℕ) };
 
-    ghost view = { λ s. s.row ++ with_places s.layout.start (D.numbers s.layout.strides) s.walk };
+    ghost view = { λ s. s.row ++ with_places s.layout.start (D.numbers s.layout.strides) (joined s.rows) };
 
-    ghost invariant = { λ s. All (λ is. length (D.numbers s.layout.strides) ≡ length is) s.walk × (length s.row + length s.walk < 2 ^ 63) };
+    ghost invariant = { λ s. HaveIndexedRows (D.numbers s.layout.dim) (D.numbers s.layout.strides) s.rows (length s.row) };
 }
 
 impl<D: Lengths> IndexedPlaces<D> {
@@ -133,7 +135,7 @@ impl<D: Lengths> IndexedPlaces<D> {
         requires as_many { length (D.numbers layout.strides) ≡ length (D.numbers layout.dim) }
         ensures { result ≡ with_places layout.start (D.numbers layout.strides) (box_in order (D.numbers layout.dim)) }
     {
-        let walk = Walk::new(layout.dim.copied(), order);
+        let rows = BoxRows::new(layout.dim.copied(), order);
         // The axis of each row to come, so that the compiler knows which index is written.
         let ndim = layout.dim.ndim();
         let axis = if ndim == 0 {
@@ -151,7 +153,7 @@ impl<D: Lengths> IndexedPlaces<D> {
                 left: 0,
             },
             layout,
-            walk,
+            rows,
         }
     }
 
@@ -160,7 +162,7 @@ impl<D: Lengths> IndexedPlaces<D> {
         ensures value { result ≡ length self.now }
         ensures fits { result < 2 ^ 63 }
     {
-        self.row.len() + self.walk.len()
+        self.row.len() + self.rows.len()
     }
 
     /// The next index list and its place.
@@ -169,7 +171,7 @@ impl<D: Lengths> IndexedPlaces<D> {
         ensures { YieldsFirstBy (λ item. (D.numbers item.0, item.1)) (λ rest. rest) self.old result self.new }
     {
         if self.row.len() == 0 {
-            let Some(row) = self.walk.next_row() else {
+            let Some(row) = self.rows.next() else {
                 return None;
             };
             let place = self.layout.place(&row.first);
@@ -186,7 +188,7 @@ impl<D: Lengths> IndexedPlaces<D> {
         IndexedPlaces {
             row: self.row.again(),
             layout: self.layout.copied(),
-            walk: self.walk.again(),
+            rows: self.rows.again(),
         }
     }
 }

@@ -1,21 +1,26 @@
-use Rattle.std.proofs.Common.{◌≡◌, ◌∙◌, ap, arith, length, subst, sym}
-use Rattle.std.specs.Prelude.{All}
-use Rattle.ndarray.specs.Orders.{box_in}
-use Rattle.ndarray.proofs.boxes.Boxes.{InBox-length}
-use Rattle.ndarray.proofs.boxes.Orders.{box_in-within, length-box_in}
+use Rattle.std.proofs.Common.{◌≡◌, ◌∙◌, ◌<◌, ℕ, List, All, ap, arith, length, subst, sym}
+use Rattle.ndarray.specs.Index.{InBox}
+use Rattle.ndarray.specs.Rows.{joined, rows_in}
+use Rattle.ndarray.specs.places.ElementPlaces.{with_places}
+use Rattle.ndarray.proofs.boxes.Orders.{length-box_in}
+use Rattle.ndarray.proofs.boxes.Rows.{rows-joined, rows-within}
 use Rattle.ndarray.proofs.boxes.Sizes.{size-le}
 use Rattle.ndarray.proofs.places.indexed_rows.IndexedPlaces.new.Goals as goal
 
 pub invariant_of-result-2 : goal.invariant_of-result-2
 invariant_of-result-2 g c =
-    let axes = g.D.Lengths.numbers in
-    let ns = axes c.args.layout.dim in
-    let w : c.new-walk.result ≡ box_in c.args.order ns = c.new-walk.ensures.list ∙ ap (box_in c.args.order) c.copied.ensures.value in
-    let e = ap length w in
-    let n = length-box_in c.args.order ns in
+    let ns = g.D.Lengths.numbers c.args.layout.dim in
+    let o = c.args.order in
+    let rows : c.new-rows.result ≡ rows_in o ns = c.new-rows.ensures ∙ ap (rows_in o) c.copied.ensures.value in
+    let is_row : List (List ℕ) → Type 0 = λ row. (0 < length row) × All (InBox ns) row in
+    let many = ap (λ l. length (joined l)) rows ∙ (ap length (rows-joined o ns) ∙ length-box_in o ns) in
     let s = size-le ns in
     let l = c.requires.limit in
-    let m = c.requires.as_many in (
-      subst (All (λ is. length (axes c.args.layout.strides) ≡ length is)) (sym w) (λ k d lt. let b = InBox-length ns _ (box_in-within c.args.order ns k d lt) in omega arith),
-      omega arith,
-    )
+    record { each = subst (All is_row) (sym rows) (rows-within o ns); as_many = c.requires.as_many; limit = l; few = omega (arith, many, s, l) }
+
+pub returns : goal.returns
+returns g c =
+    let ns = g.D.Lengths.numbers c.args.layout.dim in
+    let bs = g.D.Lengths.numbers c.args.layout.strides in
+    let o = c.args.order in
+    ap (λ l. with_places c.args.layout.start bs (joined l)) (c.new-rows.ensures ∙ ap (rows_in o) c.copied.ensures.value) ∙ ap (with_places c.args.layout.start bs) (rows-joined o ns)
