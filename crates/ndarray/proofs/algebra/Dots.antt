@@ -3,11 +3,12 @@ use Rattle.std.proofs.Common.{◌≡◌, ◌∙◌, ◌+◌, ◌-◌, ◌<◌, �
 use Rattle.std.specs.Prelude.{◌↔◌, ◌==◌, if◌then◌else◌}
 use Rattle.std.proofs.lemmas.List.{get_or-drop}
 use Rattle.std.proofs.lemmas.List.Edits.{length-remove}
+use Rattle.ndarray.specs.Chains.{HasMatrix}
 use Rattle.ndarray.specs.DotLaws.{DotIsMatrixProduct, HasOneOrTwoAxes, LaneSumsAreMatrixSums, MultiplyAsMatrices, ShapesMultiplyAsMatrices, left_matrix, product_entries, right_matrix}
 use Rattle.ndarray.specs.Grid.{Grid, IsGrid, cell}
 use Rattle.ndarray.specs.Index.{InBox}
 use Rattle.ndarray.specs.Matrices.{Matrix, inner_products, values_below}
-use Rattle.ndarray.specs.Products.{HasLaneSumsInRange, HasSumsInRange, HasValues, column_of, dot_entries, lane_products, matrix_of, product_lengths, row_of, value_at, value_or}
+use Rattle.ndarray.specs.Products.{HasLaneSumsInRange, HasSumsInRange, HasValues, ShapesMultiply, column_of, dot_entries, lane_products, matrix_entries, matrix_of, product_lengths, product_of, row_of, value_at, value_or}
 use Rattle.ndarray.specs.Subviews.{lane}
 use Rattle.ndarray.specs.Sums.{IsSummable, total}
 use Rattle.ndarray.specs.declared.elements.Valued.{Ghosts as ValuedGhosts}
@@ -208,3 +209,28 @@ lane_sums-are e a b both = lane_sums-agree e a b both
 
 pub dot-is : {A : Type 0} (e : ValuedGhosts A) → DotIsMatrixProduct e
 dot-is e a b r both has = dot-agrees e a b both r has
+
+-- of two matrices
+module _ {A : Type 0} (e : ValuedGhosts A) (a b : Grid A) (two_a : length a.lengths ≡ 2) (two_b : length b.lengths ≡ 2) (whole_a : IsGrid a) (whole_b : IsGrid b) (shapes : ShapesMultiply a.lengths b.lengths) where
+  matrices : MultiplyAsMatrices e a b
+  matrices = record { left = inr two_a; right = inr two_b; left_whole = whole_a; right_whole = whole_b; shapes = shapes }
+
+  pub matrix-sums : HasLaneSumsInRange e a b → HasSumsInRange e (matrix_of e a) (matrix_of e b)
+  matrix-sums sums =
+      subst (λ n. HasSumsInRange e (left-by e a b n) (matrix_of e b)) two_a
+      (subst (λ m. HasSumsInRange e (left_matrix e a) (right-by e a b m)) two_b ((lane_sums-agree e a b matrices).0 sums))
+
+  -- what has the values of the product of the matrices has the sums of their lanes
+  pub matrix-dot : (r : Grid A) → HasMatrix e (product_of e (matrix_of e a) (matrix_of e b)) r → HasValues e (product_lengths a.lengths b.lengths) (dot_entries e a b) r
+  matrix-dot r made =
+      let lengths : r.lengths ≡ product_lengths a.lengths b.lengths = made.lengths ∙ sym (lengths-two_two a.lengths b.lengths two_a two_b) in
+      record {
+        lengths = lengths;
+        whole = made.whole;
+        cells = λ is z at.
+            let inside : InBox (product_lengths a.lengths b.lengths) is = subst (λ ns. InBox ns is) lengths (cell-inside r is z at) in
+            let entry : product_entries e a b is ≡ matrix_entries (product_of e (matrix_of e a) (matrix_of e b)) is =
+            ap (λ n. (product_of e (left-by e a b n) (right_matrix e b)).cell (row-by e a b n is) (column-by e a b n (length b.lengths) is)) two_a
+            ∙ ap (λ m. (product_of e (matrix_of e a) (right-by e a b m)).cell (get_or is 0 0) (column-by e a b 2 m is)) two_b in
+            made.cells is z at ∙ sym (entries-agree e a b matrices is inside ∙ entry);
+      }

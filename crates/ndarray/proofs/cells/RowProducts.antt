@@ -1,5 +1,5 @@
 -- Products that are made row by row, or as the transpose of the product of the transposed matrices.
-use Rattle.std.proofs.Common.{◌≡◌, ◌∙◌, ◌+◌, ◌-◌, ◌*◌, ◌<◌, ◌≤◌, ℕ, zero, suc, List, [], ◌∷◌, ◌++◌, Some, add-one, ap, arith, drop, get_or, insert, length, map, refl, remove, reverse, subst, sym}
+use Rattle.std.proofs.Common.{◌≡◌, ◌∙◌, ◌+◌, ◌-◌, ◌*◌, ◌<◌, ◌≤◌, ℕ, suc, List, [], ◌∷◌, ◌++◌, Some, add-one, ap, arith, drop, get_or, insert, length, map, refl, remove, reverse, subst, sym}
 use Rattle.std.specs.Prelude.{Result, flat_map}
 use Rattle.std.specs.List.{range_with_len}
 use Rattle.std.proofs.Math.Nat.{mul-le-mul_left}

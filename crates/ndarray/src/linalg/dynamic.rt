@@ -9,10 +9,11 @@ ghost use Rattle.ndarray.specs.Subviews.{lanes_of};
 use crate::base::array::{Array, ArrayBase, ArrayView};
 use crate::base::axis::Axis;
 use crate::base::builder::ArrayBuilder;
-use crate::base::dimension::{Ix1, IxDyn, Lengths};
+use crate::base::dimension::{Ix1, Ix2, IxDyn, Lengths};
 use crate::base::storage::Data;
 use crate::elements::LinalgScalar;
 use crate::linalg::inner::inner;
+use crate::linalg::matrix_products::matrix_product;
 use crate::linalg::products::{Dot, product_dim};
 use crate::order::Order;
 use crate::subviews::lanes::Lanes;
@@ -31,8 +32,32 @@ impl<A: LinalgScalar, S: Data<Elem = A>, S2: Data<Elem = A>> Dot<ArrayBase<S2, I
         alloc: Global,
         rhs: &ArrayBase<S2, IxDyn>,
     ) -> Result<Array<A, IxDyn>, AllocError> {
-        product(alloc, &self.view(), &rhs.view())
+        let (left, right) = (self.view(), rhs.view());
+        if let Ok(a) = left.again().into_dimensionality() {
+            if let Ok(b) = right.again().into_dimensionality() {
+                return product_of_matrices(alloc, &a, &b);
+            }
+        }
+        product(alloc, &left, &right)
     }
+}
+
+/// The product of two views of two axes.
+fn product_of_matrices<A: LinalgScalar>(
+    alloc: Global,
+    a: &ArrayView<'_, A, Ix2>,
+    b: &ArrayView<'_, A, Ix2>,
+) -> Result<Array<A, IxDyn>, AllocError>
+    requires shapes { ShapesMultiply a.now.lengths b.now.lengths }
+    requires sums { HasLaneSumsInRange A.Valued a.now b.now }
+    ensures { MakesValues A.Valued (product_lengths a.now.lengths b.now.lengths) (dot_entries A.Valued a.now b.now) result }
+{
+    let _lengths = (a.raw_dim(), b.raw_dim());
+    let product = matrix_product(alloc, a, b)?;
+    let Ok(product) = product.into_dimensionality() else {
+        unreachable!()
+    };
+    Ok(product)
 }
 
 /// The product of two views: the sum of the products of each row of the left and each column of the right.

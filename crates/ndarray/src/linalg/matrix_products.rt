@@ -1,10 +1,10 @@
 //! Products with a matrix, in the order of loops that goes through memory in small steps.
 
-ghost use Rattle.std.specs.Prelude.{◌≡◌, ◌∷◌, [], ◌++◌, ◌≤◌, ◌*◌, length, map, slice_index};
+ghost use Rattle.std.specs.Prelude.{◌≡◌, ◌∷◌, [], ◌≤◌, ◌*◌, map, slice_index};
 ghost use Rattle.std.specs.Vec.{vec_capacity};
 ghost use Rattle.ndarray.specs.Index.{row_order};
 ghost use Rattle.ndarray.specs.Limits.{IsWithinLimit};
-ghost use Rattle.ndarray.specs.Products.{HasSumsInRange, MakesMatrix, MakesRow, ShapesMultiply, matrix_entries, matrix_of, product_of, row_of};
+ghost use Rattle.ndarray.specs.Products.{HasSumsInRange, MakesMatrix, MakesRow, matrix_entries, matrix_of, product_of, row_of};
 ghost use Rattle.ndarray.specs.RowSums.{CanSumRow};
 
 use crate::base::array::{Array, ArrayBase, ArrayView};
