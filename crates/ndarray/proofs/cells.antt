@@ -20,6 +20,7 @@ pub mod LaneTotals
 pub mod Matrices
 pub mod ProductRows
 pub mod Products
+pub mod ReversedProducts
 pub mod RunningProducts
 pub mod Scans
 pub mod TestedCells
