@@ -21,6 +21,7 @@ pub mod LaneTotals
 pub mod Matrices
 pub mod ProductRows
 pub mod Products
+pub mod ReversedProducts
 pub mod RowProducts
 pub mod RunningProducts
 pub mod Scans

@@ -42,8 +42,44 @@ impl<A: Copy + Mul<A, Output = A>, S: Data<Elem = A>, D: Lengths> ArrayBase<S, D
     }
 }
 
-/// The running products along an axis of a view, row by row.
+/// The running products along an axis of a view. Where the cells lie by columns, so do those of the result.
 fn running_products<A: Copy + Mul<A, Output = A>, D: Lengths>(
+    alloc: Global,
+    array: &ArrayView<'_, A, D>,
+    axis: Axis,
+) -> Result<Array<A, D>, AllocError>
+    requires axis { axis.0 < length array.now.lengths }
+    requires defined { CanMap (λ lane. CanCumulate A.can_mul A.mul_gives lane.cells) (lanes_of array.now axis.0) }
+    ensures products { IfOk result (Cumulates A.mul_gives axis.0 array.now) }
+    ensures axes { IfOk result (λ r. D.has_axes (length r.lengths)) }
+    ensures empty { size array.now.lengths ≡ 0 → IsOk result }
+{
+    match array.fast_order() {
+        Order::RowMajor => products_by_rows(alloc, array, axis),
+        Order::ColumnMajor => products_by_columns(alloc, array, axis),
+    }
+}
+
+/// The same of the array with its axes reversed, and reversed back.
+fn products_by_columns<A: Copy + Mul<A, Output = A>, D: Lengths>(
+    alloc: Global,
+    array: &ArrayView<'_, A, D>,
+    axis: Axis,
+) -> Result<Array<A, D>, AllocError>
+    requires axis { axis.0 < length array.now.lengths }
+    requires defined { CanMap (λ lane. CanCumulate A.can_mul A.mul_gives lane.cells) (lanes_of array.now axis.0) }
+    ensures products { IfOk result (Cumulates A.mul_gives axis.0 array.now) }
+    ensures axes { IfOk result (λ r. D.has_axes (length r.lengths)) }
+    ensures empty { size array.now.lengths ≡ 0 → IsOk result }
+{
+    let reversed = array.again().reversed_axes();
+    let reversed_axis = Axis(array.ndim() - 1 - axis.0);
+    let products = products_by_rows(alloc, &reversed, reversed_axis)?;
+    Ok(products.reversed_axes())
+}
+
+/// The same row by row.
+fn products_by_rows<A: Copy + Mul<A, Output = A>, D: Lengths>(
     alloc: Global,
     array: &ArrayView<'_, A, D>,
     axis: Axis,

@@ -2,7 +2,7 @@ use Rattle.std.proofs.Common.{◌≡◌, ◌<◌, All, length}
 use Rattle.ndarray.specs.Rows.{joined}
 use Rattle.ndarray.specs.base.RunningProducts.{RunningProducts}
 use Rattle.ndarray.specs.declared.base.shape.Order.TheVariants.{RowMajor}
-use Rattle.ndarray.proofs.reduce.cumprod.running_products.Given as goal
+use Rattle.ndarray.proofs.reduce.cumprod.products_by_rows.Given as goal
 
 abbrev pub invariant-loop-row : goal.invariant-loop-row
 invariant-loop-row g l = record {

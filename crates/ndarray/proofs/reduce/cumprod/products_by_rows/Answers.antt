@@ -9,7 +9,7 @@ use Rattle.ndarray.specs.declared.base.shape.Order.TheVariants.{RowMajor}
 use Rattle.ndarray.proofs.boxes.Rows.{rows-joined, rows-within}
 use Rattle.ndarray.proofs.cells.RunningProducts.{blocks-of, cumulates-of, products-all, products-start}
 use Rattle.ndarray.proofs.strides.Rows.{length-row_from}
-use Rattle.ndarray.proofs.reduce.cumprod.running_products.Goals as goal
+use Rattle.ndarray.proofs.reduce.cumprod.products_by_rows.Goals as goal
 
 pub loop-row-init : goal.loop-row-init
 loop-row-init g c =
