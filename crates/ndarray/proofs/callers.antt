@@ -4,6 +4,7 @@ pub mod Collecting
 pub mod ColumnOrder
 pub mod Convolving
 pub mod Differences
+pub mod EachCell
 pub mod Elementwise
 pub mod EqualSlices
 pub mod Folding
@@ -25,4 +26,5 @@ pub mod Totals
 pub mod TriangleParts
 pub mod Triangles
 pub mod Updating
+pub mod Windows
 pub mod Writing

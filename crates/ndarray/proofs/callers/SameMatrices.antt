@@ -1,13 +1,14 @@
 -- Matrices that have the same values: their products and Kronecker products, and the arrays that have their values.
-use Rattle.std.proofs.Common.{◌≡◌, ◌∙◌, ◌<◌, ◌*◌, ◌/◌, ◌%◌, ℕ, zero, suc, List, [], ◌∷◌, Some, ap, arith, get_or, length, refl, subst, sym, reverse}
+use Rattle.std.proofs.Common.{◌≡◌, ◌∙◌, ◌<◌, ◌*◌, ◌/◌, ◌%◌, ℕ, ℤ, pos, zero, suc, List, [], ◌∷◌, Some, ap, arith, get_or, length, refl, subst, sym, reverse}
 use Rattle.std.proofs.lemmas.List.{length-reverse}
 use Rattle.ndarray.specs.Chains.{HasColumn, HasMatrix}
 use Rattle.ndarray.specs.Grid.{Grid, IsGrid, array_by, cell}
 use Rattle.ndarray.specs.Index.{InBox}
 use Rattle.ndarray.specs.Matrices.{IsSameMatrix, Matrix, inner_products, kronecker_product, transpose, values_below}
-use Rattle.ndarray.specs.Products.{HasProductsInRange, HasSumsInRange, column_entries, column_of, matrix_entries, matrix_of, product_of, value_or}
+use Rattle.ndarray.specs.Products.{HasProductsInRange, HasSumsInRange, column_entries, column_of, magnitude_sum, matrix_entries, matrix_of, product_of, value_or}
 use Rattle.ndarray.specs.Sums.{IsSummable, total}
 use Rattle.ndarray.specs.Views.{transpose_of}
+use Rattle.ndarray.specs.WholeValues.{HasMagnitudesInRange, whole_numbers}
 use Rattle.ndarray.specs.declared.elements.Valued.{Ghosts as ValuedGhosts}
 use Rattle.ndarray.proofs.boxes.ProductShapes.{quotient-below}
 use Rattle.ndarray.proofs.cells.Cells.{array_by-cell, array_by-whole, cell-Some, cell-inside, same_grid, tabulate-cell}
@@ -179,6 +180,12 @@ module _ {A : Type 0} (e : ValuedGhosts A) where
         (ap (λ t. e.multiplication.op t (b.cell k h)) (left.cell i j l m)
         ∙ ap (e.multiplication.op (c.cell i j)) (right.cell k h n o)))
         (products i j k h (subst (λ t. i < t) left.rows l) (subst (λ t. j < t) left.columns m) (subst (λ t. k < t) right.rows n) (subst (λ t. h < t) right.columns o))
+
+-- the absolute values of the products of the same matrices of whole numbers are in range
+pub magnitudes-same : (fits : ℤ → Type 0) (a b c d : Matrix ℤ) → IsSameMatrix a c → IsSameMatrix b d → a.columns ≡ b.rows → HasMagnitudesInRange fits c d → HasMagnitudesInRange fits a b
+magnitudes-same fits a b c d left right inner h i j l m =
+    subst (λ ps. fits (pos (magnitude_sum ps))) (sym (inner-same (whole_numbers (λ (x : ℤ). x) fits) a b c d left right inner i j l m))
+    (h i j (subst (λ n. i < n) left.rows l) (subst (λ n. j < n) right.columns m))
 
 -- the transposed view of an array of two axes is, as a matrix, the transpose
 module _ {A : Type 0} (a t : Grid A) (two : length t.lengths ≡ 2) (is_t : t ≡ transpose_of a) where

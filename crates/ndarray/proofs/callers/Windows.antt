@@ -1,0 +1,2 @@
+-- Windows of an array are whole.
+pub use Rattle.ndarray.proofs.convolution.WholeWindows.{window-whole}
