@@ -1,5 +1,6 @@
 -- Shapes and their boxes of index lists, and the orders in which these come.
 pub mod Boxes
+pub mod CountedRows
 pub mod JoinedBoxes
 pub mod Orders
 pub mod ProductShapes

@@ -135,23 +135,25 @@ impl<D: Lengths> Clone for Indices<D> {
     }
 }
 
-/// Index lists of a row that are still to come: each has an index on the axis that is one larger than that of the one before.
+/// Index lists of a row that are still to come: `left` of them, from `next` on along the axis.
 #[derive(Drop)]
 pub struct IndexRow<D: Lengths> {
+    // an index list of the row
     list: D,
     axis: usize,
+    next: usize,
     left: usize,
 }
 
 impl<D: Lengths> Model for IndexRow<D> {
-    ghost use Rattle.std.specs.Prelude.{List, ℕ, ◌+◌, ◌≤◌, ◌^◌, slice_index};
+    ghost use Rattle.std.specs.Prelude.{List, ℕ, ◌+◌, ◌≤◌, ◌^◌, slice_set};
     ghost use Rattle.ndarray.specs.base.Ranks.{row_from};
 
     ghost Value = { List (List ℕ) };
 
-    ghost view = { λ s. row_from (D.numbers s.list) s.axis s.left };
+    ghost view = { λ s. row_from (slice_set (D.numbers s.list) s.axis s.next) s.axis s.left };
 
-    ghost invariant = { λ s. slice_index (D.numbers s.list) s.axis + s.left ≤ 2 ^ 64 };
+    ghost invariant = { λ s. s.next + s.left ≤ 2 ^ 64 };
 }
 
 impl<D: Lengths> IndexRow<D> {
@@ -163,10 +165,13 @@ impl<D: Lengths> IndexRow<D> {
         if self.left == 0 {
             return None;
         }
-        let list = self.list.copied();
+        let mut list = self.list.copied();
+        if self.axis < list.ndim() {
+            list.set_axis(self.axis, self.next);
+        }
         self.left -= 1;
-        if self.left > 0 && self.axis < list.ndim() {
-            self.list.set_axis(self.axis, list.axis(self.axis) + 1);
+        if self.left > 0 {
+            self.next += 1;
         }
         Some(list)
     }
@@ -179,9 +184,16 @@ impl<D: Lengths> Indices<D> {
         requires within { All (InBox self.now.lengths) (row_from (D.numbers first.now) axis count) }
         ensures { result ≡ filter_map (cell self.now) (row_from (D.numbers first.now) axis count) }
     {
+        let list = counted_from(&self.start, first);
+        let next = if axis < list.ndim() {
+            list.axis(axis)
+        } else {
+            0
+        };
         IndexRow {
-            list: counted_from(&self.start, first),
+            list,
             axis,
+            next,
             left: count,
         }
     }

@@ -1,0 +1,25 @@
+use Rattle.std.proofs.Common.{◌≡◌, ◌∙◌, ◌∷◌, ◌+◌, ◌-◌, ap, arith, length, set, sym}
+use Rattle.std.proofs.lemmas.List.{set_past}
+use Rattle.ndarray.specs.base.Ranks.{row_from}
+use Rattle.ndarray.proofs.boxes.CountedRows.{counted-none, counted-row}
+use Rattle.ndarray.proofs.base.index_lists.IndexRow.next_list.Goals as goal
+use Rattle.ndarray.proofs.base.index_lists.IndexRow.next_list.Goals.{then-self-ndim, else-self-ndim, then-self-gt0, else-self-gt0}
+
+pub returns : goal.returns
+returns g c =
+    let axes = g.D.Lengths.numbers in
+    let r = c.self.inside in
+    let is = axes r.list in
+    let n = c.ndim.ensures.value in
+    let l = ap length c.copied-list.ensures.value in
+    let here : set is r.axis r.next ≡ axes c.if-self-ndim.list = elim c.if-self-ndim.branch [
+      | then-self-ndim w ↦ ap (λ js. set js r.axis r.next) (sym c.copied-list.ensures.value) ∙ (sym w.set_axis.ensures ∙ ap axes (sym w.list-is))
+      | else-self-ndim w ↦ set_past is r.axis r.next (omega (arith, w.if-self-ndim.false)) ∙ (sym c.copied-list.ensures.value ∙ ap axes (sym w.list-is))
+    ] in
+    let rest : row_from (set is r.axis (r.next + 1)) r.axis (r.left - 1) ≡ c.if-self-gt0.self = elim c.if-self-gt0.branch [
+      | then-self-gt0 w ↦ sym w.self-is
+      | else-self-gt0 w ↦ counted-none (set is r.axis (r.next + 1)) (set is r.axis r.next) r.axis (r.left - 1) (omega (arith, w.if-self-gt0.false)) ∙ sym w.self-is
+    ] in
+    sym c.self.view_is
+    ∙ (counted-row is r.axis r.next r.left (omega (arith, c.if-self-eq0.false))
+    ∙ (ap (λ js. js ∷ row_from (set is r.axis (r.next + 1)) r.axis (r.left - 1)) here ∙ ap (λ xs. axes c.if-self-ndim.list ∷ xs) rest))
