@@ -29,6 +29,8 @@ const FILTERS: [&str; 14] = [
     "zip_view_for_each", "conv_valid_3x3", "conv_full_32",
 ];
 
+const SMALL: [&str; 4] = ["small_ref_add_ref", "small_add_assign", "small_iter", "small_product"];
+
 const PRODUCTS: [&str; 4] = ["product", "product_left_transposed", "product_right_transposed", "product_both_transposed"];
 
 const VECTORS: [&str; 3] = ["vector_times_matrix", "matrix_times_vector", "transposed_times_vector"];
@@ -79,8 +81,45 @@ fn main() {
                 report(name, n, turns, || product(name, n, black_box(&b), black_box(&c)));
             }
         }
+        "small" => {
+            for name in SMALL {
+                let (mut best, mut answers) = (u128::MAX, 0i64);
+                for _ in 0..turns {
+                    let start = Instant::now();
+                    for _ in 0..1000 {
+                        answers = answers.wrapping_add(black_box(small(name, black_box(&mut a[..9]), black_box(&b[..9]))));
+                    }
+                    best = best.min(start.elapsed().as_nanos() / 1000);
+                }
+                println!("{name} {} {answers}", best * 1000 / 9);
+            }
+        }
         _ => {}
     }
+}
+
+/// Calls on tables of 3 by 3.
+#[inline(never)]
+fn small(name: &str, a: &mut [i64], b: &[i64]) -> i64 {
+    match name {
+        "small_ref_add_ref" => return a.iter().zip(b).map(|(x, y)| x.wrapping_add(*y)).collect::<Vec<i64>>()[4],
+        "small_add_assign" => {
+            for (x, y) in a.iter_mut().zip(b) {
+                *x = x.wrapping_add(*y);
+            }
+        }
+        "small_iter" => return sum_of(a.iter()),
+        _ => {
+            let mut made = vec![0i64; 9];
+            for (sums, row) in made.chunks_mut(3).zip(a.chunks(3)) {
+                for (x, other) in row.iter().zip(b.chunks(3)) {
+                    add_scaled(sums, *x, other);
+                }
+            }
+            return made[4];
+        }
+    }
+    a[4]
 }
 
 #[inline(never)]
