@@ -45,6 +45,7 @@ pub mod Triangles
 pub mod Updates
 pub mod Views
 pub mod WholeValues
+pub mod WindowSums
 pub mod Writes
 pub mod base
 pub mod order

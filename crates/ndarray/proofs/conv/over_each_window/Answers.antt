@@ -1,4 +1,4 @@
-use Rattle.std.proofs.Common.{◌≡◌, ◌∙◌, List, ℕ, Some, ap, length, subst}
+use Rattle.std.proofs.Common.{◌≡◌, ◌∙◌, List, ℕ, Some, ap, subst}
 use Rattle.ndarray.specs.Convolution.{single_steps, valid_counts}
 use Rattle.ndarray.specs.Grid.{Grid, array_by, cell}
 use Rattle.ndarray.specs.Index.{InBox, size}
@@ -10,8 +10,8 @@ use Rattle.ndarray.proofs.callers.Collecting.{array_by-at, if_ok-both, may-gathe
 use Rattle.ndarray.proofs.cells.Cells.{cell-inside}
 use Rattle.ndarray.proofs.cells.CollectedCells.{Collects-at}
 use Rattle.ndarray.proofs.convolution.WindowSums.{window-summable}
-use Rattle.ndarray.proofs.conv.over_windows.Goals as goal
-use Rattle.ndarray.proofs.conv.over_windows.Goals.{After-view}
+use Rattle.ndarray.proofs.conv.over_each_window.Goals as goal
+use Rattle.ndarray.proofs.conv.over_each_window.Goals.{After-view}
 
 module _ (g : _) (c : After-view g) where
   abbrev a : Grid g.row.A.Denot
@@ -26,11 +26,11 @@ module _ (g : _) (c : After-view g) where
 
   -- the sum at a window may be taken
   can_sum : (i : List ℕ) (x : Grid g.row.A.Denot) → InBox c.windows-windows.result.lengths i → cell c.windows-windows.result i ≡ Some x
-      → (length x.cells ≡ length c.view.result.cells) × IsSummable g.A.Valued.addition g.A.Valued.InRange (products_of g.A.Valued.multiplication g.A.Valued.meaning x.cells c.view.result.cells)
+      → (x.lengths ≡ c.view.result.lengths) × IsSummable g.A.Valued.addition g.A.Valued.InRange (products_of g.A.Valued.multiplication g.A.Valued.meaning x.cells c.view.result.cells)
   can_sum i x b s =
       let v = g.A.Valued in
       let inside : InBox (valid_counts a.lengths m.lengths) i = subst (λ w. InBox w.lengths i) windows b in
-      window-summable v.addition v.multiplication v.InRange v.meaning a m c.view.result x i c.requires.whole c.raw_dim.ensures.whole c.requires.shapes.as_many c.view.ensures.same inside (c.requires.sums i inside)
+      window-summable v.addition v.multiplication v.InRange v.meaning a m c.view.result x i c.view.ensures.same (c.requires.can.sums i inside)
       (array_by-at _ (window a m.lengths (single_steps a.lengths)) c.windows-windows.result i x windows b s)
 
 pub collect_in_either_order-requires-clause-by_rows : goal.collect_in_either_order-requires-clause-by_rows
