@@ -17,6 +17,7 @@ mod rows;
 
 use crate::conv::rows::{has_long_rows, sums_by_rows};
 use crate::linalg::inner::inner_of;
+use crate::linalg::row_sums::push_zeros;
 use crate::order::Order;
 use crate::order::rows::BoxRows;
 use crate::reduce::range_tests::inner_stays_in_range;
@@ -137,7 +138,7 @@ fn over_columns<A: LinalgScalar, D: Dimension>(
     Ok(sums.reversed_axes())
 }
 
-/// The same by rows of the result where these are long, else window by window.
+/// The same by rows of the result where these are longer than the kernel's, else window by window.
 fn over_rows<A: LinalgScalar, D: Dimension>(
     alloc: Global,
     a: &ArrayView<'_, A, D>,
@@ -147,7 +148,7 @@ fn over_rows<A: LinalgScalar, D: Dimension>(
     ensures { MakesValues A.Valued (valid_counts a.now.lengths mirrored.now.lengths) (window_sum A.Valued a.now mirrored.now) result }
 {
     let positions = a.windows(mirrored.raw_dim()).raw_dim();
-    if has_long_rows(&positions) {
+    if has_long_rows(&positions, &mirrored.raw_dim()) {
         sums_by_rows(alloc, a, mirrored, positions)
     } else {
         over_each_window(alloc, a, mirrored)
@@ -365,23 +366,13 @@ fn between_zeros<A: LinalgScalar>(
 {
     let len = x.len() + 2 * count;
     let mut cells = Vec::with_capacity(alloc, len)?;
-    push_zeros(&mut cells, count)?;
+    push_zeros(&mut cells, count);
     for cell in x.iter() {
-        cells.push(*cell)?;
+        cells.push_reserved(*cell);
     }
-    push_zeros(&mut cells, count)?;
+    push_zeros(&mut cells, count);
     let Ok(array) = Array::from_shape_vec(len, cells) else {
         unreachable!()
     };
     Ok(array)
-}
-
-/// Pushes zeros.
-fn push_zeros<A: LinalgScalar>(cells: &mut Vec<A>, count: usize) -> Result<(), AllocError>
-    ensures { IfOk result (λ _. cells.new.items ≡ cells.old.items ++ replicate count A.zero) }
-{
-    for _ in 0..count {
-        cells.push(A::zero())?;
-    }
-    Ok(())
 }

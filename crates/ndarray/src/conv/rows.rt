@@ -21,10 +21,13 @@ use std::alloc::{AllocError, Global};
 /// The most positions whose sums are made at once, so that they stay in cache until all products are added.
 const TILE: usize = 1024;
 
-/// Whether the rows of a box are long enough for sums that are made all at once.
-pub(super) fn has_long_rows<D: Lengths>(positions: &D) -> bool {
-    let ndim = positions.ndim();
-    ndim > 0 && positions.axis(ndim - 1) >= 8
+/// Whether sums that are made all at once take longer runs than inner sums do: where the rows of the positions are no shorter than
+/// those of the kernel. A row of fewer than eight positions is not worth it.
+pub(super) fn has_long_rows<D: Lengths>(positions: &D, kernel: &D) -> bool {
+    let (Some(count), Some(columns)) = (positions.slice().last(), kernel.slice().last()) else {
+        return false;
+    };
+    *count >= 8 && count >= columns
 }
 
 /// At each position of a window of the lengths of an array on another, the sum of the products of the window's cells with that array's.
