@@ -9,7 +9,7 @@ mod dynamic;
 mod dynamic_range_tests;
 mod entries;
 mod general;
-mod inner;
+pub(crate) mod inner;
 mod kronecker;
 mod matrix_products;
 mod products;
