@@ -6,7 +6,7 @@ ghost use Rattle.ndarray.specs.Grid.{IsGrid};
 ghost use Rattle.ndarray.specs.Index.{size};
 ghost use Rattle.ndarray.specs.Limits.{IsWithinLimit};
 ghost use Rattle.ndarray.specs.base.Builder.{pushed_all};
-ghost use Rattle.ndarray.specs.stacking.Blocks.{HasBlockAt, MayJoin, all_blocks, blocks_at};
+ghost use Rattle.ndarray.specs.stacking.Blocks.{HasBlockAt, MayJoin, all_blocks, block_at, blocks_at};
 
 use crate::base::array::{Array, ArrayView};
 use crate::base::builder::ArrayBuilder;
@@ -59,11 +59,30 @@ fn push_blocks<A: Clone, D: Lengths, E: Lengths>(
     ensures none { length (blocks_at axis (D.numbers index.now) arrays.now) ≡ 0 → IsOk result }
 {
     for array in arrays {
-        let count = block_len(axis, &array.raw_dim());
-        let cells = RowElements::starting_at(array.again(), index.copied(), count);
-        push_clones(builder, cells)?;
+        push_block(builder, axis, array, index)?;
     }
     Ok(())
+}
+
+/// Pushes clones of the block of an array at an index list.
+fn push_block<A: Clone, D: Lengths, E: Lengths>(
+    builder: &mut ArrayBuilder<A, E>,
+    axis: usize,
+    array: &ArrayView<'_, A, D>,
+    index: &D,
+) -> Result<(), AllocError>
+    requires clones { ClonesAreEqual A.is_clone }
+    requires block { HasBlockAt axis (D.numbers index.now) array.now }
+    requires room { length builder.old.cells + length (block_at axis (D.numbers index.now) array.now) ≤ size builder.old.lengths }
+    ensures pushed { IfOk result (λ _. builder.new ≡ pushed_all builder.old (block_at axis (D.numbers index.now) array.now)) }
+    ensures none { length (block_at axis (D.numbers index.now) array.now) ≡ 0 → IsOk result }
+{
+    let count = block_len(axis, &array.raw_dim());
+    if count == 1 {
+        builder.push(array.item(index).clone()?);
+        return Ok(());
+    }
+    push_clones(builder, RowElements::starting_at(array.again(), index.copied(), count))
 }
 
 /// Pushes clones of cells, row by row.
