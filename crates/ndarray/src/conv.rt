@@ -13,7 +13,7 @@ ghost use Rattle.ndarray.specs.Subviews.{ArePositive};
 ghost use Rattle.ndarray.specs.Sums.{IsSummable, total};
 
 use crate::linalg::inner::cells_of;
-use crate::reduce::range_tests::{checked_inner, products_stay_in_range};
+use crate::reduce::range_tests::{inner_stays_in_range, products_stay_in_range};
 use crate::zip::all_items::all_in_either_order;
 use crate::zip::closures::ItemCall;
 use crate::zip::collecting::collect_in_either_order;
@@ -295,7 +295,7 @@ fn overlap_fits<A: IntegerElem>(
     let first_mirrored = mirrored.len().saturating_sub(s + 1);
     let left = cells_of(cells_from(x, first));
     let right = cells_of(cells_from(mirrored, first_mirrored));
-    checked_inner(left, right).is_some()
+    inner_stays_in_range(left, right)
 }
 
 /// The cells of a vector from one on.

@@ -245,9 +245,19 @@ fn checked_dot_of<A: IntegerElem>(x: &ArrayView<'_, A, Ix1>, y: &ArrayView<'_, A
     checked_inner(cells_of(x.view()), cells_of(y.view()))
 }
 
-/// The sum of the products of two lists of cells, place by place, where their absolute values add up to at most the type's
-/// greatest number.
-pub(crate) fn checked_inner<A: IntegerElem>(
+/// Whether the absolute values of the products of two lists of cells, place by place, add up to at most the type's greatest number.
+pub(crate) fn inner_stays_in_range<A: IntegerElem>(
+    left: Strided<'_, A>,
+    right: Strided<'_, A>,
+) -> bool
+    ensures magnitudes { IsTrue result ↔ A.fits (pos (magnitude_sum (products_of int_products A.value left.entry right.entry))) }
+    ensures selections { IsTrue result → IsSummable int_sums A.fits (products_of int_products A.value left.entry right.entry) }
+{
+    checked_inner(left, right).is_some()
+}
+
+/// The sum of the products, where it is so.
+fn checked_inner<A: IntegerElem>(
     left: Strided<'_, A>,
     right: Strided<'_, A>,
 ) -> Option<A>

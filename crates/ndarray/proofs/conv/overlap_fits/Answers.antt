@@ -7,9 +7,9 @@ use Rattle.ndarray.specs.Products.{magnitude_sum, products_of}
 use Rattle.ndarray.specs.Sums.{IsSummable}
 use Rattle.ndarray.proofs.convolution.Overlaps.{overlap-products}
 use Rattle.ndarray.proofs.conv.overlap_fits.Goals as goal
-use Rattle.ndarray.proofs.conv.overlap_fits.Goals.{After-is_some}
+use Rattle.ndarray.proofs.conv.overlap_fits.Goals.{After-inner_stays_in_range}
 
-module _ (g : _) (c : After-is_some g) where
+module _ (g : _) (c : After-inner_stays_in_range g) where
   products : products_of int_products g.A.Number.value c.cells_of-left.result c.cells_of-right.result ≡ convolution_products int_products g.A.Number.value c.args.x.now.cells (reverse c.args.mirrored.now.cells) c.args.s
   products =
       let times = products_of int_products g.A.Number.value in
@@ -21,7 +21,7 @@ module _ (g : _) (c : After-is_some g) where
       ∙ overlap-products int_products g.A.Number.value xs (reverse zs) c.args.s)
 
 pub returns-clause-magnitudes : goal.returns-clause-magnitudes
-returns-clause-magnitudes g c = subst (λ l. IsTrue c.is_some.result ↔ g.A.Number.fits (pos (magnitude_sum l))) (products g c) (rw c.is_some.ensures c.checked_inner.ensures.magnitudes)
+returns-clause-magnitudes g c = subst (λ l. IsTrue c.inner_stays_in_range.result ↔ g.A.Number.fits (pos (magnitude_sum l))) (products g c) c.inner_stays_in_range.ensures.magnitudes
 
 pub returns-clause-selections : goal.returns-clause-selections
-returns-clause-selections g c = subst (λ l. IsTrue c.is_some.result → IsSummable int_sums g.A.Number.fits l) (products g c) (rw c.is_some.ensures c.checked_inner.ensures.selections)
+returns-clause-selections g c = subst (λ l. IsTrue c.inner_stays_in_range.result → IsSummable int_sums g.A.Number.fits l) (products g c) c.inner_stays_in_range.ensures.selections
