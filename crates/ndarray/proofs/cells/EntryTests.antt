@@ -12,7 +12,7 @@ use Rattle.ndarray.specs.Views.{axis_item}
 use Rattle.ndarray.specs.WholeValues.{HasMagnitudesInRange}
 use Rattle.ndarray.specs.declared.elements.Valued.{Ghosts as ValuedGhosts}
 use Rattle.ndarray.proofs.cells.Cells.{tabulate-cell}
-use Rattle.ndarray.proofs.cells.Matrices.{below-same, column-values, one-length, row-values, two-lengths, vector-values}
+use Rattle.ndarray.proofs.cells.Matrices.{below-same, column-values, row-values, two-lengths, vector-values}
 use Rattle.ndarray.proofs.lists.Decisions.{says_yes}
 use Rattle.ndarray.proofs.sums.InnerSums.{products-below}
 

@@ -257,10 +257,7 @@ pub(crate) fn inner_stays_in_range<A: IntegerElem>(
 }
 
 /// The sum of the products, where it is so.
-fn checked_inner<A: IntegerElem>(
-    left: Strided<'_, A>,
-    right: Strided<'_, A>,
-) -> Option<A>
+fn checked_inner<A: IntegerElem>(left: Strided<'_, A>, right: Strided<'_, A>) -> Option<A>
     ensures magnitudes { IsSome result ↔ A.fits (pos (magnitude_sum (products_of int_products A.value left.entry right.entry))) }
     ensures selections { IsSome result → IsSummable int_sums A.fits (products_of int_products A.value left.entry right.entry) }
     ensures sum { IfSome result (λ s. A.value s ≡ total int_sums (products_of int_products A.value left.entry right.entry)) }

@@ -209,7 +209,10 @@ fn push_block<A: Clone, D: Lengths, E: Lengths>(
         builder.push(array.item(index).clone()?);
         return Ok(());
     }
-    push_clones(builder, RowElements::starting_at(array.again(), index.copied(), count))
+    push_clones(
+        builder,
+        RowElements::starting_at(array.again(), index.copied(), count),
+    )
 }
 
 /// Pushes clones of cells, row by row.

@@ -9,7 +9,7 @@ invariant-cells g l =
     let v = g.A.Number.value in
     let fits = g.A.Number.fits in
     (whole rest : _) → SignedSoFar fits whole (products_of int_products v l.xs l.ys ++ rest) (v l.fn.sums.magnitude) (v l.fn.sums.sum)
-        → SignedSoFar fits whole (products_of int_products v (drop l.i l.xs) (drop l.i l.ys) ++ rest) (v l.sums.magnitude) (v l.sums.sum)
+    → SignedSoFar fits whole (products_of int_products v (drop l.i l.xs) (drop l.i l.ys) ++ rest) (v l.sums.magnitude) (v l.sums.sum)
 
 abbrev pub decreases-cells : goal.decreases-cells
 decreases-cells g l = length l.xs - l.i

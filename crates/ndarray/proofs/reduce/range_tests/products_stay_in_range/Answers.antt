@@ -20,8 +20,7 @@ loop-row-init g c =
     let x = c.args.x.now in
     let y = c.args.y.now in
     let products = products_of int_products v x.cells y.cells in
-    let rows = c.new-rows.ensures ∙ ap (rows_in RowMajor) c.raw_dim.ensures.lengths in
-    (
+    let rows = c.new-rows.ensures ∙ ap (rows_in RowMajor) c.raw_dim.ensures.lengths in (
       subst (HasRows x) (sym rows) (HasRows-rows_in x RowMajor c.raw_dim.ensures.whole),
       (
         subst (HasRows y) (sym (rows ∙ ap (rows_in RowMajor) c.requires.same)) (HasRows-rows_in y RowMajor c.raw_dim-whole.ensures.whole),
@@ -70,8 +69,7 @@ loop-row-preserved g c =
     let rest = joined (map (row_products int_products v x y) c.next.new.self) in
     let next = ap (λ rs. joined (map (row_products int_products v x y) rs)) c.in-Some.ensures
     ∙ (ap (λ l. products_of int_products v l (filter_map (cell y) row) ++ rest) (sym c.cells_along-left.ensures)
-    ∙ ap (λ l. products_of int_products v c.cells_along-left.result l ++ rest) (sym c.cells_along-right.ensures)) in
-    (
+    ∙ ap (λ l. products_of int_products v c.cells_along-left.result l ++ rest) (sym c.cells_along-right.ensures)) in (
       (rows-next x c.loop-row.rows c.next.new.self row c.in-Some.ensures c.loop-row.invariant.0).1,
       (
         (rows-next y c.loop-row.rows c.next.new.self row c.in-Some.ensures c.loop-row.invariant.1.0).1,

@@ -1,5 +1,4 @@
 use Rattle.std.proofs.Common.{◌≡◌, ◌+◌, ◌<◌, ◌≤◌, ◌∙◌, ap, arith, drop, length, subst, sym}
-use Rattle.std.proofs.lemmas.Bool.{false≢true}
 use Rattle.ndarray.specs.Index.{InBox, size}
 use Rattle.ndarray.specs.base.Builder.{pushed_all, pushed_to}
 use Rattle.ndarray.specs.base.Ranks.{rank}
