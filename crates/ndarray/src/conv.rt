@@ -3,7 +3,7 @@
 //! A convolution is defined on the values of the cells (`specs/Convolution.antt`), and each call requires that at each place every
 //! selection of the products has its sum in range, so that no order of adding leaves the range.
 
-ghost use Rattle.std.specs.Prelude.{⊤, ℕ, List, ◌≡◌, ◌+◌, ◌*◌, ◌^◌, ◌<◌, ◌≤◌, ◌++◌, IfOk, IsTrue, ◌↔◌, drop, length, pos, replicate, reverse};
+ghost use Rattle.std.specs.Prelude.{ℕ, List, ◌≡◌, ◌+◌, ◌*◌, ◌^◌, ◌<◌, ◌≤◌, ◌++◌, IfOk, IsTrue, ◌↔◌, drop, length, pos, replicate, reverse};
 ghost use Rattle.ndarray.specs.Convolution.{CanPad, HasFullMagnitudesInRange, HasFullSelectionsInRange, HasFullSumsInRange, HasValidMagnitudesInRange, HasValidSumsInRange, HasWindowMagnitudesInRange, MakesFullConvolution, MakesValidConvolution, TestsProducts, convolution_products, padded, valid_counts, window_products};
 ghost use Rattle.ndarray.specs.Grid.{IsGrid, one_axis};
 ghost use Rattle.ndarray.specs.Index.{InBox};
@@ -16,16 +16,17 @@ ghost use Rattle.ndarray.specs.WindowSums.{CanSumWindows, window_sum};
 mod rows;
 
 use crate::conv::rows::{has_long_rows, sums_by_rows};
-use crate::linalg::inner::inner_of;
+use crate::linalg::inner::{cells_of, inner_of};
 use crate::linalg::row_sums::push_zeros;
 use crate::order::Order;
 use crate::order::rows::BoxRows;
-use crate::reduce::range_tests::inner_stays_in_range;
+use crate::reduce::range_tests::{inner_stays_in_range, products_stay_in_range};
+use crate::zip::all_items::all_in_either_order;
 use crate::zip::closures::ItemCall;
 use crate::zip::collecting::collect_in_either_order;
 use crate::{
     Array, ArrayBase, ArrayView, Axis, Data, Dimension, IntegerElem, IntegerScalar, Ix1, Lengths,
-    LinalgScalar, Zip,
+    LinalgScalar,
 };
 use std::alloc::{AllocError, Global};
 
@@ -223,9 +224,12 @@ fn windows_fit<A: IntegerElem, D: Dimension>(
     ensures selections { IsTrue result → (ps : List ℕ) → InBox (valid_counts a.now.lengths mirrored.now.lengths) ps → IsSummable int_sums A.fits (window_products int_products A.value a.now mirrored.now ps) }
 {
     let windows = a.windows(mirrored.raw_dim());
-    Zip::from(windows).all_items(WindowTest {
-        kernel: mirrored.view(),
-    })
+    all_in_either_order(
+        windows,
+        WindowTest {
+            kernel: mirrored.view(),
+        },
+    )
 }
 
 /// Whether the absolute values of the products of a window's cells with those of an array of its lengths add up to at most the type's greatest
@@ -238,12 +242,12 @@ struct WindowTest<'k, A, D: Lengths> {
 impl<'a, 'k, A: IntegerElem, D: Lengths> ItemCall<ArrayView<'a, A, D>> for WindowTest<'k, A, D> {
     type Out = bool;
 
-    ghost can_call = { λ _ _. ⊤ };
+    ghost can_call = { λ c w. w.lengths ≡ c.kernel.lengths };
 
     ghost call_gives = { λ c w r d. TestsProducts A.value A.fits w.cells c.kernel.cells r × (d ≡ c) };
 
     fn call(&mut self, window: ArrayView<'a, A, D>) -> bool {
-        inner_stays_in_range(&window, &self.kernel)
+        products_stay_in_range(&window, &self.kernel)
     }
 }
 
@@ -343,7 +347,9 @@ fn overlap_fits<A: IntegerElem>(
 {
     let first = (s + 1).saturating_sub(mirrored.len());
     let first_mirrored = mirrored.len().saturating_sub(s + 1);
-    inner_stays_in_range(&cells_from(x, first), &cells_from(mirrored, first_mirrored))
+    let left = cells_of(cells_from(x, first));
+    let right = cells_of(cells_from(mirrored, first_mirrored));
+    inner_stays_in_range(left, right)
 }
 
 /// The cells of a vector from one on.
