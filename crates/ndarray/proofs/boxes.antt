@@ -3,7 +3,7 @@ pub mod Boxes
 pub mod CountedRows
 pub mod JoinedBoxes
 pub mod Orders
-pub mod ProductRows
+pub mod RowProducts
 pub mod ProductShapes
 pub mod RowParts
 pub mod Rows

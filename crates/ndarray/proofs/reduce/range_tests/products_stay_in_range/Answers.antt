@@ -6,7 +6,7 @@ use Rattle.ndarray.specs.Products.{products_of}
 use Rattle.ndarray.specs.Rows.{HasRows, joined, rows_in}
 use Rattle.ndarray.specs.base.Ranks.{row_from}
 use Rattle.ndarray.specs.declared.base.shape.Order.TheVariants.{RowMajor}
-use Rattle.ndarray.proofs.boxes.ProductRows.{products-by_rows, row_products, rows-next}
+use Rattle.ndarray.proofs.boxes.RowProducts.{products-by_rows, row_products, rows-next}
 use Rattle.ndarray.proofs.lists.Decisions.{says_no}
 use Rattle.ndarray.proofs.runs.Rows.{HasRows-rows_in}
 use Rattle.ndarray.proofs.strides.Rows.{length-row_from}

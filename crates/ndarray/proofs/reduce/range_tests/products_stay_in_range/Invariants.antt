@@ -3,7 +3,7 @@ use Rattle.ndarray.specs.Integers.{int_products}
 use Rattle.ndarray.specs.MagnitudeSums.{SignedSoFar}
 use Rattle.ndarray.specs.Products.{products_of}
 use Rattle.ndarray.specs.Rows.{HasRows, joined}
-use Rattle.ndarray.proofs.boxes.ProductRows.{row_products}
+use Rattle.ndarray.proofs.boxes.RowProducts.{row_products}
 use Rattle.ndarray.proofs.reduce.range_tests.products_stay_in_range.Given as goal
 
 abbrev pub invariant-loop-row : goal.invariant-loop-row

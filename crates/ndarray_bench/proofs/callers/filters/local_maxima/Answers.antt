@@ -29,7 +29,7 @@ are-maxima g two whole r made =
       lengths = lengths;
       whole = subst IsGrid (sym made) (array_by-whole (counts g) (greatest_in_square g));
       bounds = λ is js x y at there. at-each-cell (square g is) (whole-square is x at) (λ z. z ≤ x) (greatest-bounds (square g is).cells 0 x (greatest is x at)).1 js y there;
-      reached = λ is x at. some-cell (square g is) (whole-square is x at) x (greatest-reached (square g is).cells (omega (arith, whole-square is x at)) x (greatest is x at));
+      reached = λ is x at. some-cell (square g is) (whole-square is x at) x (let some : IsGrid (square g is) = whole-square is x at in greatest-reached (square g is).cells (omega (arith, some)) x (greatest is x at));
     }
 
 pub returns-clause-maxima : goal.returns-clause-maxima

@@ -7,8 +7,8 @@ use Rattle.ndarray.specs.Limits.{IsWithinLimit}
 use Rattle.ndarray.specs.Matrices.{IsSameMatrix}
 use Rattle.ndarray.specs.Products.{ShapesMultiply, column_of, matrix_of, product_of}
 use Rattle.ndarray.specs.WholeValues.{HasMagnitudesInRange}
-use Rattle.ndarray.proofs.algebra.Chains.{matrix-by_vector}
 use Rattle.ndarray.proofs.callers.Collecting.{if_ok-both}
+use Rattle.ndarray.proofs.callers.Products.{matrix-by_vector}
 use Rattle.ndarray.proofs.callers.SameMatrices.{column-as, magnitudes-same, made-column, product-same, same-back, same-self}
 use Rattle.ndarray_bench.specs.RangeTests.{MayApplyTwice, applied, applied_twice, whole_i64}
 use Rattle.ndarray_bench.proofs.callers.range_tests.apply_twice.Goals as goal
