@@ -63,9 +63,6 @@ def name_of_impl(module, header, homes):
     if of_trait and of_trait != "Drop":
         said = ["".join(it[0].upper() + it[1:] for it in words(part, names)) for part in (kind, of_trait)]
         name, *right = words(of_trait, names)
-        if said[0] == "Array" and "<" in of_trait and right in ([], ["Array"]):
-            # Of an operator between an array and another one, or a scalar of any type, the parameters are told too.
-            return f"{module}::ArrayAnyAny{name}{'' if right else 'Any'}"
         if right and right == words(kind, names):
             # Of a trait whose parameter is of the type's own form, it is told once.
             said[1] = name
