@@ -20,10 +20,10 @@ are-maxima g two whole r made =
     let ones : replicate (length g.lengths) 1 ≡ 1 ∷ 1 ∷ [] = ap (λ n. replicate n 1) two in
     let lengths : r.lengths ≡ counts g = ap (λ w. w.lengths) made in
     let whole-square : (is : List ℕ) (x : ℕ) → cell r is ≡ Some x → IsGrid (square g is) = λ is x at.
-        let inside : InBox (counts g) is = subst (λ ns. InBox ns is) lengths (cell-inside r is x at) in
-        subst (λ ss. IsGrid (window g (3 ∷ 3 ∷ []) ss is)) ones
-        (window-whole g whole (3 ∷ 3 ∷ []) is (sym two) (subst (λ ss. InBox (window_counts g.lengths (3 ∷ 3 ∷ []) ss) is) (sym ones) inside))
-        in
+    let inside : InBox (counts g) is = subst (λ ns. InBox ns is) lengths (cell-inside r is x at) in
+    subst (λ ss. IsGrid (window g (3 ∷ 3 ∷ []) ss is)) ones
+    (window-whole g whole (3 ∷ 3 ∷ []) is (sym two) (subst (λ ss. InBox (window_counts g.lengths (3 ∷ 3 ∷ []) ss) is) (sym ones) inside))
+    in
     let greatest : (is : List ℕ) (x : ℕ) → cell r is ≡ Some x → x ≡ greatest_in_square g is = λ is x at. array_by-at (counts g) (greatest_in_square g) r is x made (cell-inside r is x at) at in
     record {
       lengths = lengths;

@@ -32,9 +32,10 @@ module _ (a x once : Grid ℤ) (two : length a.lengths ≡ 2) (made : HasColumn 
 
   may-multiply : IsWithinLimit a.lengths → IsWithinLimit once.lengths → MayApplyTwice a x → MayMultiply
   may-multiply left right m =
-      let square : get_or a.lengths 1 0 ≡ get_or once.lengths 0 0 = sym m.square ∙ sym rows in
-      (matrix-by_vector a.lengths once.lengths two one square left right,
-      magnitudes-same (FitsSigned w64) (matrix_of whole_i64 a) (column_of whole_i64 once) (matrix_of whole_i64 a) (applied a x) (same-self (matrix_of whole_i64 a)) same square m.twice)
+      let square : get_or a.lengths 1 0 ≡ get_or once.lengths 0 0 = sym m.square ∙ sym rows in (
+        matrix-by_vector a.lengths once.lengths two one square left right,
+        magnitudes-same (FitsSigned w64) (matrix_of whole_i64 a) (column_of whole_i64 once) (matrix_of whole_i64 a) (applied a x) (same-self (matrix_of whole_i64 a)) same square m.twice,
+      )
 
   may-apply : ShapesMultiply a.lengths x.lengths → HasMagnitudesInRange (FitsSigned w64) (matrix_of whole_i64 a) (column_of whole_i64 x) → MayMultiply → MayApplyTwice a x
   may-apply shapes once_fits (s, t) = record {
@@ -59,9 +60,10 @@ returns-clause-when c =
     let made : HasColumn whole_i64 (applied a x) c.in-Some.once = subst (λ o. IfSome o (HasColumn whole_i64 (applied a x))) c.in-Some.is c.in_ok-once.ensures.product in
     let first = c.in_ok-once.ensures.when.0 (subst IsSome (sym c.in-Some.is) refl) in
     if_ok-both c.checked_matrix_times_vector-2.result _ _ _
-    (λ o when p.
-    (λ some. may-apply a x c.in-Some.once c.raw_dim.ensures.axes made first.0 first.1 (when.0 some),
-    λ m. when.1 (may-multiply a x c.in-Some.once c.raw_dim.ensures.axes made c.raw_dim.ensures.limit c.raw_dim-2.ensures.limit m)))
+    (λ o when p. (
+      λ some. may-apply a x c.in-Some.once c.raw_dim.ensures.axes made first.0 first.1 (when.0 some),
+      λ m. when.1 (may-multiply a x c.in-Some.once c.raw_dim.ensures.axes made c.raw_dim.ensures.limit c.raw_dim-2.ensures.limit m),
+    ))
     c.checked_matrix_times_vector-2.ensures.when c.checked_matrix_times_vector-2.ensures.when
 
 pub returns-clause-product : goal.returns-clause-product
