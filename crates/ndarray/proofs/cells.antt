@@ -15,8 +15,10 @@ pub mod EntryTests
 pub mod IndexedCells
 pub mod LaneCells
 pub mod LanePairs
+pub mod LaneSteps
 pub mod LaneSums
 pub mod LaneTests
+pub mod LaneTiles
 pub mod LaneTotals
 pub mod Matrices
 pub mod ProductRows

@@ -1,13 +1,13 @@
 //! The two orders of a box, and the walk over its index lists.
 
-ghost use Rattle.std.specs.Prelude.{◌≡◌, List, ℕ, ◌+◌, ◌<◌, ◌≤◌, ◌^◌, length, take, drop, ⊤, ◌↔◌, Contains, IfSome, IsPermutation, IsTrue, MatchOption, []};
+ghost use Rattle.std.specs.Prelude.{◌≡◌, List, ℕ, ◌+◌, ◌-◌, ◌<◌, ◌≤◌, ◌^◌, length, min, take, drop, ⊤, ◌↔◌, Contains, IfSome, IsPermutation, IsTrue, MatchOption, []};
 ghost use Rattle.std.specs.Iterator.{YieldsFirstBy, YieldsLastBy, UpTo, item_count};
 ghost use Rattle.std.specs.Iterator.SizeHint.{IsExactHint, IsWithinCount};
 ghost use Rattle.ndarray.specs.Index.{InBox, size, IsRowOrder};
 ghost use Rattle.ndarray.specs.Limits.{IsWithinLimit};
 ghost use Rattle.ndarray.specs.Orders.{box_in, IsBoxIn};
-ghost use Rattle.ndarray.specs.base.Ranks.{rank_in};
-ghost use Rattle.ndarray.specs.order.Walks.{walk_rest, TakesRow, WalksFrom};
+ghost use Rattle.ndarray.specs.base.Ranks.{rank_in, row_at};
+ghost use Rattle.ndarray.specs.order.Walks.{walk_rest, FitsOnAxis, TakesRow, WalksFrom};
 
 pub(crate) mod rows;
 
@@ -152,6 +152,27 @@ pub(crate) struct Row<D> {
     pub(crate) first: D,
     pub(crate) axis: usize,
     pub(crate) count: usize,
+}
+
+impl<D: Lengths> Row<D> {
+    /// At most `most` of the index lists, from the one that comes `from` later than the first on.
+    pub(crate) fn part(&self, from: usize, most: usize) -> Self
+        requires fits { FitsOnAxis (D.numbers self.now.first) self.now.axis self.now.count }
+        requires within { from ≤ self.now.count }
+        ensures first { D.numbers result.first ≡ row_at (D.numbers self.now.first) self.now.axis from }
+        ensures axis { result.axis ≡ self.now.axis }
+        ensures count { result.count ≡ min most (self.now.count - from) }
+    {
+        let mut first = self.first.copied();
+        if self.axis < first.ndim() {
+            first.set_axis(self.axis, first.axis(self.axis) + from);
+        }
+        Row {
+            first,
+            axis: self.axis,
+            count: most.min(self.count - from),
+        }
+    }
 }
 
 impl<D: Lengths> Walk<D> {

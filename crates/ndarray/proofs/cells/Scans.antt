@@ -5,57 +5,31 @@ use Rattle.std.specs.List.{FoldsTo}
 use Rattle.std.proofs.Math.Seq.{get_or-append_seam, set-append_seam}
 use Rattle.std.proofs.lemmas.Bool.{cases_eq}
 use Rattle.std.proofs.lemmas.Fn.{FoldsTo-push}
-use Rattle.std.proofs.lemmas.List.{get_or_append_left, get_or-set_same, length-set, set-get_or}
+use Rattle.std.proofs.lemmas.List.{get_or_default, get_or-set_same, length-set, map-append, set-get_or, set-set}
 use Rattle.std.proofs.lemmas.List.Edits.{length-remove}
-use Rattle.std.proofs.lemmas.List.Elements.{All-contains, All-push}
+use Rattle.std.proofs.lemmas.List.Elements.{All-append, All-contains, All-map, All-weaker, Contains-append_left, Contains-append_right, Contains-get_or}
 use Rattle.std.proofs.lemmas.Option.{get_or_from_slice_get, slice_get_within}
 use Rattle.ndarray.specs.Grid.{Grid, IsGrid, array_by, cell, cells_by, tabulate}
 use Rattle.ndarray.specs.Index.{InBox, row_order}
+use Rattle.ndarray.specs.Orders.{box_in}
+use Rattle.ndarray.specs.Rows.{joined, rows_in}
 use Rattle.ndarray.specs.Scans.{ScanStep, MayScan, MayScanLanes, ScansLanes, ScansTo}
 use Rattle.ndarray.specs.Subviews.{lane, lanes_along, lanes_of}
 use Rattle.ndarray.specs.Writes.{with_cell}
-use Rattle.ndarray.specs.base.Laws.{slice_set-here, slice_set-elsewhere}
-use Rattle.ndarray.specs.declared.base.shape.Order.TheVariants.{RowMajor}
-use Rattle.ndarray.proofs.boxes.Boxes.{InBox-get, InBox-length, InBox-set, InBox-set_both}
-use Rattle.ndarray.proofs.boxes.Orders.{box_in-within, row_order-is}
+use Rattle.ndarray.specs.base.LaneScans.{AreOnLanes, MayScanEach, ScansEach, lanes_at}
+use Rattle.ndarray.specs.base.Ranks.{rank_in}
+use Rattle.ndarray.specs.declared.base.shape.Order.{Order}
+use Rattle.ndarray.proofs.boxes.Boxes.{InBox-get, InBox-length, InBox-set_both}
+use Rattle.ndarray.proofs.boxes.LaneIndices.{AreOnLanes-first, AreOnLanes-second}
+use Rattle.ndarray.proofs.boxes.Orders.{box_in-at, box_in-back, box_in-within, length-box_in, rank_in-lt}
+use Rattle.ndarray.proofs.boxes.Rows.{rows-joined}
 use Rattle.ndarray.proofs.callers.Collecting.{array_by-at, lanes_of-some}
-use Rattle.ndarray.proofs.cells.Assignments.{here-first, here-within}
 use Rattle.ndarray.proofs.cells.Cells.{array_by-cell, cell-inside, tabulate-same}
-use Rattle.ndarray.proofs.cells.LaneCells.{lane-among, lane-cell, lane-length, no-lane}
-use Rattle.ndarray.proofs.cells.Writes.{with_cell-whole, with_cell-here, with_cell-elsewhere}
-use Rattle.ndarray.proofs.lists.Elements.{filled-slice, filter_map-from_map, insert-remove, remove-inserted, same_from_slice_get}
+use Rattle.ndarray.proofs.cells.LaneCells.{lane-among, no-lane}
+use Rattle.ndarray.proofs.cells.Writes.{with_cell-whole, with_cell-here}
+use Rattle.ndarray.proofs.lists.Elements.{filter_map-from_map, insert-remove, mapped-all, remove-inserted}
+use Rattle.ndarray.proofs.lists.Parts.{All-first, All-second, AllPairs-across, Contains-map, Contains-map_back}
 use Rattle.ndarray.proofs.views.Items.{InBox-insert}
-
-remove-set : (is : List ℕ) (k v : ℕ) → remove (set is k v) k ≡ remove is k
-remove-set [] k v = refl
-remove-set (i ∷ is) zero v = refl
-remove-set (i ∷ is) (suc k) v = ap (λ l. i ∷ l) (remove-set is k v)
-
-set-twice : (is : List ℕ) (k v w : ℕ) → set (set is k v) k w ≡ set is k w
-set-twice [] k v w = refl
-set-twice (i ∷ is) zero v w = refl
-set-twice (i ∷ is) (suc k) v w = ap (λ l. i ∷ l) (set-twice is k v w)
-
--- a lane through a cell that is written has it at the cell's index, and its other cells as before
-module _ {A : Type 0} (g : Grid A) (whole : IsGrid g) (k : ℕ) (lt : k < length g.lengths) (i : List ℕ) (b : InBox g.lengths i) (y : A) where
-  pub lane-written : (lane (with_cell g i y) k (remove i k)).cells ≡ set (lane g k (remove i k)).cells (get_or i k 0) y
-  lane-written =
-      let w : Grid A = with_cell g i y in
-      let ww = with_cell-whole g i y whole in
-      let long = lane-length w ww k lt i b in
-      let old = lane-length g whole k lt i b in
-      let more = length-set (lane g k (remove i k)).cells (get_or i k 0) y in
-      let inside = InBox-get g.lengths i k b lt in
-      let many = InBox-length g.lengths i b in
-      same_from_slice_get (lane w k (remove i k)).cells (set (lane g k (remove i k)).cells (get_or i k 0) y) (long ∙ (sym old ∙ sym more))
-      (λ j at.
-      let below : j < get_or g.lengths k 0 = omega (arith, at, long) in
-      lane-cell w ww k lt i b j below
-      ∙ elim (cases_eq j (get_or i k 0)) [
-        | inl e ↦ ap (λ v. cell w (set i k v)) e ∙ (ap (cell w) (set-get_or i k 0) ∙ (with_cell-here g i y whole b ∙ (sym (slice_set-here (lane g k (remove i k)).cells (get_or i k 0) y (filled-slice (lane g k (remove i k)).cells (get_or i k 0) (omega (arith, inside, old)))) ∙ ap (slice_get (set (lane g k (remove i k)).cells (get_or i k 0) y)) (sym e))))
-        | inr ne ↦ with_cell-elsewhere g i (set i k j) y (λ q. ne (sym (get_or-set_same i k j 0 (omega (arith, many, lt))) ∙ ap (λ l. get_or l k 0) q))
-            ∙ (sym (lane-cell g whole k lt i b j below) ∙ sym (slice_set-elsewhere (lane g k (remove i k)).cells (get_or i k 0) j y ne))
-      ])
 
 -- arrays that agree along a lane have it in common
 pub lane-kept : {A : Type 0} (g h : Grid A) (k : ℕ) (js : List ℕ) → g.lengths ≡ h.lengths → k ≤ length js → ((is : List ℕ) → remove is k ≡ js → cell g is ≡ cell h is) → lane g k js ≡ lane h k js
@@ -124,61 +98,60 @@ module _ {A B : Type 0} (gives : B → A → B × A → Type 0) (init : B) where
           let at = a.at in
           absurd (omega (arith, many, all, at, full))
 
-  -- a lane of which the cells before i are replaced
-  module _ (old : Grid A) (k : ℕ) (js : List ℕ) where
-    pub record LaneState (v : B) (a : Grid A) (i : ℕ) (idx : List ℕ) : Type 0 where
-      pub lengths : a.lengths ≡ old.lengths
-      pub whole : IsGrid a
-      pub inside : InBox old.lengths idx
-      pub own : remove idx k ≡ js
-      pub along : Along (lane old k js).cells v (lane a k js).cells i
-      pub others : (is : List ℕ) → remove is k ≢ js → cell a is ≡ cell old is
+-- some of the lanes of an array are scanned, and then others
+module _ {A B : Type 0} (gives : B → A → B × A → Type 0) (init : B) (k : ℕ) (old : Grid A) where
+  pub none-scanned : IsGrid old → ScansEach gives k init [] old old
+  none-scanned whole = record { lengths = refl; whole = whole; scanned = λ j d at. absurd (omega (arith, at)); kept = λ is no. refl }
 
-    pub Lane-start : (idx : List ℕ) → IsGrid old → InBox old.lengths idx → remove idx k ≡ js → LaneState init old 0 idx
-    Lane-start idx whole inside own = record { lengths = refl; whole = whole; inside = inside; own = own; along = Along-start (lane old k js).cells; others = λ is ne. refl }
+  module _ (lt : k < length old.lengths) (done part rest : List (List ℕ)) (on : AreOnLanes old.lengths k (done ++ (part ++ rest))) (a : Grid A) (before : ScansEach gives k init (lanes_at k done) old a) where
+    pub part-on : AreOnLanes a.lengths k part
+    part-on = subst (λ ns. AreOnLanes ns k part) (sym before.lengths) (AreOnLanes-first old.lengths k part rest (AreOnLanes-second old.lengths k done (part ++ rest) on))
 
-    module _ (lt : k < length old.lengths) {v : B} {a : Grid A} {i : ℕ} {idx : List ℕ} (s : LaneState v a i idx) where
-      lt-now : k < length a.lengths
-      lt-now = subst (λ ns. k < length ns) (sym s.lengths) lt
+    apart : (is js : List ℕ) → Contains done is → Contains part js → remove is k ≢ remove js k
+    apart is js d p = AllPairs-across (λ is js. remove is k ≢ remove js k) done (part ++ rest) is js on.apart d (Contains-append_left part rest js p)
 
-      inside-now : InBox a.lengths idx
-      inside-now = subst (λ ns. InBox ns idx) (sym s.lengths) s.inside
+    short : (ls : List (List ℕ)) → All (InBox old.lengths) ls → All (λ js. k ≤ length js) (lanes_at k ls)
+    short ls within = All-map (λ js. k ≤ length js) (λ is. remove is k) ls
+        (λ j d at. let b = InBox-length old.lengths (get_or ls j d) (within j d at) in let r = length-remove (get_or ls j d) k (omega (arith, b, lt)) in omega (arith, b, r, lt))
 
-      module _ (below : i < get_or old.lengths k 0) where
-        below-now : i < get_or a.lengths k 0
-        below-now = subst (λ ns. i < get_or ns k 0) (sym s.lengths) below
+    -- the lanes of the part are as they were
+    lane-before : All (λ js. lane a k js ≡ lane old k js) (lanes_at k part)
+    lane-before = All-map (λ js. lane a k js ≡ lane old k js) (λ is. remove is k) part
+        (λ j d at. lane-kept a old k (remove (get_or part j d) k) before.lengths
+        (mapped-all (λ js. k ≤ length js) (λ is. remove is k) part (short part (AreOnLanes-first old.lengths k part rest (AreOnLanes-second old.lengths k done (part ++ rest) on)).within) j d at)
+        (λ is e. before.kept is (λ c. let (s, d', q) = Contains-map_back (λ js. remove js k) done (remove is k) c in apart s (get_or part j d) d' (Contains-get_or part j d at) (q ∙ e))))
 
-        -- the index list of its cell i
-        pub Lane-within : InBox a.lengths (set idx k i)
-        Lane-within = InBox-set a.lengths idx k i inside-now below-now
+    pub part-asks : (can : B → A → Type 0) → MayScanEach gives can k init (lanes_at k (done ++ (part ++ rest))) old → MayScanEach gives can k init (lanes_at k part) a
+    part-asks can may = record {
+      each = All-map (λ js. MayScan gives can init (lane a k js).cells) (λ is. remove is k) part
+          (λ j d at. subst (λ w. MayScan gives can init w.cells) (sym (mapped-all (λ js. lane a k js ≡ lane old k js) (λ is. remove is k) part lane-before j d at))
+          (All-first (λ is. MayScan gives can init (lane old k (remove is k)).cells) part rest
+          (All-second (λ is. MayScan gives can init (lane old k (remove is k)).cells) done (part ++ rest)
+          (mapped-all (λ js. MayScan gives can init (lane old k js).cells) (λ is. remove is k) (done ++ (part ++ rest)) may.each)) j d at));
+    }
 
-        here : slice_get (lane a k js).cells i ≡ cell a (set idx k i)
-        here = ap (λ ls. slice_get (lane a k ls).cells i) (sym s.own) ∙ lane-cell a s.whole k lt-now idx inside-now i below-now
-
-        pub Lane-asks : (x : A) → cell a (set idx k i) ≡ Some x → (can : B → A → Type 0) → MayScan gives can init (lane old k js).cells → can v x
-        Lane-asks x e can may = Along-asks s.along (here ∙ e) can may
-
-        pub Lane-next : (x y : A) (w : B) (new : Grid A) → cell a (set idx k i) ≡ Some x → gives v x (w, y) → new ≡ with_cell a (set idx k i) y → LaneState w new (i + 1) (set idx k i)
-        Lane-next x y w new e given is-new =
-            let many = InBox-length a.lengths idx inside-now in
-            let place : get_or (set idx k i) k 0 ≡ i = get_or-set_same idx k i 0 (omega (arith, many, lt-now)) in
-            let own : remove (set idx k i) k ≡ js = remove-set idx k i ∙ s.own in
-            let written = lane-written a s.whole k lt-now (set idx k i) Lane-within y in
-            let cells : (lane new k js).cells ≡ set (lane a k js).cells i y =
-            ap (λ h. (lane h k js).cells) is-new ∙ (ap (λ ls. (lane (with_cell a (set idx k i) y) k ls).cells) (sym own) ∙ (written ∙ (ap (λ ls. set (lane a k ls).cells (get_or (set idx k i) k 0) y) own ∙ ap (λ p. set (lane a k js).cells p y) place))) in
-            record {
-              lengths = ap (λ h. h.lengths) is-new ∙ s.lengths;
-              whole = subst IsGrid (sym is-new) (with_cell-whole a (set idx k i) y s.whole);
-              inside = InBox-set old.lengths idx k i s.inside below;
-              own = own;
-              along = subst (λ l. Along (lane old k js).cells w l (i + 1)) (sym cells) (Along-next s.along (here ∙ e) w y given);
-              others = λ is ne. ap (λ h. cell h is) is-new ∙ (with_cell-elsewhere a (set idx k i) is y (λ q. ne (ap (λ l. remove l k) q ∙ own)) ∙ s.others is ne);
-            }
-
-      pub Lane-end : i ≡ get_or old.lengths k 0 → ScansTo gives init (lane old k js).cells (lane a k js).cells
-      Lane-end full =
-          let long : length (lane a k js).cells ≡ get_or a.lengths k 0 = ap (λ ls. length (lane a k ls).cells) (sym s.own) ∙ lane-length a s.whole k lt-now idx inside-now in
-          Along-end s.along (full ∙ (ap (λ ns. get_or ns k 0) (sym s.lengths) ∙ sym long))
+    pub part-scanned : (b : Grid A) → ScansEach gives k init (lanes_at k part) a b → ScansEach gives k init (lanes_at k (done ++ part)) old b
+    part-scanned b after = record {
+      lengths = after.lengths ∙ before.lengths;
+      whole = after.whole;
+      scanned = subst (All (λ js. ScansTo gives init (lane old k js).cells (lane b k js).cells)) (sym (map-append (λ is. remove is k) done part))
+          (All-append (λ js. ScansTo gives init (lane old k js).cells (lane b k js).cells) (lanes_at k done) (lanes_at k part)
+          (All-map (λ js. ScansTo gives init (lane old k js).cells (lane b k js).cells) (λ is. remove is k) done
+          (λ j d at.
+          let t : List ℕ = get_or done j d in
+          let long = mapped-all (λ js. k ≤ length js) (λ is. remove is k) done (short done (AreOnLanes-first old.lengths k done (part ++ rest) on).within) j d at in
+          let same : lane b k (remove t k) ≡ lane a k (remove t k) = lane-kept b a k (remove t k) after.lengths long
+          (λ is e. after.kept is (λ c. let (s, d', q) = Contains-map_back (λ js. remove js k) part (remove is k) c in apart t s (Contains-get_or done j d at) d' (sym (q ∙ e)))) in
+          subst (λ w. ScansTo gives init (lane old k (remove t k)).cells w.cells) (sym same)
+          (mapped-all (λ js. ScansTo gives init (lane old k js).cells (lane a k js).cells) (λ is. remove is k) done before.scanned j d at)))
+          (All-map (λ js. ScansTo gives init (lane old k js).cells (lane b k js).cells) (λ is. remove is k) part
+          (λ j d at. subst (λ w. ScansTo gives init w.cells (lane b k (remove (get_or part j d) k)).cells) (mapped-all (λ js. lane a k js ≡ lane old k js) (λ is. remove is k) part lane-before j d at)
+          (mapped-all (λ js. ScansTo gives init (lane a k js).cells (lane b k js).cells) (λ is. remove is k) part after.scanned j d at))));
+      kept = λ is no.
+          let split = map-append (λ js. remove js k) done part in
+          after.kept is (λ c. no (subst (λ l. Contains l (remove is k)) (sym split) (Contains-append_right (lanes_at k done) (lanes_at k part) (remove is k) c)))
+          ∙ before.kept is (λ c. no (subst (λ l. Contains l (remove is k)) (sym split) (Contains-append_left (lanes_at k done) (lanes_at k part) (remove is k) c)));
+    }
 
 -- the index lists of the first cells of lanes along an axis
 module _ (ns : List ℕ) (k m : ℕ) (lt : k < length ns) (one : m ≤ 1) (most : m ≤ get_or ns k 0) where
@@ -192,89 +165,67 @@ module _ (ns : List ℕ) (k m : ℕ) (lt : k < length ns) (one : m ≤ 1) (most 
   first-lt : (s : List ℕ) → InBox (set ns k m) s → k < length s
   first-lt s b = let l = length-set ns k m in let n = InBox-length (set ns k m) s b in omega (arith, l, n, lt)
 
-  pub first-inside : (s : List ℕ) → InBox (set ns k m) s → InBox ns s
+  first-inside : (s : List ℕ) → InBox (set ns k m) s → InBox ns s
   first-inside s b =
       let l = length-set ns k m in
       let h = InBox-get (set ns k m) s k b (omega (arith, l, lt)) in
       let e = get_or-set_same ns k m 0 lt in
-      subst (λ ms. InBox ms s) (set-twice ns k m (get_or ns k 0) ∙ set-get_or ns k 0)
+      subst (λ ms. InBox ms s) (set-set ns k m (get_or ns k 0) ∙ set-get_or ns k 0)
       (subst (InBox (set (set ns k m) k (get_or ns k 0))) (set-get_or s k 0) (InBox-set_both (set ns k m) s k (get_or ns k 0) (get_or s k 0) b (omega (arith, h, e, most))))
 
   same-first : (s t : List ℕ) → InBox (set ns k m) s → InBox (set ns k m) t → remove s k ≡ remove t k → s ≡ t
   same-first s t b d e =
       sym (insert-remove s k 0 (first-lt s b)) ∙ (ap (λ v. insert (remove s k) k v) (first-zero s b ∙ sym (first-zero t d)) ∙ (ap (λ l. insert l k (get_or t k 0)) e ∙ insert-remove t k 0 (first-lt t d)))
 
-  module _ (done : List (List ℕ)) (s : List ℕ) (rest : List (List ℕ)) (parts : done ++ (s ∷ rest) ≡ row_order (set ns k m)) where
-    pub first-here : InBox (set ns k m) s
-    first-here = here-within RowMajor (set ns k m) done s rest parts
+  pub firsts-on : (o : Order) → AreOnLanes ns k (box_in o (set ns k m))
+  firsts-on o = record {
+    within = All-weaker (InBox (set ns k m)) (InBox ns) first-inside (box_in o (set ns k m)) (box_in-within o (set ns k m));
+    apart = λ i j d below at e.
+        let many = length-box_in o (set ns k m) in
+        let s : List ℕ = get_or (box_in o (set ns k m)) i d in
+        let t : List ℕ = get_or (box_in o (set ns k m)) j d in
+        let same : s ≡ t = same-first s t (box_in-within o (set ns k m) i d (omega (arith, below, at))) (box_in-within o (set ns k m) j d at) e in
+        let bi = (box_in-back o (set ns k m) i (omega (arith, below, at, many))).1 in
+        let bj = (box_in-back o (set ns k m) j (omega (arith, at, many))).1 in
+        let di = get_or_default (box_in o (set ns k m)) i [] d (omega (arith, below, at)) in
+        let dj = get_or_default (box_in o (set ns k m)) j [] d at in
+        let z : i ≡ j = sym bi ∙ (ap (rank_in o (set ns k m)) (di ∙ (same ∙ sym dj)) ∙ bj) in
+        omega (arith, below, z);
+  }
 
-    done-inside : All (InBox (set ns k m)) done
-    done-inside = λ j d at.
-        let many = length-append done (s ∷ rest) in
-        subst (InBox (set ns k m)) (get_or_append_left done (s ∷ rest) d j at) (subst (All (InBox (set ns k m))) (sym parts) (box_in-within RowMajor (set ns k m)) j d (omega (arith, many, at)))
+-- all lanes along an axis, by the index lists of their first cells
+module _ {A B : Type 0} (gives : B → A → B × A → Type 0) (init : B) (old : Grid A) (k m : ℕ) (o : Order) (lt : k < length old.lengths) (some : 0 < get_or old.lengths k 0 → m ≡ 1) where
+  -- each lane begins in the box
+  begins : (js : List ℕ) → InBox (remove old.lengths k) js → 0 < get_or old.lengths k 0 → Contains (lanes_at k (box_in o (set old.lengths k m))) js
+  begins js b more =
+      let is_one : m ≡ 1 = some more in
+      let n = InBox-length (remove old.lengths k) js b in
+      let r = length-remove old.lengths k lt in
+      let back : remove (insert js k 0) k ≡ js = remove-inserted js k 0 (omega (arith, n, r, lt)) in
+      let c : InBox old.lengths (insert js k 0) = InBox-insert old.lengths js k 0 lt more b in
+      let d : InBox (set old.lengths k m) (insert js k 0) = subst (InBox (set old.lengths k m)) (set-inserted js k (omega (arith, n, r, lt))) (InBox-set_both old.lengths (insert js k 0) k m 0 c (omega (arith, is_one))) in
+      let many = length-box_in o (set old.lengths k m) in
+      let rank = rank_in-lt o (set old.lengths k m) (insert js k 0) d in
+      subst (Contains (lanes_at k (box_in o (set old.lengths k m)))) back
+      (Contains-map (λ is. remove is k) (box_in o (set old.lengths k m)) (insert js k 0)
+      (rank_in o (set old.lengths k m) (insert js k 0), omega (arith, rank, many), box_in-at o (set old.lengths k m) (insert js k 0) (insert js k 0) d))
+    where
+      set-inserted : (ks : List ℕ) (p : ℕ) → p ≤ length ks → set (insert ks p 0) p 0 ≡ insert ks p 0
+      set-inserted ks zero le = refl
+      set-inserted [] (suc p) le = absurd (omega (arith, le))
+      set-inserted (q ∷ ks) (suc p) le = ap (λ v. q ∷ v) (set-inserted ks p (omega (arith, le)))
 
-    -- no lane before is the same
-    pub first-apart : All (λ t. remove t k ≢ remove s k) done
-    first-apart = λ j d at e. here-first RowMajor (set ns k m) done s rest parts j d at (same-first (get_or done j d) s (done-inside j d at) first-here e)
+  pub firsts-ask : (can : B → A → Type 0) → IsGrid old → m ≤ 1 → m ≤ get_or old.lengths k 0 → MayScanLanes gives can k init old → MayScanEach gives can k init (lanes_at k (box_in o (set old.lengths k m))) old
+  firsts-ask can whole one most may = record {
+    each = All-map (λ js. MayScan gives can init (lane old k js).cells) (λ is. remove is k) (box_in o (set old.lengths k m))
+        (λ j d at.
+        let s : List ℕ = get_or (box_in o (set old.lengths k m)) j d in
+        let inside : InBox old.lengths s = (firsts-on old.lengths k m lt one most o).within j d at in
+        may.lanes (remove s k) (lane old k (remove s k)) (lane-among old whole k lt s inside));
+  }
 
-    pub short-enough : k ≤ length (remove s k)
-    short-enough = let a = first-lt s first-here in let r = length-remove s k a in omega (arith, a, r)
-
-    pub done-short : All (λ t. k ≤ length (remove t k)) done
-    done-short = λ j d at. (let a = first-lt (get_or done j d) (done-inside j d at) in let r = length-remove (get_or done j d) k a in omega (arith, a, r))
-
--- all lanes along an axis, of which some are done
-module _ {A B : Type 0} (gives : B → A → B × A → Type 0) (init : B) (old : Grid A) (k m : ℕ) where
-  pub record LanesState (to_come : List (List ℕ)) (a : Grid A) : Type 0 where
-    pub done : List (List ℕ)
-    pub parts : done ++ to_come ≡ row_order (set old.lengths k m)
-    pub lengths : a.lengths ≡ old.lengths
-    pub whole : IsGrid a
-    pub scanned : All (λ t. ScansTo gives init (lane old k (remove t k)).cells (lane a k (remove t k)).cells) done
-    pub kept : (is : List ℕ) → All (λ t. remove t k ≢ remove is k) done → cell a is ≡ cell old is
-
-  pub Lanes-start : (walked : List (List ℕ)) → walked ≡ row_order (set old.lengths k m) → IsGrid old → LanesState walked old
-  Lanes-start walked e whole = record { done = []; parts = e; lengths = refl; whole = whole; scanned = λ j d at. absurd (omega (arith, at)); kept = λ is all. refl }
-
-  module _ (lt : k < length old.lengths) (one : m ≤ 1) (most : m ≤ get_or old.lengths k 0) {to_come rest : List (List ℕ)} {s : List ℕ} {a : Grid A} (l : LanesState to_come a) (next : to_come ≡ s ∷ rest) where
-    parts-now : l.done ++ (s ∷ rest) ≡ row_order (set old.lengths k m)
-    parts-now = ap (λ ls. l.done ++ ls) (sym next) ∙ l.parts
-
-    pub Lanes-within : InBox a.lengths s
-    Lanes-within = subst (λ ns. InBox ns s) (sym l.lengths) (first-inside old.lengths k m lt one most s (first-here old.lengths k m lt one most l.done s rest parts-now))
-
-    inside : InBox old.lengths s
-    inside = first-inside old.lengths k m lt one most s (first-here old.lengths k m lt one most l.done s rest parts-now)
-
-    lane-now : lane a k (remove s k) ≡ lane old k (remove s k)
-    lane-now = lane-kept a old k (remove s k) l.lengths (short-enough old.lengths k m lt one most l.done s rest parts-now)
-        (λ is e. l.kept is (λ j d at q. first-apart old.lengths k m lt one most l.done s rest parts-now j d at (q ∙ e)))
-
-    pub Lanes-asks : (can : B → A → Type 0) → IsGrid old → MayScanLanes gives can k init old → MayScan gives can init (lane a k (remove s k)).cells
-    Lanes-asks can whole may = subst (λ w. MayScan gives can init w.cells) (sym lane-now) (may.lanes (remove s k) (lane old k (remove s k)) (lane-among old whole k lt s inside))
-
-    pub Lanes-next : (new : Grid A) → new.lengths ≡ a.lengths → IsGrid new → ScansTo gives init (lane a k (remove s k)).cells (lane new k (remove s k)).cells → ((is : List ℕ) → remove is k ≢ remove s k → cell new is ≡ cell a is) → LanesState rest new
-    Lanes-next new lengths whole scanned others = record {
-      done = l.done ++ (s ∷ []);
-      parts = append_assoc l.done (s ∷ []) rest ∙ parts-now;
-      lengths = lengths ∙ l.lengths;
-      whole = whole;
-      scanned = All-push (λ t. ScansTo gives init (lane old k (remove t k)).cells (lane new k (remove t k)).cells) l.done s
-          (λ j d at.
-          let t : List ℕ = get_or l.done j d in
-          let same : lane new k (remove t k) ≡ lane a k (remove t k) = lane-kept new a k (remove t k) lengths (done-short old.lengths k m lt one most l.done s rest parts-now j d at)
-          (λ is e. others is (λ q. first-apart old.lengths k m lt one most l.done s rest parts-now j d at (sym e ∙ q))) in
-          subst (λ w. ScansTo gives init (lane old k (remove t k)).cells w.cells) (sym same) (l.scanned j d at))
-          (subst (λ w. ScansTo gives init w.cells (lane new k (remove s k)).cells) lane-now scanned);
-      kept = λ is all.
-          let many = length-append l.done (s ∷ []) in
-          let last : s ≡ get_or (l.done ++ (s ∷ [])) (length l.done) [] = sym (get_or-append_seam l.done s [] []) in
-          others is (λ q. all (length l.done) [] (omega (arith, many)) (ap (λ t. remove t k) (sym last) ∙ sym q))
-          ∙ l.kept is (λ j d at q. all j d (omega (arith, many, at)) (ap (λ t. remove t k) (get_or_append_left l.done (s ∷ []) d j at) ∙ q));
-    }
-
-  pub Lanes-end : (lt : k < length old.lengths) (some : 0 < get_or old.lengths k 0 → m ≡ 1) {to_come : List (List ℕ)} {a : Grid A} → LanesState to_come a → to_come ≡ [] → ScansLanes gives k init old a
-  Lanes-end lt some {to_come} {a} l none = record {
+  pub firsts-end : (a : Grid A) → ScansEach gives k init (lanes_at k (box_in o (set old.lengths k m))) old a → ScansLanes gives k init old a
+  firsts-end a l = record {
     lengths = l.lengths;
     whole = l.whole;
     lanes = λ js x y e f.
@@ -292,25 +243,45 @@ module _ {A B : Type 0} (gives : B → A → B × A → Type 0) (init : B) (old 
       each : (js : List ℕ) → InBox (remove old.lengths k) js → ScansTo gives init (lane old k js).cells (lane a k js).cells
       each js b = elim (cases_eq (get_or old.lengths k 0) 0) [
         | inl empty ↦ subst (λ xs. ScansTo gives init xs (lane a k js).cells) (sym (no-lane old k js empty)) (subst (λ ys. ScansTo gives init [] ys) (sym (no-lane a k js (ap (λ ns. get_or ns k 0) l.lengths ∙ empty))) (init, refl))
-        | inr ne ↦
-            (let is_one : m ≡ 1 = some (omega (arith, ne)) in
-            let n = InBox-length (remove old.lengths k) js b in
-            let r = length-remove old.lengths k lt in
-            let back : remove (insert js k 0) k ≡ js = remove-inserted js k 0 (omega (arith, n, r, lt)) in
-            let c : InBox old.lengths (insert js k 0) = InBox-insert old.lengths js k 0 lt (omega (arith, ne)) b in
-            let d : InBox (set old.lengths k m) (insert js k 0) = subst (InBox (set old.lengths k m)) (ap (λ l. set l k 0) refl ∙ own js n r) (InBox-set_both old.lengths (insert js k 0) k m 0 c (omega (arith, is_one))) in
-            let all : l.done ≡ row_order (set old.lengths k m) = sym (append-nil l.done) ∙ (ap (λ ls. l.done ++ ls) (sym none) ∙ l.parts) in
-            subst (λ ls. ScansTo gives init (lane old k ls).cells (lane a k ls).cells) back
-            (All-contains (λ t. ScansTo gives init (lane old k (remove t k)).cells (lane a k (remove t k)).cells) l.done (insert js k 0) l.scanned (subst (λ ls. Contains ls (insert js k 0)) (sym all) ((row_order-is (set old.lengths k m)).whole (insert js k 0) d))))
+        | inr ne ↦ All-contains (λ js. ScansTo gives init (lane old k js).cells (lane a k js).cells) (lanes_at k (box_in o (set old.lengths k m))) js l.scanned (begins js b (omega (arith, ne)))
       ]
-        where
-          set-inserted : (ks : List ℕ) (p : ℕ) → p ≤ length ks → set (insert ks p 0) p 0 ≡ insert ks p 0
-          set-inserted ks zero le = refl
-          set-inserted [] (suc p) le = absurd (omega (arith, le))
-          set-inserted (q ∷ ks) (suc p) le = ap (λ v. q ∷ v) (set-inserted ks p (omega (arith, le)))
 
-          own : (ks : List ℕ) → length ks ≡ length (remove old.lengths k) → length (remove old.lengths k) + 1 ≡ length old.lengths → set (insert ks k 0) k 0 ≡ insert ks k 0
-          own ks n r = set-inserted ks k (omega (arith, n, r, lt))
+-- all lanes along an axis, by rows of the index lists of their first cells, of which some are done
+module _ {A B : Type 0} (gives : B → A → B × A → Type 0) (init : B) (old : Grid A) (k m : ℕ) where
+  pub record RowsState (rows : List (List (List ℕ))) (a : Grid A) : Type 0 where
+    pub order : Order
+    pub done : List (List ℕ)
+    pub parts : done ++ joined rows ≡ box_in order (set old.lengths k m)
+    pub scanned : ScansEach gives k init (lanes_at k done) old a
+
+  pub Rows-start : (o : Order) (rows : List (List (List ℕ))) → rows ≡ rows_in o (set old.lengths k m) → IsGrid old → RowsState rows old
+  Rows-start o rows e whole = record { order = o; done = []; parts = ap joined e ∙ rows-joined o (set old.lengths k m); scanned = none-scanned gives init k old whole }
+
+  module _ (lt : k < length old.lengths) (one : m ≤ 1) (most : m ≤ get_or old.lengths k 0) {rows rest : List (List (List ℕ))} {row : List (List ℕ)} {a : Grid A} (s : RowsState rows a) (next : rows ≡ row ∷ rest) where
+    parts-now : s.done ++ (row ++ joined rest) ≡ box_in s.order (set old.lengths k m)
+    parts-now = ap (λ ls. s.done ++ joined ls) (sym next) ∙ s.parts
+
+    on : AreOnLanes old.lengths k (s.done ++ (row ++ joined rest))
+    on = subst (AreOnLanes old.lengths k) (sym parts-now) (firsts-on old.lengths k m lt one most s.order)
+
+    pub Rows-on : AreOnLanes a.lengths k row
+    Rows-on = part-on gives init k old lt s.done row (joined rest) on a s.scanned
+
+    pub Rows-asks : (can : B → A → Type 0) → (0 < get_or old.lengths k 0 → m ≡ 1) → IsGrid old → MayScanLanes gives can k init old → MayScanEach gives can k init (lanes_at k row) a
+    Rows-asks can some whole may = part-asks gives init k old lt s.done row (joined rest) on a s.scanned can
+        (subst (λ ls. MayScanEach gives can k init (lanes_at k ls) old) (sym parts-now) (firsts-ask gives init old k m s.order lt some can whole one most may))
+
+    pub Rows-next : (b : Grid A) → ScansEach gives k init (lanes_at k row) a b → RowsState rest b
+    Rows-next b after = record {
+      order = s.order;
+      done = s.done ++ row;
+      parts = append_assoc s.done row (joined rest) ∙ parts-now;
+      scanned = part-scanned gives init k old lt s.done row (joined rest) on a s.scanned b after;
+    }
+
+  pub Rows-end : k < length old.lengths → (0 < get_or old.lengths k 0 → m ≡ 1) → {rows : List (List (List ℕ))} {a : Grid A} → RowsState rows a → rows ≡ [] → ScansLanes gives k init old a
+  Rows-end lt some {rows} {a} s none = firsts-end gives init old k m s.order lt some a
+      (subst (λ ls. ScansEach gives k init (lanes_at k ls) old a) (sym (append-nil s.done) ∙ (ap (λ ls. s.done ++ joined ls) (sym none) ∙ s.parts)) s.scanned)
 
 -- the lane of an array of no axes
 module _ {A : Type 0} (g : Grid A) (k : ℕ) (none : g.lengths ≡ []) (z : A) (there : cell g [] ≡ Some z) where

@@ -1,17 +1,26 @@
 //! Scans of the lanes of an array, in place: a value goes along each lane, and each cell is replaced on the way.
 
-ghost use Rattle.std.specs.Prelude.{◌≡◌, ◌≢◌, ◌⊎◌, ◌<◌, ℕ, List, [], Some, length, remove, slice_index};
+ghost use Rattle.std.specs.Prelude.{◌≡◌, ◌⊎◌, ◌<◌, ◌≤◌, [], ◌∷◌, Some, length, remove, slice_index};
 ghost use Rattle.ndarray.specs.Grid.{IsGrid, cell};
 ghost use Rattle.ndarray.specs.Index.{InBox};
-ghost use Rattle.ndarray.specs.Scans.{MayScan, MayScanLanes, ScansLanes, ScansTo, can_step, step_gives};
+ghost use Rattle.ndarray.specs.Limits.{IsWithinLimit};
+ghost use Rattle.ndarray.specs.Scans.{MayScan, MayScanLanes, ScansLanes, can_step, step_gives};
 ghost use Rattle.ndarray.specs.Subviews.{lane};
 ghost use Rattle.ndarray.specs.Writes.{with_cell};
+ghost use Rattle.ndarray.specs.base.LaneScans.{AreOnLanes, MayScanEach, ScansEach, lanes_at};
+ghost use Rattle.ndarray.specs.base.Ranks.{row_from};
 
 use crate::base::array::ArrayBase;
 use crate::base::axis::Axis;
 use crate::base::dimension::Lengths;
 use crate::base::storage::DataMut;
-use crate::order::{Order, Walk};
+use crate::order::Row;
+use crate::order::rows::BoxRows;
+use crate::subviews::lane_tiles::scan_side_by_side;
+use std::mem::size_of_val;
+
+/// How many lanes are scanned side by side at most.
+const TILE: usize = 512;
 
 impl<A: Copy, S: DataMut<Elem = A>, D: Lengths> ArrayBase<S, D> {
     /// Scans each lane of an axis in place: the value is `init` at the lane's first cell, and `f` takes the value and the
@@ -70,8 +79,91 @@ fn scan_axis<A: Copy, S: DataMut<Elem = A>, D: Lengths, B: Copy, F: Fn(B, A) -> 
     // The index lists of the first cells of the lanes.
     let mut firsts = dim;
     firsts.set_axis(axis.0, len.min(1));
-    for first in Walk::new(firsts, Order::RowMajor) {
-        scan_lane(array, axis.0, &first, len, init, f);
+    let mut rows = BoxRows::new(firsts, array.fast_order());
+    while let Some(row) = rows.next() {
+        scan_row(array, axis.0, &row, len, init, f);
+    }
+}
+
+/// The same along the lanes whose first cells are on a row. They are scanned in tiles where they have a thousand cells or
+/// more, and cells of neighbouring lanes lie no farther apart than those of a lane; else one after another.
+fn scan_row<A: Copy, S: DataMut<Elem = A>, D: Lengths, B: Copy, F: Fn(B, A) -> (B, A)>(
+    array: &mut ArrayBase<S, D>,
+    axis: usize,
+    row: &Row<D>,
+    len: usize,
+    init: B,
+    f: &F,
+)
+    requires axis { axis < length array.old.lengths }
+    requires whole { IsGrid array.old }
+    requires limit { IsWithinLimit array.old.lengths }
+    requires len { len ≡ slice_index array.old.lengths axis }
+    requires lanes { AreOnLanes array.old.lengths axis (row_from (D.numbers row.now.first) row.now.axis row.now.count) }
+    requires callable { MayScanEach (step_gives F.Fn f.now) (can_step F.Fn f.now) axis init (lanes_at axis (row_from (D.numbers row.now.first) row.now.axis row.now.count)) array.old }
+    ensures { ScansEach (step_gives F.Fn f.now) axis init (lanes_at axis (row_from (D.numbers row.now.first) row.now.axis row.now.count)) array.old array.new }
+{
+    if row.count >= 8
+        && len >= 1024 / row.count
+        && size_of_val(&init) <= 32
+        && array.are_closer_along(row.axis, axis)
+    {
+        let mut values = [init; TILE];
+        scan_tiles(array, axis, row, len, init, &mut values, f);
+    } else {
+        scan_tiles(array, axis, row, len, init, &mut [], f);
+    }
+}
+
+/// The same in tiles, each of as many lanes as there is room for values, or of one where there is none.
+fn scan_tiles<A: Copy, S: DataMut<Elem = A>, D: Lengths, B: Copy, F: Fn(B, A) -> (B, A)>(
+    array: &mut ArrayBase<S, D>,
+    axis: usize,
+    row: &Row<D>,
+    len: usize,
+    init: B,
+    values: &mut [B],
+    f: &F,
+)
+    requires axis { axis < length array.old.lengths }
+    requires whole { IsGrid array.old }
+    requires limit { IsWithinLimit array.old.lengths }
+    requires len { len ≡ slice_index array.old.lengths axis }
+    requires lanes { AreOnLanes array.old.lengths axis (row_from (D.numbers row.now.first) row.now.axis row.now.count) }
+    requires callable { MayScanEach (step_gives F.Fn f.now) (can_step F.Fn f.now) axis init (lanes_at axis (row_from (D.numbers row.now.first) row.now.axis row.now.count)) array.old }
+    ensures { ScansEach (step_gives F.Fn f.now) axis init (lanes_at axis (row_from (D.numbers row.now.first) row.now.axis row.now.count)) array.old array.new }
+{
+    let mut done = 0;
+    'tiles: while done < row.count {
+        let tile = row.part(done, values.len().max(1));
+        scan_tile(array, axis, &tile, len, init, values, f);
+        done += tile.count;
+    }
+}
+
+/// The same along the lanes of one tile.
+fn scan_tile<A: Copy, S: DataMut<Elem = A>, D: Lengths, B: Copy, F: Fn(B, A) -> (B, A)>(
+    array: &mut ArrayBase<S, D>,
+    axis: usize,
+    tile: &Row<D>,
+    len: usize,
+    init: B,
+    values: &mut [B],
+    f: &F,
+)
+    requires axis { axis < length array.old.lengths }
+    requires whole { IsGrid array.old }
+    requires len { len ≡ slice_index array.old.lengths axis }
+    requires some { 0 < tile.now.count }
+    requires room { (tile.now.count ≤ length values.old) ⊎ (tile.now.count ≡ 1) }
+    requires lanes { AreOnLanes array.old.lengths axis (row_from (D.numbers tile.now.first) tile.now.axis tile.now.count) }
+    requires callable { MayScanEach (step_gives F.Fn f.now) (can_step F.Fn f.now) axis init (lanes_at axis (row_from (D.numbers tile.now.first) tile.now.axis tile.now.count)) array.old }
+    ensures { ScansEach (step_gives F.Fn f.now) axis init (lanes_at axis (row_from (D.numbers tile.now.first) tile.now.axis tile.now.count)) array.old array.new }
+{
+    if tile.count <= values.len() {
+        scan_side_by_side(array, axis, tile, len, init, &mut values[..tile.count], f);
+    } else {
+        scan_lane(array, axis, &tile.first, len, init, f);
     }
 }
 
@@ -89,10 +181,7 @@ fn scan_lane<A: Copy, S: DataMut<Elem = A>, D: Lengths, B: Copy, F: Fn(B, A) -> 
     requires len { len ≡ slice_index array.old.lengths axis }
     requires within { InBox array.old.lengths (D.numbers first.now) }
     requires callable { MayScan (step_gives F.Fn f.now) (can_step F.Fn f.now) init (lane array.old axis (remove (D.numbers first.now) axis)).cells }
-    ensures lengths { array.new.lengths ≡ array.old.lengths }
-    ensures whole { IsGrid array.new }
-    ensures scan { ScansTo (step_gives F.Fn f.now) init (lane array.old axis (remove (D.numbers first.now) axis)).cells (lane array.new axis (remove (D.numbers first.now) axis)).cells }
-    ensures others { (is : List ℕ) → remove is axis ≢ remove (D.numbers first.now) axis → cell array.new is ≡ cell array.old is }
+    ensures { ScansEach (step_gives F.Fn f.now) axis init (remove (D.numbers first.now) axis ∷ []) array.old array.new }
 {
     let mut index = first.copied();
     let mut value = init;
