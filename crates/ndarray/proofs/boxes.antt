@@ -4,6 +4,7 @@ pub mod CountedRows
 pub mod JoinedBoxes
 pub mod LaneIndices
 pub mod Orders
+pub mod RowProducts
 pub mod ProductShapes
 pub mod RowParts
 pub mod Rows

@@ -25,6 +25,7 @@ pub mod ProductRows
 pub mod Products
 pub mod ReversedProducts
 pub mod RowProducts
+pub mod RunProducts
 pub mod RunningProducts
 pub mod Scans
 pub mod TestedCells

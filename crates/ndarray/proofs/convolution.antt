@@ -15,9 +15,11 @@ pub mod Overlaps
 pub mod Padding
 pub mod Pairs
 pub mod ProductLists
+pub mod ReversedWindows
 pub mod Swapped
 pub mod ValueSums
 pub mod WholeWindows
+pub mod WindowRows
 pub mod WindowSums
 pub mod WindowTests
 pub mod Windows

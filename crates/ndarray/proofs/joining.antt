@@ -3,3 +3,4 @@ pub mod Blocks
 pub mod Errors
 pub mod Joined
 pub mod OuterAxes
+pub mod Pairs

@@ -24,6 +24,7 @@ pub mod Joining
 pub mod LaneSums
 pub mod Laws
 pub mod Limits
+pub mod MagnitudeSums
 pub mod Matrices
 pub mod MatrixLaws
 pub mod MatrixPowers
@@ -45,6 +46,7 @@ pub mod Triangles
 pub mod Updates
 pub mod Views
 pub mod WholeValues
+pub mod WindowSums
 pub mod Writes
 pub mod base
 pub mod order

@@ -3,7 +3,7 @@
 //! A convolution is defined on the values of the cells (`specs/Convolution.antt`), and each call requires that at each place every
 //! selection of the products has its sum in range, so that no order of adding leaves the range.
 
-ghost use Rattle.std.specs.Prelude.{⊤, ℕ, List, ◌≡◌, ◌+◌, ◌*◌, ◌^◌, ◌<◌, ◌≤◌, ◌++◌, IfOk, IsTrue, ◌↔◌, drop, length, pos, replicate, reverse};
+ghost use Rattle.std.specs.Prelude.{ℕ, List, ◌≡◌, ◌+◌, ◌*◌, ◌^◌, ◌<◌, ◌≤◌, ◌++◌, IfOk, IsTrue, ◌↔◌, drop, length, pos, replicate, reverse};
 ghost use Rattle.ndarray.specs.Convolution.{CanPad, HasFullMagnitudesInRange, HasFullSelectionsInRange, HasFullSumsInRange, HasValidMagnitudesInRange, HasValidSumsInRange, HasWindowMagnitudesInRange, MakesFullConvolution, MakesValidConvolution, TestsProducts, convolution_products, padded, valid_counts, window_products};
 ghost use Rattle.ndarray.specs.Grid.{IsGrid, one_axis};
 ghost use Rattle.ndarray.specs.Index.{InBox};
@@ -11,13 +11,22 @@ ghost use Rattle.ndarray.specs.Integers.{int_products, int_sums};
 ghost use Rattle.ndarray.specs.Products.{MakesValues, magnitude_sum, products_of};
 ghost use Rattle.ndarray.specs.Subviews.{ArePositive};
 ghost use Rattle.ndarray.specs.Sums.{IsSummable, total};
+ghost use Rattle.ndarray.specs.WindowSums.{CanSumWindows, window_sum};
 
-use crate::reduce::range_tests::inner_stays_in_range;
+mod rows;
+
+use crate::conv::rows::{has_long_rows, sums_by_rows};
+use crate::linalg::inner::{cells_of, inner_of};
+use crate::linalg::row_sums::push_zeros;
+use crate::order::Order;
+use crate::order::rows::BoxRows;
+use crate::reduce::range_tests::{inner_stays_in_range, products_stay_in_range};
+use crate::zip::all_items::all_in_either_order;
 use crate::zip::closures::ItemCall;
 use crate::zip::collecting::collect_in_either_order;
 use crate::{
     Array, ArrayBase, ArrayView, Axis, Data, Dimension, IntegerElem, IntegerScalar, Ix1, Lengths,
-    LinalgScalar, Zip,
+    LinalgScalar,
 };
 use std::alloc::{AllocError, Global};
 
@@ -98,6 +107,7 @@ fn mirrored_view<'a, A, D: Lengths>(array: &'a ArrayView<'_, A, D>) -> ArrayView
 }
 
 /// At each position of a window of the lengths of an array on another, the sum of the products of the window's cells with that array's.
+/// Where the other array's cells lie by columns, so do those of the result.
 fn over_windows<A: LinalgScalar, D: Dimension>(
     alloc: Global,
     a: &ArrayView<'_, A, D>,
@@ -107,6 +117,53 @@ fn over_windows<A: LinalgScalar, D: Dimension>(
     requires shapes { ArePositive a.now.lengths mirrored.now.lengths }
     requires sums { (ps : List ℕ) → InBox (valid_counts a.now.lengths mirrored.now.lengths) ps → IsSummable A.addition A.InRange (window_products A.multiplication A.meaning a.now mirrored.now ps) }
     ensures { MakesValues A.Valued (valid_counts a.now.lengths mirrored.now.lengths) (λ ps. total A.addition (window_products A.multiplication A.meaning a.now mirrored.now ps)) result }
+{
+    match a.fast_order() {
+        Order::RowMajor => over_rows(alloc, a, mirrored),
+        Order::ColumnMajor => over_columns(alloc, a, mirrored),
+    }
+}
+
+/// The same of both arrays with their axes reversed, and reversed back.
+fn over_columns<A: LinalgScalar, D: Dimension>(
+    alloc: Global,
+    a: &ArrayView<'_, A, D>,
+    mirrored: &ArrayView<'_, A, D>,
+) -> Result<Array<A, D>, AllocError>
+    requires can { CanSumWindows A.Valued a.now mirrored.now }
+    ensures { MakesValues A.Valued (valid_counts a.now.lengths mirrored.now.lengths) (window_sum A.Valued a.now mirrored.now) result }
+{
+    let reversed = a.again().reversed_axes();
+    let mirrored_reversed = mirrored.again().reversed_axes();
+    let sums = over_rows(alloc, &reversed, &mirrored_reversed)?;
+    Ok(sums.reversed_axes())
+}
+
+/// The same by rows of the result where these are longer than the kernel's, else window by window.
+fn over_rows<A: LinalgScalar, D: Dimension>(
+    alloc: Global,
+    a: &ArrayView<'_, A, D>,
+    mirrored: &ArrayView<'_, A, D>,
+) -> Result<Array<A, D>, AllocError>
+    requires can { CanSumWindows A.Valued a.now mirrored.now }
+    ensures { MakesValues A.Valued (valid_counts a.now.lengths mirrored.now.lengths) (window_sum A.Valued a.now mirrored.now) result }
+{
+    let positions = a.windows(mirrored.raw_dim()).raw_dim();
+    if has_long_rows(&positions, &mirrored.raw_dim()) {
+        sums_by_rows(alloc, a, mirrored, positions)
+    } else {
+        over_each_window(alloc, a, mirrored)
+    }
+}
+
+/// The same window by window.
+fn over_each_window<A: LinalgScalar, D: Dimension>(
+    alloc: Global,
+    a: &ArrayView<'_, A, D>,
+    mirrored: &ArrayView<'_, A, D>,
+) -> Result<Array<A, D>, AllocError>
+    requires can { CanSumWindows A.Valued a.now mirrored.now }
+    ensures { MakesValues A.Valued (valid_counts a.now.lengths mirrored.now.lengths) (window_sum A.Valued a.now mirrored.now) result }
 {
     let windows = a.windows(mirrored.raw_dim());
     collect_in_either_order(
@@ -127,7 +184,7 @@ struct WindowSum<'k, A, D: Lengths> {
 impl<'a, 'k, A: LinalgScalar, D: Lengths> ItemCall<ArrayView<'a, A, D>> for WindowSum<'k, A, D> {
     type Out = A;
 
-    ghost can_call = { λ c w. (length w.cells ≡ length c.kernel.cells) × IsSummable A.addition A.InRange (products_of A.multiplication A.meaning w.cells c.kernel.cells) };
+    ghost can_call = { λ c w. (w.lengths ≡ c.kernel.lengths) × IsSummable A.addition A.InRange (products_of A.multiplication A.meaning w.cells c.kernel.cells) };
 
     ghost call_gives = { λ c w r d. (A.meaning r ≡ total A.addition (products_of A.multiplication A.meaning w.cells c.kernel.cells)) × (d ≡ c) };
 
@@ -136,23 +193,22 @@ impl<'a, 'k, A: LinalgScalar, D: Lengths> ItemCall<ArrayView<'a, A, D>> for Wind
     }
 }
 
-/// The sum of the products of two arrays' cells, one after another in row order.
+/// The sum of the products of two arrays' cells, row by row.
 fn sum_of_products<A: LinalgScalar, D: Lengths>(
     x: &ArrayView<'_, A, D>,
     y: &ArrayView<'_, A, D>,
 ) -> A
-    requires same { length x.now.cells ≡ length y.now.cells }
+    requires same { x.now.lengths ≡ y.now.lengths }
     requires sums { IsSummable A.addition A.InRange (products_of A.multiplication A.meaning x.now.cells y.now.cells) }
     ensures { A.meaning result ≡ total A.addition (products_of A.multiplication A.meaning x.now.cells y.now.cells) }
 {
+    let _whole = y.raw_dim();
     let mut sum = A::zero();
-    let mut left = x.iter();
-    let mut right = y.iter();
-    while let Some(a) = left.next() {
-        let Some(b) = right.next() else {
-            unreachable!()
-        };
-        sum = sum + *a * *b;
+    let mut rows = BoxRows::new(x.raw_dim(), Order::RowMajor);
+    while let Some(row) = rows.next() {
+        let left = x.cells_along(&row.first, row.axis, row.count);
+        let right = y.cells_along(&row.first, row.axis, row.count);
+        sum = sum + inner_of(left, right);
     }
     sum
 }
@@ -168,9 +224,12 @@ fn windows_fit<A: IntegerElem, D: Dimension>(
     ensures selections { IsTrue result → (ps : List ℕ) → InBox (valid_counts a.now.lengths mirrored.now.lengths) ps → IsSummable int_sums A.fits (window_products int_products A.value a.now mirrored.now ps) }
 {
     let windows = a.windows(mirrored.raw_dim());
-    Zip::from(windows).all_items(WindowTest {
-        kernel: mirrored.view(),
-    })
+    all_in_either_order(
+        windows,
+        WindowTest {
+            kernel: mirrored.view(),
+        },
+    )
 }
 
 /// Whether the absolute values of the products of a window's cells with those of an array of its lengths add up to at most the type's greatest
@@ -183,12 +242,12 @@ struct WindowTest<'k, A, D: Lengths> {
 impl<'a, 'k, A: IntegerElem, D: Lengths> ItemCall<ArrayView<'a, A, D>> for WindowTest<'k, A, D> {
     type Out = bool;
 
-    ghost can_call = { λ _ _. ⊤ };
+    ghost can_call = { λ c w. w.lengths ≡ c.kernel.lengths };
 
     ghost call_gives = { λ c w r d. TestsProducts A.value A.fits w.cells c.kernel.cells r × (d ≡ c) };
 
     fn call(&mut self, window: ArrayView<'a, A, D>) -> bool {
-        inner_stays_in_range(&window, &self.kernel)
+        products_stay_in_range(&window, &self.kernel)
     }
 }
 
@@ -288,7 +347,9 @@ fn overlap_fits<A: IntegerElem>(
 {
     let first = (s + 1).saturating_sub(mirrored.len());
     let first_mirrored = mirrored.len().saturating_sub(s + 1);
-    inner_stays_in_range(&cells_from(x, first), &cells_from(mirrored, first_mirrored))
+    let left = cells_of(cells_from(x, first));
+    let right = cells_of(cells_from(mirrored, first_mirrored));
+    inner_stays_in_range(left, right)
 }
 
 /// The cells of a vector from one on.
@@ -311,23 +372,13 @@ fn between_zeros<A: LinalgScalar>(
 {
     let len = x.len() + 2 * count;
     let mut cells = Vec::with_capacity(alloc, len)?;
-    push_zeros(&mut cells, count)?;
+    push_zeros(&mut cells, count);
     for cell in x.iter() {
-        cells.push(*cell)?;
+        cells.push_reserved(*cell);
     }
-    push_zeros(&mut cells, count)?;
+    push_zeros(&mut cells, count);
     let Ok(array) = Array::from_shape_vec(len, cells) else {
         unreachable!()
     };
     Ok(array)
-}
-
-/// Pushes zeros.
-fn push_zeros<A: LinalgScalar>(cells: &mut Vec<A>, count: usize) -> Result<(), AllocError>
-    ensures { IfOk result (λ _. cells.new.items ≡ cells.old.items ++ replicate count A.zero) }
-{
-    for _ in 0..count {
-        cells.push(A::zero())?;
-    }
-    Ok(())
 }

@@ -9,12 +9,12 @@ mod dynamic;
 mod dynamic_range_tests;
 mod entries;
 mod general;
-mod inner;
+pub(crate) mod inner;
 mod kronecker;
 mod matrix_products;
 mod products;
 mod range_tests;
-mod row_sums;
+pub(crate) mod row_sums;
 mod scaled_addition;
 
 pub use crate::linalg::chains::{chain_ok, kron_dot, kron_dot_ok, mat_vec_chain};

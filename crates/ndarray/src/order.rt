@@ -206,6 +206,15 @@ impl<D: Lengths> Walk<D> {
     pub(crate) fn next_row(&mut self) -> Option<Row<D>>
         ensures { MatchOption result ((self.old ≡ []) × (self.new ≡ [])) (λ row. TakesRow self.old self.new (D.numbers row.first) row.axis row.count) }
     {
+        self.next_part(usize::MAX)
+    }
+
+    /// The same, but no more than `most` of them.
+    #[inline(always)]
+    pub(crate) fn next_part(&mut self, most: usize) -> Option<Row<D>>
+        requires { 0 < most }
+        ensures { MatchOption result ((self.old ≡ []) × (self.new ≡ [])) (λ row. TakesRow self.old self.new (D.numbers row.first) row.axis row.count) }
+    {
         if self.left == 0 {
             return None;
         }
@@ -222,7 +231,7 @@ impl<D: Lengths> Walk<D> {
         let axis = axis_at(self.order, ndim, 0);
         let end = self.dim.axis(axis);
         let i = first.axis(axis);
-        let count = row_len(end - i, end).min(self.left);
+        let count = row_len(end - i, end).min(self.left).min(most);
         self.left -= count;
         if self.left > 0 {
             self.index.set_axis(axis, i + count - 1);

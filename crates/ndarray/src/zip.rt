@@ -5,7 +5,7 @@ ghost use Rattle.ndarray.specs.Broadcast.{BroadcastsTo};
 ghost use Rattle.ndarray.specs.Grid.{array_by, cell};
 ghost use Rattle.ndarray.specs.Index.{InBox, size};
 
-mod all_items;
+pub(crate) mod all_items;
 mod arities;
 mod assigning;
 mod azip;

@@ -1,2 +1,3 @@
 mod Grants
+mod Maxima
 pub mod PairedProducts

@@ -2,6 +2,10 @@
 use Rattle.std.specs.Prelude.{◌≡◌, ℕ, zero, suc, ℤ, pos, ◌*ℤ◌, ◌≤◌, List, [], ◌∷◌, slice_index, FitsSigned}
 use Rattle.std.specs.Int.{int_shr, w64}
 use Rattle.ndarray.specs.Grid.{Grid, cell}
+use Rattle.ndarray.specs.Matrices.{Matrix}
+use Rattle.ndarray.specs.Products.{ShapesMultiply, column_of, matrix_of, product_of}
+use Rattle.ndarray.specs.WholeValues.{HasMagnitudesInRange, whole_numbers}
+use Rattle.ndarray.specs.declared.elements.Valued.{Ghosts as ValuedGhosts}
 use Rattle.ndarray_bench.specs.Callers.{whole_number}
 
 -- the product of the first n numbers on the diagonal of a matrix
@@ -17,3 +21,22 @@ pub record HasDiagonalInRange (a : Grid ℤ) : Type 0 where
 -- the sample at an index list times a gain, shifted right by a number of bits
 abbrev pub amplified_at : ℤ → ℕ → Grid ℤ → List ℕ → ℤ
 amplified_at gain bits signal is = int_shr (whole_number (cell signal is) *ℤ gain) bits
+
+-- the elements of type i64, whose values are the whole numbers
+abbrev pub whole_i64 : ValuedGhosts ℤ
+whole_i64 = whole_numbers (λ x. x) (FitsSigned w64)
+
+-- a matrix times a vector
+abbrev pub applied : Grid ℤ → Grid ℤ → Matrix ℤ
+applied a x = product_of whole_i64 (matrix_of whole_i64 a) (column_of whole_i64 x)
+
+-- and the matrix times that
+abbrev pub applied_twice : Grid ℤ → Grid ℤ → Matrix ℤ
+applied_twice a x = product_of whole_i64 (matrix_of whole_i64 a) (applied a x)
+
+-- a matrix is square, it and a vector multiply, and the absolute values of the products of both inner sums add up to an i64
+pub record MayApplyTwice (a x : Grid ℤ) : Type 0 where
+  pub square : slice_index a.lengths 0 ≡ slice_index a.lengths 1
+  pub shapes : ShapesMultiply a.lengths x.lengths
+  pub once : HasMagnitudesInRange (FitsSigned w64) (matrix_of whole_i64 a) (column_of whole_i64 x)
+  pub twice : HasMagnitudesInRange (FitsSigned w64) (matrix_of whole_i64 a) (applied a x)

@@ -33,7 +33,10 @@ const SMALL: [&str; 4] = ["small_ref_add_ref", "small_add_assign", "small_iter",
 
 const PRODUCTS: [&str; 4] = ["product", "product_left_transposed", "product_right_transposed", "product_both_transposed"];
 
-const VECTORS: [&str; 3] = ["vector_times_matrix", "matrix_times_vector", "transposed_times_vector"];
+const VECTORS: [&str; 5] = [
+    "vector_times_matrix", "matrix_times_vector", "transposed_times_vector", "matrix_and_vector_fit",
+    "transposed_and_vector_fit",
+];
 
 /// Prints the least time of some turns of a call, an item of an n by n table.
 fn report(name: &str, n: usize, turns: usize, mut call: impl FnMut() -> i64) {
@@ -356,6 +359,12 @@ fn product(name: &str, n: usize, a: &[i64], b: &[i64]) -> i64 {
                 }
             }
         }
+        "matrix_and_vector_fit" => {
+            return b.chunks(n).all(|row| sums_checked(row.iter(), &a[..n]).is_some()) as i64;
+        }
+        "transposed_and_vector_fit" => {
+            return (0..n).all(|j| sums_checked(b[j..].iter().step_by(n), &a[..n]).is_some()) as i64;
+        }
         "matrix_times_vector" => {
             for (sum, row) in made.iter_mut().zip(b.chunks(n)) {
                 *sum = inner(row, &a[..n]);
@@ -374,6 +383,17 @@ fn add_scaled(sums: &mut [i64], x: i64, ys: &[i64]) {
     for (sum, y) in sums.iter_mut().zip(ys) {
         *sum = sum.wrapping_add(x.wrapping_mul(*y));
     }
+}
+
+/// The sum of the products, and that of their absolute values, where the type has them.
+fn sums_checked<'a>(xs: impl Iterator<Item = &'a i64>, ys: &[i64]) -> Option<(i64, i64)> {
+    let (mut sum, mut magnitude) = (0i64, 0i64);
+    for (x, y) in xs.zip(ys) {
+        let product = x.checked_mul(*y)?;
+        magnitude = magnitude.checked_add(product.checked_abs()?)?;
+        sum = sum.checked_add(product)?;
+    }
+    Some((sum, magnitude))
 }
 
 fn inner(xs: &[i64], ys: &[i64]) -> i64 {

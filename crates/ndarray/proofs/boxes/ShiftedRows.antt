@@ -21,7 +21,7 @@ shifted-more (s ∷ ss) [] (suc k) = refl
 shifted-more (s ∷ ss) (i ∷ is) zero = ap (λ n. n ∷ shifted_index ss is) (let e : s + (i + 1) ≡ s + i + 1 = omega arith in e)
 shifted-more (s ∷ ss) (i ∷ is) (suc k) = ap (λ js. (s + i) ∷ js) (shifted-more ss is k)
 
-shifted-row : (ss : List ℕ) (axis n : ℕ) (is : List ℕ) → row_from (shifted_index ss is) axis n ≡ map (shifted_index ss) (row_from is axis n)
+pub shifted-row : (ss : List ℕ) (axis n : ℕ) (is : List ℕ) → row_from (shifted_index ss is) axis n ≡ map (shifted_index ss) (row_from is axis n)
 shifted-row ss axis zero is = refl
 shifted-row ss axis (suc n) is = ap (λ js. shifted_index ss is ∷ row_from js axis n) (sym (shifted-more ss is axis)) ∙ ap (λ l. shifted_index ss is ∷ l) (shifted-row ss axis n (set is axis (get_or is axis 0 + 1)))
 
@@ -42,7 +42,7 @@ row-room ns axis (suc n) is lt ln within =
     let r = row-room ns axis n js (omega arith) ln (All-tail (InBox ns) is (row_from js axis (suc n)) within) in
     omega arith
 
-shifted-get : (ss is : List ℕ) (k : ℕ) → k < length ss → k < length is → get_or (shifted_index ss is) k 0 ≡ get_or ss k 0 + get_or is k 0
+pub shifted-get : (ss is : List ℕ) (k : ℕ) → k < length ss → k < length is → get_or (shifted_index ss is) k 0 ≡ get_or ss k 0 + get_or is k 0
 unfolding shifted_index
 shifted-get [] is k ls li = absurd (omega arith)
 shifted-get (s ∷ ss) [] k ls li = absurd (omega arith)

@@ -8,10 +8,11 @@ use Rattle.ndarray.specs.Elementwise.{CanMap}
 use Rattle.ndarray.specs.Grid.{Grid, cell}
 use Rattle.ndarray.specs.Index.{InBox}
 use Rattle.ndarray.specs.Orders.{box_in}
-use Rattle.ndarray.specs.Runs.{RunsUntil}
+use Rattle.ndarray.specs.Runs.{AnswerTurn, MayTest, RunsUntil, TakesAt, TurnAt}
 use Rattle.ndarray.specs.declared.base.shape.Order.{Order}
 use Rattle.ndarray.proofs.boxes.Orders.{box_in-within}
 use Rattle.ndarray.proofs.callers.Collecting.{All-middle, box-contains}
+use Rattle.ndarray.proofs.callers.Folding.{may-by}
 use Rattle.ndarray.proofs.cells.Cells.{cell-inside}
 use Rattle.ndarray.proofs.lists.Elements.{All-from_recursion}
 
@@ -168,3 +169,11 @@ module _ {F A B : Type 0} (goes : F → List ℕ → F → Type 0) (stops : F �
       subst (λ v. IsTrue r ↔ ((is : List ℕ) → HoldsOf P g v is)) second
       (subst (λ v. IsTrue r ↔ ((is : List ℕ) → HoldsOf P v z is)) first
       (λ on is x y l m. decides.0 on is (cell-inside w is x l) x y l m, λ each. decides.1 (λ is _. each is)))
+
+-- A closure that no call changes may be asked along the box where it may be asked at the items of each index list in it.
+pub may-test : {F A : Type 0} (yields_at : List ℕ → A → Type 0) (call_gives : F → A → Bool → F → Type 0) (can_call : F → A → Type 0) (f : F) (ns : List ℕ) (on : Bool)
+    → ((i : List ℕ) (x : A) (k : F) → yields_at i x → call_gives f x on k → k ≡ f) → (o : Order) → ((i : List ℕ) (x : A) → InBox ns i → yields_at i x → can_call f x) → MayTest yields_at call_gives can_call (box_in o ns) f on
+may-test yields_at call_gives can_call f ns on stays o ok = may-by (TurnAt yields_at (AnswerTurn call_gives on)) (λ done q. q ≡ f)
+    (λ done q i r j t. let (x, s, k) = t in stays i x r s (subst (λ p. call_gives p x on r) j k))
+    (TakesAt yields_at can_call) (box_in o ns) f refl
+    (λ done i rest q e j x s. subst (λ p. can_call p x) (sym j) (ok i x (All-middle (InBox ns) done i rest (box_in o ns) (box_in-within o ns) e) s))

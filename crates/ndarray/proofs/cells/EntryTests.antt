@@ -12,7 +12,7 @@ use Rattle.ndarray.specs.Views.{axis_item}
 use Rattle.ndarray.specs.WholeValues.{HasMagnitudesInRange}
 use Rattle.ndarray.specs.declared.elements.Valued.{Ghosts as ValuedGhosts}
 use Rattle.ndarray.proofs.cells.Cells.{tabulate-cell}
-use Rattle.ndarray.proofs.cells.Matrices.{below-same, column-values, one-length, row-values, two-lengths, vector-values}
+use Rattle.ndarray.proofs.cells.Matrices.{below-same, column-values, row-values, two-lengths, vector-values}
 use Rattle.ndarray.proofs.lists.Decisions.{says_yes}
 use Rattle.ndarray.proofs.sums.InnerSums.{products-below}
 
@@ -46,14 +46,6 @@ module _ {A : Type 0} (e : ValuedGhosts A) where
       (λ k lt. ap (λ o. e.multiplication.op (value_or e.meaning e.addition.unit o) (b.cell k j))
       (ap (λ w. cell w (k ∷ [])) is ∙ tabulate-cell (remove g.lengths 0) (λ is. cell g (insert is 0 i)) (k ∷ []) (subst IsGrid is whole) (subst (λ l. InBox l (k ∷ [])) (sym (ap (λ l. remove l 0) ns)) (lt, tt))))
 
--- the lengths of a vector and of a column, and of a row and a vector
-pub column-lengths : {A : Type 0} (x h y : Grid A) → length x.lengths ≡ 1 → length h.lengths ≡ 2 → get_or x.lengths 0 0 ≡ get_or h.lengths 0 0 → (j : ℕ) → y ≡ axis_item h 1 j → x.lengths ≡ y.lengths
-column-lengths x h y one both inner j is =
-    one-length x.lengths one ∙ (ap (λ n. n ∷ []) inner ∙ sym (ap (λ w. w.lengths) is ∙ ap (λ l. remove l 1) (two-lengths h.lengths both)))
-
-pub row-lengths : {A : Type 0} (g x : Grid A) → length g.lengths ≡ 2 → (i : ℕ) → x ≡ axis_item g 0 i → x.lengths ≡ get_or g.lengths 1 0 ∷ []
-row-lengths g x two i is = ap (λ w. w.lengths) is ∙ ap (λ l. remove l 0) (two-lengths g.lengths two)
-
 -- ---- the entries of a product
 
 module _ (fits : ℤ → Type 0) where
@@ -61,15 +53,15 @@ module _ (fits : ℤ → Type 0) where
   abbrev pub ProductsFit : List ℤ → Type 0
   ProductsFit zs = fits (pos (magnitude_sum zs)) × IsSummable int_sums fits zs
 
-  -- what `dot_fits` says of two vectors whose products these are
-  module _ {A : Type 0} (number : A → ℤ) (x y : Grid A) (zs : List ℤ) (same : x.lengths ≡ y.lengths) (products : products_of int_products number x.cells y.cells ≡ zs) (r : Bool)
-      (magnitudes : IsTrue r ↔ ((x.lengths ≡ y.lengths) × fits (pos (magnitude_sum (products_of int_products number x.cells y.cells)))))
-      (selections : IsTrue r → (x.lengths ≡ y.lengths) × IsSummable int_sums fits (products_of int_products number x.cells y.cells)) where
+  -- what a test says of two lists whose products these are
+  module _ {A : Type 0} (number : A → ℤ) (xs ys : List A) (zs : List ℤ) (products : products_of int_products number xs ys ≡ zs) (r : Bool)
+      (magnitudes : IsTrue r ↔ fits (pos (magnitude_sum (products_of int_products number xs ys))))
+      (selections : IsTrue r → IsSummable int_sums fits (products_of int_products number xs ys)) where
     pub tested-yes : IsTrue r → ProductsFit zs
-    tested-yes on = (subst (λ l. fits (pos (magnitude_sum l))) products (magnitudes.0 on).1, subst (IsSummable int_sums fits) products (selections on).1)
+    tested-yes on = (subst (λ l. fits (pos (magnitude_sum l))) products (magnitudes.0 on), subst (IsSummable int_sums fits) products (selections on))
 
     pub tested-no : fits (pos (magnitude_sum zs)) → IsTrue r
-    tested-no fit = magnitudes.1 (same, subst (λ l. fits (pos (magnitude_sum l))) (sym products) fit)
+    tested-no fit = magnitudes.1 (subst (λ l. fits (pos (magnitude_sum l))) (sym products) fit)
 
   module _ (a b : Matrix ℤ) where
     abbrev pub EntryFits : ℕ → ℕ → Type 0

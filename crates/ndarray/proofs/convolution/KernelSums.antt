@@ -44,7 +44,7 @@ module _ {A C : Type 0} (plus times : CommutativeMonoid C) (value : A → C) whe
   abbrev at : Grid A → List ℕ → C
   at g is = value_or value plus.unit (cell g is)
 
-  both-some : (g h : Grid A) (is js : List ℕ) (x k : A) → cell g is ≡ Some x → cell h js ≡ Some k → product_of_both times value (cell g is) (cell h js) ≡ Some (times.op (at h js) (at g is))
+  pub both-some : (g h : Grid A) (is js : List ℕ) (x k : A) → cell g is ≡ Some x → cell h js ≡ Some k → product_of_both times value (cell g is) (cell h js) ≡ Some (times.op (at h js) (at g is))
   both-some g h is js x k p q = rw (p, q) (ap (λ t. Some t) (times.commutes (value x) (value k)))
 
   module _ (g kernel : Grid A) (whole : IsGrid g) (whole_kernel : IsGrid kernel) (axes : length kernel.lengths ≡ length g.lengths) (ps : List ℕ) (b : InBox (valid_counts g.lengths kernel.lengths) ps) where

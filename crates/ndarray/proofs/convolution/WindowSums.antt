@@ -11,14 +11,13 @@ use Rattle.ndarray.specs.Sums.{IsSummable}
 use Rattle.ndarray.specs.declared.elements.Valued.{Ghosts as ValuedGhosts}
 use Rattle.ndarray.proofs.callers.Collecting.{if_ok-both}
 use Rattle.ndarray.proofs.cells.Cells.{cell-inside}
-use Rattle.ndarray.proofs.convolution.WholeWindows.{products-backwards, window-whole}
+use Rattle.ndarray.proofs.convolution.WholeWindows.{products-backwards}
 
--- the window at a position has as many cells, and the products may be summed
+-- the window at a position has the array's lengths, and the products may be summed
 pub window-summable : {A C : Type 0} (plus times : CommutativeMonoid C) (P : C → Type 0) (value : A → C) (g m k x : Grid A) (ps : List ℕ)
-    → IsGrid g → IsGrid m → length m.lengths ≡ length g.lengths → k ≡ m → InBox (valid_counts g.lengths m.lengths) ps → IsSummable plus P (window_products times value g m ps)
-    → x ≡ window g m.lengths (single_steps g.lengths) ps → (length x.cells ≡ length k.cells) × IsSummable plus P (products_of times value x.cells k.cells)
-window-summable plus times P value g m k x ps whole_g whole_m axes e inside sums at = (
-  ap (λ w. length w.cells) at ∙ (window-whole g whole_g m.lengths ps axes inside ∙ (sym whole_m ∙ sym (ap (λ w. length w.cells) e))),
+    → k ≡ m → IsSummable plus P (window_products times value g m ps) → x ≡ window g m.lengths (single_steps g.lengths) ps → (x.lengths ≡ k.lengths) × IsSummable plus P (products_of times value x.cells k.cells)
+window-summable plus times P value g m k x ps e sums at = (
+  ap (λ w. w.lengths) at ∙ sym (ap (λ w. w.lengths) e),
   subst (λ w. IsSummable plus P (products_of times value x.cells w.cells)) (sym e) (subst (λ w. IsSummable plus P (products_of times value w.cells m.cells)) (sym at) sums),
 )
 

@@ -1,15 +1,16 @@
 -- Lists of blocks, and what stands at each place of them.
-use Rattle.std.proofs.Common.{◌≡◌, ℕ, ◌+◌, ◌*◌, ◌<◌, ◌≤◌, suc, zero, List, [], ◌∷◌, ◌++◌, length, take, drop, get_or, refl, sym, ◌∙◌, ap, arith, append_assoc}
+use Rattle.std.proofs.Common.{◌≡◌, ℕ, ◌+◌, ◌*◌, ◌<◌, ◌≤◌, suc, zero, List, [], ◌∷◌, ◌++◌, length, take, drop, get_or, Some, refl, sym, ◌∙◌, ap, arith, append_assoc}
 use Rattle.std.specs.Prelude.{flat_map, slice_get, sum_by, All}
 use Rattle.std.proofs.Math.Seq.{drop-cons}
 use Rattle.std.proofs.lemmas.List.{length-append, length-drop, length-take-le}
 use Rattle.std.proofs.lemmas.List.Elements.{All-head, All-tail}
 use Rattle.std.proofs.lemmas.List.Sums.{sum_by-cons}
-use Rattle.ndarray.specs.Grid.{Grid}
-use Rattle.ndarray.specs.Index.{size}
+use Rattle.ndarray.specs.Grid.{Grid, IsGrid, cell}
+use Rattle.ndarray.specs.Index.{InBox, size}
 use Rattle.ndarray.specs.base.Builder.{BuilderState, pushed_all, pushed_to}
 use Rattle.ndarray.specs.base.Ranks.{rank}
 use Rattle.ndarray.specs.stacking.Blocks.{block_at, blocks_at}
+use Rattle.ndarray.proofs.cells.Cells.{cell-within}
 
 module _ {X : Type 0} where
   pub slice_get-first : (xs ys : List X) (k : ℕ) → k < length xs → slice_get (xs ++ ys) k ≡ slice_get xs k
@@ -68,6 +69,17 @@ module _ {A : Type 0} where
       e
       ∙ part-same count (size (drop a g.lengths)) (rank view.lengths js) (rank g.lengths is) view.cells g.cells (many ∙ ap (λ ms. size (drop a ms)) lengths)
       (ap (λ h. rank h.lengths js) seen ∙ ap (rank g.lengths) index) (ap (λ h. h.cells) seen)
+
+  one-at : (xs : List A) (n : ℕ) (x : A) → slice_get xs n ≡ Some x → take 1 (drop n xs) ≡ x ∷ []
+  one-at [] zero x e = cc
+  one-at [] (suc n) x e = cc
+  one-at (y ∷ ys) zero x e = let same : y ≡ x = cc in ap (λ z. z ∷ []) same
+  one-at (y ∷ ys) (suc n) x e = one-at ys n x e
+
+  -- a block of one cell
+  pub block-one : (a : ℕ) (is : List ℕ) (g : Grid A) (x : A) → IsGrid g → size (drop a g.lengths) ≡ 1 → InBox g.lengths is → cell g is ≡ Some x → block_at a is g ≡ x ∷ []
+  block-one a is g x whole one inside here =
+      ap (λ n. take n (drop (rank g.lengths is) g.cells)) one ∙ one-at g.cells (rank g.lengths is) x (sym (cell-within g whole is inside) ∙ here)
 
   pub blocks-to_come : (a : ℕ) (is : List ℕ) (gs : List (Grid A)) (i : ℕ) (g : Grid A) (cells : List A) → i < length gs → g ≡ get_or gs i g → cells ≡ block_at a is g → blocks_at a is (drop i gs) ≡ cells ++ blocks_at a is (drop (i + 1) gs)
   blocks-to_come a is gs i g cells lt here e =

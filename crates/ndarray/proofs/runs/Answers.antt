@@ -1,9 +1,9 @@
 -- How many answers calls gave.
-use Rattle.std.proofs.Common.{◌≡◌, ℕ, ◌+◌, ◌<◌, List, [], ◌∷◌, ◌++◌, length, Option, Some, sym, ap, arith}
+use Rattle.std.proofs.Common.{◌≡◌, ℕ, ◌+◌, ◌<◌, Bool, List, [], ◌∷◌, ◌++◌, length, Option, Some, sym, ap, arith}
 use Rattle.std.proofs.lemmas.List.{length-append}
 use Rattle.std.specs.List.{FoldsTo}
 use Rattle.ndarray.specs.Orders.{box_in}
-use Rattle.ndarray.specs.Runs.{MayGather, TurnAt, GatherTurn}
+use Rattle.ndarray.specs.Runs.{MayGather, MayTest, TurnAt, GatherTurn}
 use Rattle.ndarray.specs.declared.base.shape.Order.{Order}
 use Rattle.ndarray.specs.declared.base.shape.Order.TheVariants.{RowMajor, ColumnMajor}
 use Rattle.ndarray.proofs.runs.Turns.{Reached, found}
@@ -32,3 +32,8 @@ pub may_gather_in : {F A R : Type 0} (yields_at : List ℕ → A → Type 0) (ca
     → MayGather yields_at call_gives can_call (box_in RowMajor ns) f → MayGather yields_at call_gives can_call (box_in ColumnMajor ns) f → (o : Order) → MayGather yields_at call_gives can_call (box_in o ns) f
 may_gather_in yields_at call_gives can_call ns f rows columns RowMajor = rows
 may_gather_in yields_at call_gives can_call ns f rows columns ColumnMajor = columns
+
+pub may_test_in : {F A : Type 0} (yields_at : List ℕ → A → Type 0) (call_gives : F → A → Bool → F → Type 0) (can_call : F → A → Type 0) (ns : List ℕ) (f : F) (on : Bool)
+    → MayTest yields_at call_gives can_call (box_in RowMajor ns) f on → MayTest yields_at call_gives can_call (box_in ColumnMajor ns) f on → (o : Order) → MayTest yields_at call_gives can_call (box_in o ns) f on
+may_test_in yields_at call_gives can_call ns f on rows columns RowMajor = rows
+may_test_in yields_at call_gives can_call ns f on rows columns ColumnMajor = columns

@@ -149,7 +149,7 @@ yields-fewer read row rest None h = let l = ap length h.0 in let m = ap length h
 yields-fewer read row rest (Some x) h = let l = ap length h in omega arith
 
 -- what is left behind a row comes after it
-taken-parts : (ys zs : List (List ℕ)) (is : List ℕ) (axis count : ℕ) → TakesRow ys zs is axis count → ys ≡ row_from is axis count ++ zs
+pub taken-parts : (ys zs : List (List ℕ)) (is : List ℕ) (axis count : ℕ) → TakesRow ys zs is axis count → ys ≡ row_from is axis count ++ zs
 taken-parts ys zs is axis count t = sym (take-append-drop count ys) ∙ (ap (λ l. l ++ drop count ys) t.row ∙ ap (λ l. row_from is axis count ++ l) (sym t.rest))
 
 -- the places of a row, and those behind it

@@ -60,6 +60,11 @@ module _ {A C : Type 0} (plus times : CommutativeMonoid C) (P : C → Type 0) (v
 pub drop-next : {A : Type 0} (xs : List A) (i : ℕ) (x : A) → i < length xs → x ≡ get_or xs i x → drop i xs ≡ x ∷ drop (i + 1) xs
 drop-next xs i x lt is = rw add-one (drop-cons xs i x lt ∙ (ap (λ y. y ∷ drop (suc i) xs) (sym is)))
 
+-- the products from a place on
+pub products-from : {A C : Type 0} (times : CommutativeMonoid C) (v : A → C) (xs ys : List A) (i : ℕ) (x y : A) → i < length xs → i < length ys → x ≡ get_or xs i x → y ≡ get_or ys i y
+    → products_of times v (drop i xs) (drop i ys) ≡ times.op (v x) (v y) ∷ products_of times v (drop (i + 1) xs) (drop (i + 1) ys)
+products-from times v xs ys i x y lt lt_y is is_y = products-next times v _ _ _ _ x y (drop-next xs i x lt is) (drop-next ys i y lt_y is_y)
+
 -- the products of two lists of which the values are known
 pub products-below : {A C : Type 0} (times : CommutativeMonoid C) (v : A → C) (xs ys : List A) (n : ℕ) (f h : ℕ → C)
     → map v xs ≡ values_below n f → map v ys ≡ values_below n h → products_of times v xs ys ≡ values_below n (λ k. times.op (f k) (h k))

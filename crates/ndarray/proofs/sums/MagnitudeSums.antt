@@ -1,16 +1,16 @@
 -- Sums of absolute values, and the sums of all selections.
-use Rattle.std.proofs.Common.{◌≡◌, ℕ, suc, Bool, true, false, cond, List, [], ◌∷◌, Option, None, Some, ◌+◌, ◌≤◌, refl, sym, ap, ◌∙◌, subst, arith}
+use Rattle.std.proofs.Common.{◌≡◌, ℕ, suc, Bool, true, false, cond, List, [], ◌∷◌, ◌++◌, ◌+◌, ◌≤◌, append-nil, refl, sym, ap, ◌∙◌, subst, arith}
 use Rattle.std.specs.Prelude.{ℤ, pos, negsuc, neg_ℤ, ◌+ℤ◌, ◌*ℤ◌, ◌≤ℤ◌, unsigned_abs}
 use Rattle.std.specs.List.{AllByRecursion}
 use Rattle.std.proofs.lemmas.Int.{ints}
-use Rattle.num_traits.specs.Laws.{Checks}
 use Rattle.ndarray.specs.Integers.{int_sums}
+use Rattle.ndarray.specs.MagnitudeSums.{AddedSoFar, NegativeFits, SignedSoFar}
 use Rattle.ndarray.specs.Products.{magnitude_sum}
 use Rattle.ndarray.specs.Sums.{total, select, IsSummable}
-use Rattle.ndarray.proofs.sums.NonzeroProducts.{NegativeFits, negative-product, within}
+use Rattle.ndarray.proofs.sums.NonzeroProducts.{negative-product, within}
 use Rattle.ndarray.proofs.sums.Selections.{op_unit}
 
-own-negative : (fits : ℤ → Type 0) (z : ℤ) → fits z → NegativeFits fits z
+pub own-negative : (fits : ℤ → Type 0) (z : ℤ) → fits z → NegativeFits fits z
 unfolding NegativeFits
 own-negative fits z f n e = (n, subst fits e f)
 
@@ -50,14 +50,6 @@ module _ (fits : ℤ → Type 0) where
   pub magnitudes-summable : ((x y z : ℤ) → fits x → fits z → x ≤ℤ y → y ≤ℤ z → fits y) → ((m n : ℕ) → fits (negsuc m) → fits (pos n) → fits (neg_ℤ (pos n))) → fits (pos 0)
       → (zs : List ℤ) → AllByRecursion (NegativeFits fits) zs → fits (pos (magnitude_sum zs)) → IsSummable int_sums fits zs
   magnitudes-summable between negated zero_fits zs f h = λ keep. let s = selections keep zs f in within fits between negated zero_fits (total int_sums (select keep zs)) (magnitude_sum zs) s.0 h s.1
-
--- the sum of the absolute values of whole before rest is n, and fits; and a type that has a negative number where one of rest is negative has one where one of whole is
-pub record AddedSoFar (fits : ℤ → Type 0) (whole rest : List ℤ) (sum : ℤ) : Type 0 where
-  pub number : ℕ
-  pub is_number : sum ≡ pos number
-  pub in_range : fits sum
-  total_is : number + magnitude_sum rest ≡ magnitude_sum whole
-  signs : AllByRecursion (NegativeFits fits) rest → AllByRecursion (NegativeFits fits) whole
 
 pub added-start : (fits : ℤ → Type 0) (whole rest : List ℤ) (sum : ℤ) → rest ≡ whole → sum ≡ pos 0 → fits (pos 0) → AddedSoFar fits whole rest sum
 added-start fits whole rest sum e none h = record {
@@ -105,19 +97,7 @@ module _ (fits : ℤ → Type 0) (whole now rest : List ℤ) (z sum : ℤ) (next
           subst fits (sym sum-is) (below (h.number + unsigned_abs z) (magnitude_sum whole) (omega (arith, t)) f),
         )
 
--- what a checked sum with an absolute value that fits answers
-pub checked-sum : {A : Type 0} (value : A → ℤ) (fits : ℤ → Type 0) (sum size : ℤ) (n : ℕ) (r : Option A) → size ≡ pos n → fits (pos n) → Checks value fits (sum +ℤ size) r → Checks value (λ z. fits (pos n) × fits z) (sum +ℤ pos n) r
-checked-sum value fits sum size n None e f h = λ both. h (subst (λ t. fits (sum +ℤ t)) (sym e) both.1)
-checked-sum value fits sum size n (Some y) e f h = ((f, subst (λ t. fits (sum +ℤ t)) e h.0), h.1 ∙ ap (λ t. sum +ℤ t) e)
-
 -- ---- the signed sum next to that of the absolute values
-
--- sum is what the numbers of whole before rest add up to, and magnitude what their absolute values do, which fits
-pub record SignedSoFar (fits : ℤ → Type 0) (whole rest : List ℤ) (magnitude sum : ℤ) : Type 0 where
-  pub magnitudes : AddedSoFar fits whole rest magnitude
-  pub total_is : sum +ℤ total int_sums rest ≡ total int_sums whole
-  pub small : unsigned_abs sum ≤ unsigned_abs magnitude
-  pub negative : NegativeFits fits sum
 
 pub signed-start : (fits : ℤ → Type 0) (whole rest : List ℤ) (magnitude sum : ℤ) → rest ≡ whole → magnitude ≡ pos 0 → sum ≡ pos 0 → fits (pos 0) → SignedSoFar fits whole rest magnitude sum
 signed-start fits whole rest magnitude sum e none zero h = record {
@@ -127,9 +107,16 @@ signed-start fits whole rest magnitude sum e none zero h = record {
   negative = subst (NegativeFits fits) (sym zero) (none-negative fits);
 }
 
-pub signed-end : (fits : ℤ → Type 0) (whole rest : List ℤ) (magnitude sum : ℤ) → rest ≡ [] → SignedSoFar fits whole rest magnitude sum → sum ≡ total int_sums whole
-signed-end fits whole rest magnitude sum none h =
-    sym (ap (λ l. sum +ℤ total int_sums l) none ∙ op_unit int_sums sum) ∙ h.total_is
+-- all numbers are left, and none behind them
+pub signed-all : (fits : ℤ → Type 0) (whole : List ℤ) (magnitude sum : ℤ) → SignedSoFar fits whole whole magnitude sum → SignedSoFar fits whole (whole ++ []) magnitude sum
+signed-all fits whole magnitude sum h = subst (λ l. SignedSoFar fits whole l magnitude sum) (sym (append-nil whole)) h
+
+-- what it says at the end
+pub signed-end : (fits : ℤ → Type 0) (whole : List ℤ) (magnitude sum : ℤ) → ((x y z : ℤ) → fits x → fits z → x ≤ℤ y → y ≤ℤ z → fits y) → ((m n : ℕ) → fits (negsuc m) → fits (pos n) → fits (neg_ℤ (pos n))) → fits (pos 0)
+    → SignedSoFar fits whole [] magnitude sum → fits (pos (magnitude_sum whole)) × (IsSummable int_sums fits whole × (sum ≡ total int_sums whole))
+signed-end fits whole magnitude sum between negated zero_fits h =
+    let (fit, signs) = added-end fits whole [] magnitude refl h.magnitudes in
+    (fit, (magnitudes-summable fits between negated zero_fits whole signs fit, sym (op_unit int_sums sum) ∙ h.total_is))
 
 -- the next number is z, whose absolute value may be added
 module _ (fits : ℤ → Type 0) (whole now rest : List ℤ) (z magnitude sum : ℤ) (next : now ≡ z ∷ rest) (sign : NegativeFits fits z) (h : SignedSoFar fits whole now magnitude sum) where
@@ -142,12 +129,16 @@ module _ (fits : ℤ → Type 0) (whole now rest : List ℤ) (z magnitude sum : 
   smaller = let a = abs-sum sum z in let s = h.small in omega (arith, a, s)
 
   module _ (between : (x y z : ℤ) → fits x → fits z → x ≤ℤ y → y ≤ℤ z → fits y) (negated : (m n : ℕ) → fits (negsuc m) → fits (pos n) → fits (neg_ℤ (pos n))) (zero_fits : fits (pos 0)) where
-    -- so it may be added itself
-    pub signed-fits : fits (magnitude +ℤ pos (unsigned_abs z)) → fits (sum +ℤ z)
+    -- the absolute value may be added, and so may the number itself
+    signed-fits : fits (magnitude +ℤ pos (unsigned_abs z)) → fits (sum +ℤ z)
     signed-fits f = within fits between negated zero_fits (sum +ℤ z) (unsigned_abs magnitude + unsigned_abs z) smaller (subst fits larger f) (negative-sum fits sum z h.negative sign)
 
-    pub number-fits : fits (pos (unsigned_abs z)) → fits z
+    number-fits : fits (pos (unsigned_abs z)) → fits z
     number-fits f = within fits between negated zero_fits z (unsigned_abs z) (omega arith) f sign
+
+    -- the number, its absolute value, or a sum with one of them is too large, and so is the whole sum of absolute values
+    pub signed-excess : (fits z × (fits (pos (unsigned_abs z)) × (fits (magnitude +ℤ pos (unsigned_abs z)) × fits (sum +ℤ z))) → ⊥) → fits (pos (magnitude_sum whole)) → ⊥
+    signed-excess excess = added-excess fits whole now rest z magnitude next sign h.magnitudes between zero_fits (λ both. excess (number-fits both.0, (both.0, (both.1, signed-fits both.1))))
 
   pub signed-next : (more added : ℤ) → more ≡ magnitude +ℤ pos (unsigned_abs z) → fits (magnitude +ℤ pos (unsigned_abs z)) → added ≡ sum +ℤ z → SignedSoFar fits whole rest more added
   signed-next more added e f a = record {

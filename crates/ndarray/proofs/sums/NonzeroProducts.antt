@@ -10,6 +10,7 @@ use Rattle.std.proofs.lemmas.Nat.{mul-le}
 use Rattle.num_traits.specs.Laws.{Checks}
 use Rattle.ndarray.specs.IntegerProducts.{one-times}
 use Rattle.ndarray.specs.Integers.{int_products, magnitude_product, nonzero_magnitude}
+use Rattle.ndarray.specs.MagnitudeSums.{NegativeFits}
 use Rattle.ndarray.specs.NonzeroProducts.{MultipliedSoFar}
 use Rattle.ndarray.specs.Sums.{total, select, IsSummable}
 use Rattle.ndarray.proofs.lists.Elements.{All-from_recursion, All-to_recursion}
@@ -35,10 +36,6 @@ product-some [] = omega arith
 product-some (z ∷ zs) = let k : 1 * 1 ≤ nonzero_magnitude z * magnitude_product zs = mul-le 1 1 (nonzero_magnitude z) (magnitude_product zs) (magnitude-some z) (product-some zs) in omega (arith, k)
 
 -- ---- the products of all selections
-
--- a number that is negative shows that some negative number fits
-unfoldable pub NegativeFits : (ℤ → Type 0) → ℤ → Type 0
-NegativeFits fits z = (n : ℕ) → z ≡ negsuc n → (m : ℕ) × fits (negsuc m)
 
 pub negative-product : (fits : ℤ → Type 0) (a b : ℤ) → fits a → NegativeFits fits b → NegativeFits fits (a *ℤ b)
 unfolding NegativeFits

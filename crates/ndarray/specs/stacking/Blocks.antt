@@ -36,6 +36,18 @@ pub record HasBlockAt {A : Type 0} (axis : ℕ) (is : List ℕ) (g : Grid A) : T
   pub within : 0 < size (drop axis g.lengths) → InBox g.lengths is
   pub fits : 0 < size (drop axis g.lengths) → rank g.lengths is + size (drop axis g.lengths) ≤ size g.lengths
 
+-- the array has a cell at the index list, and that is the block there
+pub record IsCellAt {A : Type 0} (axis : ℕ) (is : List ℕ) (g : Grid A) : Type 0 where
+  pub whole : IsGrid g
+  pub one : size (drop axis g.lengths) ≡ 1
+  pub within : InBox g.lengths is
+
+-- an item of the one list, one of the other, and so on
+abbrev pub by_turns : {A : Type 0} → List A → List A → List A
+by_turns [] ys = []
+by_turns (x ∷ xs) [] = []
+by_turns (x ∷ xs) (y ∷ ys) = x ∷ y ∷ by_turns xs ys
+
 -- each array has its block at each index list of the outer axes, and together they are as many cells as the lengths ms ask for
 pub record MayJoin {A : Type 0} (axis : ℕ) (gs : List (Grid A)) (outer ms : List ℕ) : Type 0 where
   pub limit : IsWithinLimit ms

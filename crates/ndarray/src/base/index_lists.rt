@@ -39,7 +39,7 @@ impl<D: Lengths> Model for Indices<D> {
 }
 
 /// An index list counted from a start, axis by axis.
-fn counted_from<D: Lengths>(start: &D, index: &D) -> D
+pub(crate) fn counted_from<D: Lengths>(start: &D, index: &D) -> D
     requires as_many { length (D.numbers start.now) ≡ length (D.numbers index.now) }
     requires room { (k : ℕ) → k < length (D.numbers index.now) → slice_index (D.numbers start.now) k + slice_index (D.numbers index.now) k < 2 ^ 64 }
     ensures { D.numbers result ≡ shifted_index (D.numbers start.now) (D.numbers index.now) }

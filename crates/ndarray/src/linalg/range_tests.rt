@@ -11,8 +11,10 @@ use crate::base::axis::Axis;
 use crate::base::dimension::{Dimension, Ix1, Ix2};
 use crate::base::storage::Data;
 use crate::elements::{IntegerElem, IntegerScalar};
+use crate::linalg::inner::cells_of;
 use crate::linalg::products::{Dot, dot_ok};
 use crate::reduce::dot_fits;
+use crate::reduce::range_tests::inner_stays_in_range;
 
 /// What has a product with `Rhs` whose range can be tested: vectors and matrices of integers, with vectors and matrices, and arrays
 /// of integers of `IxDyn`.
@@ -97,8 +99,10 @@ fn columns_fit<A: IntegerElem>(x: &ArrayView<'_, A, Ix1>, b: &ArrayView<'_, A, I
     if k == 0 {
         return true;
     }
+    let numbers = cells_of(x.view());
     for j in 0..n {
-        if !dot_fits(x, &b.index_axis(Axis(1), j)) {
+        let column = cells_of(b.index_axis(Axis(1), j));
+        if !inner_stays_in_range(numbers.again(), column) {
             return false;
         }
     }
@@ -117,8 +121,10 @@ fn rows_fit<A: IntegerElem>(a: &ArrayView<'_, A, Ix2>, x: &ArrayView<'_, A, Ix1>
     if k == 0 {
         return true;
     }
+    let numbers = cells_of(x.view());
     for i in 0..m {
-        if !dot_fits(&a.index_axis(Axis(0), i), x) {
+        let row = cells_of(a.index_axis(Axis(0), i));
+        if !inner_stays_in_range(row, numbers.again()) {
             return false;
         }
     }

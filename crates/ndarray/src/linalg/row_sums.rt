@@ -54,7 +54,7 @@ fn push_by_rows<A: LinalgScalar>(
 }
 
 /// Pushes zeros.
-fn push_zeros<A: LinalgScalar>(sums: &mut Vec<A>, many: usize)
+pub(crate) fn push_zeros<A: LinalgScalar>(sums: &mut Vec<A>, many: usize)
     requires { length sums.old.items + many ≤ vec_capacity sums.old }
     ensures items { sums.new.items ≡ sums.old.items ++ replicate many A.zero }
     ensures capacity { vec_capacity sums.new ≡ vec_capacity sums.old }
@@ -85,7 +85,7 @@ fn add_rows<A: LinalgScalar>(
 }
 
 /// Adds a number times each cell of a row to the sum at its place.
-fn add_scaled<A: LinalgScalar>(sums: &mut [A], x: A, row: Strided<'_, A>)
+pub(crate) fn add_scaled<A: LinalgScalar>(sums: &mut [A], x: A, row: Strided<'_, A>)
     requires { CanAddScaledRow A.Valued x sums.old row }
     ensures { AddsScaledRow A.Valued x row.entry sums.old sums.new }
 {

@@ -55,10 +55,11 @@ where
     }
 }
 
-impl<A, B, D, E> BitXor<Array<B, E>> for Array<A, D>
+impl<A, B, S2, D, E> BitXor<ArrayBase<S2, E>> for Array<A, D>
 where
     A: Clone + BitXor<B, Output = A>,
     B: Clone,
+    S2: Data<Elem = B>,
     D: DimMax<E>,
     E: Lengths,
 {
@@ -68,25 +69,7 @@ where
 
     ghost bitxor_gives = { λ a b r. UpdatesCombined D.Output.has_axes A.bitxor_gives A.is_infallible B.is_infallible a.lengths a b r };
 
-    fn bitxor(self, rhs: Array<B, E>) -> Self::Output {
-        combine_into_left_by_value::<ExclusiveDisjunction, A, B, _, D, E>(self, rhs)
-    }
-}
-
-impl<'b, A, B, D, E> BitXor<ArrayView<'b, B, E>> for Array<A, D>
-where
-    A: Clone + BitXor<B, Output = A>,
-    B: Clone,
-    D: DimMax<E>,
-    E: Lengths,
-{
-    type Output = Result<Array<A, <D as DimMax<E>>::Output>, AllocError>;
-
-    ghost can_bitxor = { λ a b. CanCombine a b A.can_bitxor × ClonesAreEqual A.is_clone × ClonesAreEqual B.is_clone };
-
-    ghost bitxor_gives = { λ a b r. UpdatesCombined D.Output.has_axes A.bitxor_gives A.is_infallible B.is_infallible a.lengths a b r };
-
-    fn bitxor(self, rhs: ArrayView<'b, B, E>) -> Self::Output {
+    fn bitxor(self, rhs: ArrayBase<S2, E>) -> Self::Output {
         combine_into_left_by_value::<ExclusiveDisjunction, A, B, _, D, E>(self, rhs)
     }
 }

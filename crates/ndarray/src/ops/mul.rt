@@ -55,10 +55,11 @@ where
     }
 }
 
-impl<A, B, D, E> Mul<Array<B, E>> for Array<A, D>
+impl<A, B, S2, D, E> Mul<ArrayBase<S2, E>> for Array<A, D>
 where
     A: Clone + Mul<B, Output = A>,
     B: Clone,
+    S2: Data<Elem = B>,
     D: DimMax<E>,
     E: Lengths,
 {
@@ -68,25 +69,7 @@ where
 
     ghost mul_gives = { λ a b r. UpdatesCombined D.Output.has_axes A.mul_gives A.is_infallible B.is_infallible a.lengths a b r };
 
-    fn mul(self, rhs: Array<B, E>) -> Self::Output {
-        combine_into_left_by_value::<Multiplication, A, B, _, D, E>(self, rhs)
-    }
-}
-
-impl<'b, A, B, D, E> Mul<ArrayView<'b, B, E>> for Array<A, D>
-where
-    A: Clone + Mul<B, Output = A>,
-    B: Clone,
-    D: DimMax<E>,
-    E: Lengths,
-{
-    type Output = Result<Array<A, <D as DimMax<E>>::Output>, AllocError>;
-
-    ghost can_mul = { λ a b. CanCombine a b A.can_mul × ClonesAreEqual A.is_clone × ClonesAreEqual B.is_clone };
-
-    ghost mul_gives = { λ a b r. UpdatesCombined D.Output.has_axes A.mul_gives A.is_infallible B.is_infallible a.lengths a b r };
-
-    fn mul(self, rhs: ArrayView<'b, B, E>) -> Self::Output {
+    fn mul(self, rhs: ArrayBase<S2, E>) -> Self::Output {
         combine_into_left_by_value::<Multiplication, A, B, _, D, E>(self, rhs)
     }
 }

@@ -55,10 +55,11 @@ where
     }
 }
 
-impl<A, B, D, E> Rem<Array<B, E>> for Array<A, D>
+impl<A, B, S2, D, E> Rem<ArrayBase<S2, E>> for Array<A, D>
 where
     A: Clone + Rem<B, Output = A>,
     B: Clone,
+    S2: Data<Elem = B>,
     D: DimMax<E>,
     E: Lengths,
 {
@@ -68,25 +69,7 @@ where
 
     ghost rem_gives = { λ a b r. UpdatesCombined D.Output.has_axes A.rem_gives A.is_infallible B.is_infallible a.lengths a b r };
 
-    fn rem(self, rhs: Array<B, E>) -> Self::Output {
-        combine_into_left_by_value::<Remainder, A, B, _, D, E>(self, rhs)
-    }
-}
-
-impl<'b, A, B, D, E> Rem<ArrayView<'b, B, E>> for Array<A, D>
-where
-    A: Clone + Rem<B, Output = A>,
-    B: Clone,
-    D: DimMax<E>,
-    E: Lengths,
-{
-    type Output = Result<Array<A, <D as DimMax<E>>::Output>, AllocError>;
-
-    ghost can_rem = { λ a b. CanCombine a b A.can_rem × ClonesAreEqual A.is_clone × ClonesAreEqual B.is_clone };
-
-    ghost rem_gives = { λ a b r. UpdatesCombined D.Output.has_axes A.rem_gives A.is_infallible B.is_infallible a.lengths a b r };
-
-    fn rem(self, rhs: ArrayView<'b, B, E>) -> Self::Output {
+    fn rem(self, rhs: ArrayBase<S2, E>) -> Self::Output {
         combine_into_left_by_value::<Remainder, A, B, _, D, E>(self, rhs)
     }
 }

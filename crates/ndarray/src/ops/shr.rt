@@ -55,10 +55,11 @@ where
     }
 }
 
-impl<A, B, D, E> Shr<Array<B, E>> for Array<A, D>
+impl<A, B, S2, D, E> Shr<ArrayBase<S2, E>> for Array<A, D>
 where
     A: Clone + Shr<B, Output = A>,
     B: Clone,
+    S2: Data<Elem = B>,
     D: DimMax<E>,
     E: Lengths,
 {
@@ -68,25 +69,7 @@ where
 
     ghost shr_gives = { λ a b r. UpdatesCombined D.Output.has_axes A.shr_gives A.is_infallible B.is_infallible a.lengths a b r };
 
-    fn shr(self, rhs: Array<B, E>) -> Self::Output {
-        combine_into_left_by_value::<RightShift, A, B, _, D, E>(self, rhs)
-    }
-}
-
-impl<'b, A, B, D, E> Shr<ArrayView<'b, B, E>> for Array<A, D>
-where
-    A: Clone + Shr<B, Output = A>,
-    B: Clone,
-    D: DimMax<E>,
-    E: Lengths,
-{
-    type Output = Result<Array<A, <D as DimMax<E>>::Output>, AllocError>;
-
-    ghost can_shr = { λ a b. CanCombine a b A.can_shr × ClonesAreEqual A.is_clone × ClonesAreEqual B.is_clone };
-
-    ghost shr_gives = { λ a b r. UpdatesCombined D.Output.has_axes A.shr_gives A.is_infallible B.is_infallible a.lengths a b r };
-
-    fn shr(self, rhs: ArrayView<'b, B, E>) -> Self::Output {
+    fn shr(self, rhs: ArrayBase<S2, E>) -> Self::Output {
         combine_into_left_by_value::<RightShift, A, B, _, D, E>(self, rhs)
     }
 }

@@ -1,7 +1,8 @@
 //! Whether the sums and the products of an array's cells stay in their integer type.
 
-ghost use Rattle.std.specs.Prelude.{◌≡◌, ◌↔◌, ◌+ℤ◌, ◌*ℤ◌, ◌<ℤ◌, ◌≤ℤ◌, ◌++◌, [], ℤ, List, IfSome, IsSome, IsTrue, MatchOption, map, pos, unsigned_abs};
+ghost use Rattle.std.specs.Prelude.{◌≡◌, ◌↔◌, ◌+ℤ◌, ◌*ℤ◌, ◌<ℤ◌, ◌≤ℤ◌, ◌++◌, ◌∷◌, [], ℤ, List, IfSome, IsSome, IsTrue, MatchOption, map, pos, unsigned_abs};
 ghost use Rattle.num_traits.specs.Laws.{Checks};
+ghost use Rattle.ndarray.specs.MagnitudeSums.{SignedSoFar};
 ghost use Rattle.ndarray.specs.Products.{magnitude_sum, products_of};
 ghost use Rattle.ndarray.specs.NonzeroProducts.{MultipliedSoFar};
 ghost use Rattle.ndarray.specs.SignedSums.{AddedApart};
@@ -14,6 +15,9 @@ use crate::base::storage::Data;
 use crate::base::strided::Strided;
 use crate::elements::IntegerElem;
 use crate::iter::runs::CellRuns;
+use crate::linalg::inner::cells_of;
+use crate::order::Order;
+use crate::order::rows::BoxRows;
 use crate::zip::pair::PairRun;
 use num_traits::{CheckedAdd, Zero};
 
@@ -238,84 +242,165 @@ fn checked_dot_of<A: IntegerElem>(x: &ArrayView<'_, A, Ix1>, y: &ArrayView<'_, A
     if n != m {
         return None;
     }
-    checked_inner(x, y)
+    checked_inner(cells_of(x.view()), cells_of(y.view()))
 }
 
-/// Whether the absolute values of the products of two arrays' cells, one after another in row order, add up to at most the type's greatest number.
-pub(crate) fn inner_stays_in_range<A: IntegerElem, D: Lengths>(
+/// Whether the absolute values of the products of two lists of cells, place by place, add up to at most the type's greatest number.
+pub(crate) fn inner_stays_in_range<A: IntegerElem>(
+    left: Strided<'_, A>,
+    right: Strided<'_, A>,
+) -> bool
+    ensures magnitudes { IsTrue result ↔ A.fits (pos (magnitude_sum (products_of int_products A.value left.entry right.entry))) }
+    ensures selections { IsTrue result → IsSummable int_sums A.fits (products_of int_products A.value left.entry right.entry) }
+{
+    checked_inner(left, right).is_some()
+}
+
+/// The sum of the products, where it is so.
+fn checked_inner<A: IntegerElem>(left: Strided<'_, A>, right: Strided<'_, A>) -> Option<A>
+    ensures magnitudes { IsSome result ↔ A.fits (pos (magnitude_sum (products_of int_products A.value left.entry right.entry))) }
+    ensures selections { IsSome result → IsSummable int_sums A.fits (products_of int_products A.value left.entry right.entry) }
+    ensures sum { IfSome result (λ s. A.value s ≡ total int_sums (products_of int_products A.value left.entry right.entry)) }
+{
+    let Some(sums) = add_products(no_products(), left, right) else {
+        return None;
+    };
+    Some(sums.sum)
+}
+
+/// Whether the absolute values of the products of the cells of two arrays of the same lengths add up to at most the type's
+/// greatest number.
+pub(crate) fn products_stay_in_range<A: IntegerElem, D: Lengths>(
     x: &ArrayView<'_, A, D>,
     y: &ArrayView<'_, A, D>,
 ) -> bool
+    requires same { x.now.lengths ≡ y.now.lengths }
     ensures magnitudes { IsTrue result ↔ A.fits (pos (magnitude_sum (products_of int_products A.value x.now.cells y.now.cells))) }
     ensures selections { IsTrue result → IsSummable int_sums A.fits (products_of int_products A.value x.now.cells y.now.cells) }
 {
-    checked_inner(x, y).is_some()
+    let _whole = y.raw_dim();
+    let mut sums = no_products();
+    let mut rows = BoxRows::new(x.raw_dim(), Order::RowMajor);
+    while let Some(row) = rows.next() {
+        let left = x.cells_along(&row.first, row.axis, row.count);
+        let right = y.cells_along(&row.first, row.axis, row.count);
+        let Some(more) = add_products(sums, left, right) else {
+            return false;
+        };
+        sums = more;
+    }
+    true
 }
 
-/// The sum of the products of two arrays' cells, one after another in row order, where their absolute values add up to at most the type's greatest number.
-fn checked_inner<A: IntegerElem, D: Lengths>(
-    x: &ArrayView<'_, A, D>,
-    y: &ArrayView<'_, A, D>,
-) -> Option<A>
-    ensures magnitudes { IsSome result ↔ A.fits (pos (magnitude_sum (products_of int_products A.value x.now.cells y.now.cells))) }
-    ensures selections { IsSome result → IsSummable int_sums A.fits (products_of int_products A.value x.now.cells y.now.cells) }
-    ensures sum { IfSome result (λ s. A.value s ≡ total int_sums (products_of int_products A.value x.now.cells y.now.cells)) }
+/// The sum of some products, and that of their absolute values.
+#[derive(Drop)]
+struct ProductSums<A> {
+    sum: A,
+    magnitude: A,
+}
+
+/// The sums of no products.
+fn no_products<A: IntegerElem>() -> ProductSums<A>
+    ensures { (whole : List ℤ) → SignedSoFar A.fits whole whole (A.value result.magnitude) (A.value result.sum) }
 {
-    let mut magnitude = A::zero();
-    let mut sum = A::zero();
-    let mut pairs = PairRun {
-        first: x.iter(),
-        second: y.iter(),
-    };
-    while let Some((a, b)) = pairs.next() {
-        let Some(more) = add_product_magnitude(magnitude, *a, *b) else {
+    ProductSums {
+        sum: A::zero(),
+        magnitude: A::zero(),
+    }
+}
+
+/// The sums with the products of two lists of cells added, place by place, where the type has them.
+fn add_products<A: IntegerElem>(
+    sums: ProductSums<A>,
+    left: Strided<'_, A>,
+    right: Strided<'_, A>,
+) -> Option<ProductSums<A>>
+    ensures { (whole rest : List ℤ) → SignedSoFar A.fits whole (products_of int_products A.value left.entry right.entry ++ rest) (A.value sums.magnitude) (A.value sums.sum)
+        → MatchOption result (A.fits (pos (magnitude_sum whole)) → ⊥) (λ more. SignedSoFar A.fits whole rest (A.value more.magnitude) (A.value more.sum)) }
+{
+    if let Some(xs) = left.side_by_side() {
+        if let Some(ys) = right.side_by_side() {
+            return add_slice_products(sums, xs, ys);
+        }
+    }
+    add_stepped_products(sums, left, right)
+}
+
+/// The same of slices.
+fn add_slice_products<A: IntegerElem>(
+    sums: ProductSums<A>,
+    xs: &[A],
+    ys: &[A],
+) -> Option<ProductSums<A>>
+    ensures { (whole rest : List ℤ) → SignedSoFar A.fits whole (products_of int_products A.value xs.now ys.now ++ rest) (A.value sums.magnitude) (A.value sums.sum)
+        → MatchOption result (A.fits (pos (magnitude_sum whole)) → ⊥) (λ more. SignedSoFar A.fits whole rest (A.value more.magnitude) (A.value more.sum)) }
+{
+    let mut sums = sums;
+    let mut i = 0;
+    'cells: while i < xs.len() && i < ys.len() {
+        let Some(more) = add_product(sums, xs[i], ys[i]) else {
             return None;
         };
-        magnitude = more;
-        let Some(added) = add_checked_product(sum, *a, *b) else {
-            unreachable!()
-        };
-        sum = added;
+        sums = more;
+        i += 1;
     }
-    Some(sum)
+    Some(sums)
 }
 
-/// A sum and a product, where the type has both.
-#[inline(always)]
-fn add_checked_product<A: IntegerElem>(sum: A, x: A, y: A) -> Option<A>
-    ensures { Checks A.value (λ z. A.fits (A.value x *ℤ A.value y) × A.fits z) (A.value sum +ℤ (A.value x *ℤ A.value y)) result }
+/// The same of cells that lie a step apart.
+fn add_stepped_products<A: IntegerElem>(
+    sums: ProductSums<A>,
+    left: Strided<'_, A>,
+    right: Strided<'_, A>,
+) -> Option<ProductSums<A>>
+    ensures { (whole rest : List ℤ) → SignedSoFar A.fits whole (products_of int_products A.value left.entry right.entry ++ rest) (A.value sums.magnitude) (A.value sums.sum)
+        → MatchOption result (A.fits (pos (magnitude_sum whole)) → ⊥) (λ more. SignedSoFar A.fits whole rest (A.value more.magnitude) (A.value more.sum)) }
 {
-    let Some(product) = x.checked_mul(&y) else {
-        return None;
+    let mut sums = sums;
+    let mut pairs = PairRun {
+        first: left,
+        second: right,
     };
-    sum.checked_add(&product)
+    while let Some((x, y)) = pairs.next() {
+        let Some(more) = add_product(sums, *x, *y) else {
+            return None;
+        };
+        sums = more;
+    }
+    Some(sums)
 }
 
-/// A sum and the absolute value of a product, where the type has both.
+/// The sums with a product added, where the type has them.
 #[inline(always)]
-fn add_product_magnitude<A: IntegerElem>(sum: A, x: A, y: A) -> Option<A>
-    ensures sum { Checks A.value (λ z. A.fits (pos (unsigned_abs (A.value x *ℤ A.value y))) × A.fits z) (A.value sum +ℤ pos (unsigned_abs (A.value x *ℤ A.value y))) result }
-    ensures first { A.fits (A.value x) }
-    ensures second { A.fits (A.value y) }
+fn add_product<A: IntegerElem>(sums: ProductSums<A>, x: A, y: A) -> Option<ProductSums<A>>
+    ensures { (whole rest : List ℤ) → SignedSoFar A.fits whole ((A.value x *ℤ A.value y) ∷ rest) (A.value sums.magnitude) (A.value sums.sum)
+        → MatchOption result (A.fits (pos (magnitude_sum whole)) → ⊥) (λ more. SignedSoFar A.fits whole rest (A.value more.magnitude) (A.value more.sum)) }
 {
     x.tell_fits();
     y.tell_fits();
-    let Some(size) = product_magnitude(x, y) else {
-        return None;
-    };
-    sum.checked_add(&size)
-}
-
-/// The absolute value of a product, where the type has it.
-fn product_magnitude<A: IntegerElem>(x: A, y: A) -> Option<A>
-    ensures { Checks A.value A.fits (pos (unsigned_abs (A.value x *ℤ A.value y))) result }
-{
-    x.tell_fits();
-    y.tell_fits();
     let Some(product) = x.checked_mul(&y) else {
         return None;
     };
-    magnitude(product)
+    add_number(sums, product)
+}
+
+/// The sums with a number and its absolute value added, where the type has them.
+#[inline(always)]
+fn add_number<A: IntegerElem>(sums: ProductSums<A>, number: A) -> Option<ProductSums<A>>
+    ensures { (whole rest : List ℤ) → SignedSoFar A.fits whole (A.value number ∷ rest) (A.value sums.magnitude) (A.value sums.sum)
+        → MatchOption result (A.fits (pos (magnitude_sum whole)) → ⊥) (λ more. SignedSoFar A.fits whole rest (A.value more.magnitude) (A.value more.sum)) }
+{
+    number.tell_fits();
+    let Some(size) = magnitude(number) else {
+        return None;
+    };
+    let Some(magnitude) = sums.magnitude.checked_add(&size) else {
+        return None;
+    };
+    let Some(sum) = sums.sum.checked_add(&number) else {
+        return None;
+    };
+    Some(ProductSums { sum, magnitude })
 }
 
 /// The absolute value, where the type has it.

@@ -22,6 +22,9 @@ use std::mem::size_of_val;
 /// How many lanes are scanned side by side at most.
 const TILE: usize = 512;
 
+/// From how many cells on the lanes of a row do not stay in cache, so that it is worth it.
+const MANY_CELLS: usize = 1 << 17;
+
 impl<A: Copy, S: DataMut<Elem = A>, D: Lengths> ArrayBase<S, D> {
     /// Scans each lane of an axis in place: the value is `init` at the lane's first cell, and `f` takes the value and the
     /// old cell and returns the next value and the new cell. Nothing is allocated.
@@ -64,6 +67,7 @@ fn scan_cell<A: Copy, S: DataMut<Elem = A>, D: Lengths, B: Copy, F: Fn(B, A) -> 
 }
 
 /// The same of an array that has the axis.
+#[inline(always)]
 fn scan_axis<A: Copy, S: DataMut<Elem = A>, D: Lengths, B: Copy, F: Fn(B, A) -> (B, A)>(
     array: &mut ArrayBase<S, D>,
     axis: Axis,
@@ -85,8 +89,9 @@ fn scan_axis<A: Copy, S: DataMut<Elem = A>, D: Lengths, B: Copy, F: Fn(B, A) -> 
     }
 }
 
-/// The same along the lanes whose first cells are on a row. They are scanned in tiles where they have a thousand cells or
-/// more, and cells of neighbouring lanes lie no farther apart than those of a lane; else one after another.
+/// The same along the lanes whose first cells are on a row. They are scanned in tiles where they have more cells than stay in
+/// cache, and cells of neighbouring lanes lie no farther apart than those of a lane; else one after another.
+#[inline(always)]
 fn scan_row<A: Copy, S: DataMut<Elem = A>, D: Lengths, B: Copy, F: Fn(B, A) -> (B, A)>(
     array: &mut ArrayBase<S, D>,
     axis: usize,
@@ -104,7 +109,7 @@ fn scan_row<A: Copy, S: DataMut<Elem = A>, D: Lengths, B: Copy, F: Fn(B, A) -> (
     ensures { ScansEach (step_gives F.Fn f.now) axis init (lanes_at axis (row_from (D.numbers row.now.first) row.now.axis row.now.count)) array.old array.new }
 {
     if row.count >= 8
-        && len >= 1024 / row.count
+        && len >= MANY_CELLS / row.count
         && size_of_val(&init) <= 32
         && array.are_closer_along(row.axis, axis)
     {
@@ -116,6 +121,7 @@ fn scan_row<A: Copy, S: DataMut<Elem = A>, D: Lengths, B: Copy, F: Fn(B, A) -> (
 }
 
 /// The same in tiles, each of as many lanes as there is room for values, or of one where there is none.
+#[inline(always)]
 fn scan_tiles<A: Copy, S: DataMut<Elem = A>, D: Lengths, B: Copy, F: Fn(B, A) -> (B, A)>(
     array: &mut ArrayBase<S, D>,
     axis: usize,
@@ -142,6 +148,7 @@ fn scan_tiles<A: Copy, S: DataMut<Elem = A>, D: Lengths, B: Copy, F: Fn(B, A) ->
 }
 
 /// The same along the lanes of one tile.
+#[inline(always)]
 fn scan_tile<A: Copy, S: DataMut<Elem = A>, D: Lengths, B: Copy, F: Fn(B, A) -> (B, A)>(
     array: &mut ArrayBase<S, D>,
     axis: usize,
@@ -168,6 +175,7 @@ fn scan_tile<A: Copy, S: DataMut<Elem = A>, D: Lengths, B: Copy, F: Fn(B, A) -> 
 }
 
 /// The same along one lane, from the index list of its first cell on.
+#[inline(always)]
 fn scan_lane<A: Copy, S: DataMut<Elem = A>, D: Lengths, B: Copy, F: Fn(B, A) -> (B, A)>(
     array: &mut ArrayBase<S, D>,
     axis: usize,

@@ -6,6 +6,7 @@ ghost use Rattle.ndarray.specs.Index.{size};
 ghost use Rattle.ndarray.specs.Orders.{box_in};
 ghost use Rattle.ndarray.specs.Runs.{MayFold, Folds, MayVisit, Visits, MayTest, TestsUntil, MayFoldWhile, FoldsWhile, MayGather, Collects};
 ghost use Rattle.ndarray.specs.declared.base.shape.Order.{Order};
+ghost use Rattle.ndarray.specs.declared.base.shape.Order.TheVariants.{RowMajor, ColumnMajor};
 
 use crate::base::array::{Array, ArrayBase};
 use crate::base::dimension::Lengths;
@@ -18,6 +19,20 @@ use crate::zip::producer::{NdProducer, preferred_order};
 use crate::zip::turns::{all_items, any_items, fold_items, fold_items_while, visit_items};
 use crate::zip::{Parts, Zip};
 use std::alloc::{AllocError, Global};
+
+/// Whether a call returns `true` at each item of a producer, up to the first `false`, in the order that suits the producer.
+#[tactic(auto, using(crate::proofs::runs::Answers::may_test_in))]
+pub(crate) fn all_in_either_order<P: NdProducer, C: ItemCall<P::Item, Out = bool>>(
+    p: P,
+    f: C,
+) -> bool
+    requires by_rows { MayTest (P.yields_at p) C.call_gives C.can_call (box_in RowMajor (P.lengths p)) f true }
+    requires by_columns { MayTest (P.yields_at p) C.call_gives C.can_call (box_in ColumnMajor (P.lengths p)) f true }
+    ensures ran { (o : Order) × TestsUntil (P.yields_at p) C.call_gives (box_in o (P.lengths p)) f true false result }
+{
+    let order = preferred_order(&p);
+    all_items(p, order, f)
+}
 
 impl<N: NdProducer<Dim = D>, D: Lengths, K> Zip<Parts<N, K>, D> {
     /// Calls `f` at each item in turn.
@@ -59,9 +74,7 @@ impl<N: NdProducer<Dim = D>, D: Lengths, K> Zip<Parts<N, K>, D> {
         requires callable { (o : Order) → MayTest (N.yields_at self.nested) C.call_gives C.can_call (box_in o (N.lengths self.nested)) f true }
         ensures ran { (o : Order) × TestsUntil (N.yields_at self.nested) C.call_gives (box_in o (N.lengths self.nested)) f true false result }
     {
-        let nested = self.parts.nested;
-        let order = preferred_order(&nested);
-        all_items(nested, order, f)
+        all_in_either_order(self.parts.nested, f)
     }
 
     /// Whether `f` returns `true` at some item, up to the first `true`.

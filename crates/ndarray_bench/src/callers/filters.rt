@@ -1,13 +1,14 @@
-//! Two filters of a signal, one after another.
+//! Filters: two of a signal, one after another, and the greatest cells of a table's windows.
 
-ghost use Rattle.std.specs.Prelude.{◌≡◌, ◌≤◌, length, IfOk};
+ghost use Rattle.std.specs.Prelude.{◌≡◌, ◌≤◌, ◌↔◌, length, slice_index, IfErr, IfOk, IfSome, IsSome};
 ghost use Rattle.ndarray.specs.Convolution.{CanPad};
 ghost use Rattle.ndarray.specs.Grid.{one_axis};
-ghost use Rattle.ndarray_bench.specs.Filters.{convolved_residues, filtered_residues};
+ghost use Rattle.ndarray_bench.specs.Filters.{AreLocalMaxima, convolved_residues, filtered_residues};
 
+use crate::callers::maximum_filter;
 use ndarray::conv::{conv_full, conv_valid};
 use ndarray::laws::conv_filters;
-use ndarray::{Array, ArrayView, Ix1};
+use ndarray::{Array, ArrayBase, ArrayView, Data, Dimension, Ix1, Ix2};
 use residue::Residue;
 use std::alloc::{AllocError, Global};
 
@@ -32,4 +33,21 @@ pub fn filter_twice(
     let kernel = conv_full(alloc, first, second)?;
     let direct = conv_valid(alloc, signal, &kernel)?;
     Ok((twice, direct))
+}
+
+/// The greatest cell of each square of three by three cells of a table, or `None` where a side is shorter.
+pub fn local_maxima<S: Data<Elem = u64>>(
+    alloc: Global,
+    table: &ArrayBase<S, Ix2>,
+) -> Result<Option<Array<u64, Ix2>>, AllocError>
+    ensures when { IfOk result (λ made. IsSome made ↔ ((3 ≤ slice_index table.now.lengths 0) × (3 ≤ slice_index table.now.lengths 1))) }
+    ensures maxima { IfOk result (λ made. IfSome made (AreLocalMaxima table.now)) }
+    ensures error { IfErr result (λ _. (3 ≤ slice_index table.now.lengths 0) × (3 ≤ slice_index table.now.lengths 1)) }
+{
+    let (rows, columns) = table.raw_dim().into_pattern();
+    if rows < 3 || columns < 3 {
+        return Ok(None);
+    }
+    let maxima = maximum_filter(alloc, table)?;
+    Ok(Some(maxima))
 }

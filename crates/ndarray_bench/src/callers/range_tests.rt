@@ -3,6 +3,7 @@
 ghost use Rattle.std.specs.Prelude.{◌≡◌, ◌≢◌, ◌↔◌, ◌<◌, ◌+ℤ◌, ◌-ℤ◌, ◌*ℤ◌, ◌*◌, ◌-◌, ◌∷◌, [], map, pos, neg_ℤ, false, FitsSigned, IfErr, IfOk, IfSome, IsOk, IsSome, IsTrue, slice_index};
 ghost use Rattle.std.specs.Int.{w64};
 ghost use Rattle.ndarray.specs.Broadcast.{broadcast_lengths};
+ghost use Rattle.ndarray.specs.Chains.{HasColumn};
 ghost use Rattle.ndarray.specs.Elementwise.{Assigns, CanAssign, CanCombine, CanMap, Combines, Maps};
 ghost use Rattle.ndarray.specs.Grid.{array_by};
 ghost use Rattle.ndarray.specs.Index.{size};
@@ -10,12 +11,13 @@ ghost use Rattle.ndarray.specs.Integers.{int_products, int_sums, magnitude_produ
 ghost use Rattle.ndarray.specs.Products.{HasValues, ShapesMultiply, column_entries, column_of, magnitude_sum, matrix_entries, matrix_of, product_of, products_of};
 ghost use Rattle.ndarray.specs.Sums.{IsSummableBy, total, total_by};
 ghost use Rattle.ndarray.specs.WholeValues.{HasMagnitudesInRange, whole_numbers};
-ghost use Rattle.ndarray_bench.specs.RangeTests.{HasDiagonalInRange, amplified_at, diagonal_product};
+ghost use Rattle.ndarray_bench.specs.RangeTests.{HasDiagonalInRange, MayApplyTwice, amplified_at, applied_twice, diagonal_product, whole_i64};
 
 use ndarray::linalg::entries_fit;
 use ndarray::reduce::{checked_dot, dot_fits};
 use ndarray::{
-    Array, ArrayBase, Data, DataMut, DimMax, Dimension, IntegerScalar, Ix1, Ix2, Lengths, Valued,
+    Array, ArrayBase, ArrayView, Data, DataMut, DimMax, Dimension, IntegerScalar, Ix1, Ix2,
+    Lengths, Valued,
 };
 use std::alloc::{AllocError, Global};
 
@@ -197,6 +199,24 @@ pub fn checked_matrix_times_vector<A: IntegerScalar, S: Data<Elem = A>, T: Data<
     }
     let product = a.dot(alloc, &x)?;
     Ok(Some(product))
+}
+
+/// A square matrix times a vector, and the matrix times the product; or `None` where the matrix is not square, the lengths do not meet or,
+/// for some row of one of the products, the absolute values of what is added make more than the greatest `i64`.
+pub fn apply_twice(
+    alloc: Global,
+    a: &ArrayView<'_, i64, Ix2>,
+    x: &ArrayView<'_, i64, Ix1>,
+) -> Result<Option<Array<i64, Ix1>>, AllocError>
+    ensures when { IfOk result (λ made. IsSome made ↔ MayApplyTwice a.now x.now) }
+    ensures product { IfOk result (λ made. IfSome made (HasColumn whole_i64 (applied_twice a.now x.now))) }
+    ensures error { IfErr result (λ _. slice_index a.now.lengths 0 ≢ 0) }
+{
+    let Some(once) = checked_matrix_times_vector(alloc, a, x)? else {
+        return Ok(None);
+    };
+    let _limits = (a.raw_dim(), once.raw_dim());
+    checked_matrix_times_vector(alloc, a, &once)
 }
 
 /// Whether two arrays of any layouts have the same sum; `None` where some selection of the cells of one has a sum that is no `i64`.

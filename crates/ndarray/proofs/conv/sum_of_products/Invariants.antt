@@ -1,11 +1,12 @@
+-- The products of the rows so far were added.
 use Rattle.std.proofs.Common.{length}
-use Rattle.ndarray.proofs.sums.InnerSums.{RunningInner}
+use Rattle.ndarray.proofs.cells.RunProducts.{AddedRows}
 use Rattle.ndarray.proofs.conv.sum_of_products.Given as goal
 
-abbrev pub invariant-loop-a : goal.invariant-loop-a
-invariant-loop-a g l =
+abbrev pub invariant-loop-row : goal.invariant-loop-row
+invariant-loop-row g l =
     let v = g.A.Valued in
-    RunningInner v.addition v.multiplication v.InRange v.meaning l.x.cells l.y.cells l.left l.right (v.meaning l.sum)
+    AddedRows v.multiplication v.meaning l.x l.y v.addition v.InRange l.rows (v.meaning l.sum)
 
-abbrev pub decreases-loop-a : goal.decreases-loop-a
-decreases-loop-a g l = length l.left
+abbrev pub decreases-loop-row : goal.decreases-loop-row
+decreases-loop-row g l = length l.rows

@@ -1,12 +1,13 @@
 use Rattle.std.proofs.Common.{◌≡◌, ◌∙◌, ◌<◌, ap, arith, get_or, length, lit<, subst}
-use Rattle.ndarray.specs.Products.{matrix_of, row_of}
+use Rattle.ndarray.specs.Integers.{int_products}
+use Rattle.ndarray.specs.Products.{matrix_of, products_of, row_of}
 use Rattle.ndarray.specs.WholeValues.{whole_numbers}
-use Rattle.ndarray.proofs.cells.EntryTests.{EntryFits, below-next, column-lengths, entries-yes, tested-no, tested-yes, vector-by-column}
+use Rattle.ndarray.proofs.cells.EntryTests.{EntryFits, below-next, entries-yes, tested-no, tested-yes, vector-by-column}
 use Rattle.ndarray.proofs.lists.Decisions.{says_no}
 use Rattle.ndarray.proofs.linalg.range_tests.columns_fit.Goals as goal
 
-pub returns-then-not-dot_fits-clause-magnitudes : goal.returns-then-not-dot_fits-clause-magnitudes
-returns-then-not-dot_fits-clause-magnitudes g c =
+pub returns-then-not-inner_stays_in_range-clause-magnitudes : goal.returns-then-not-inner_stays_in_range-clause-magnitudes
+returns-then-not-inner_stays_in_range-clause-magnitudes g c =
     let v = g.A.Number.value in
     let fits = g.A.Number.fits in
     let x = c.args.x.now in
@@ -14,11 +15,11 @@ returns-then-not-dot_fits-clause-magnitudes g c =
     let y = c.index_axis.result in
     let (x_whole, one) = c.requires.vector in
     let both : length b.lengths ≡ 2 = c.raw_dim.ensures.axes in
-    let same = column-lengths x b y one both c.requires.inner c.loop-j.j c.index_axis.ensures.value in
-    let products = vector-by-column (whole_numbers v fits) x b y one x_whole both c.requires.inner c.loop-j.j c.index_axis.ensures.value c.index_axis.ensures.whole in
+    let lists = ap (λ l. products_of int_products v l c.cells_of-column.result) (c.again.ensures ∙ (c.cells_of-numbers.ensures ∙ ap (λ w. w.cells) c.view.ensures.same)) ∙ ap (products_of int_products v x.cells) c.cells_of-column.ensures in
+    let products = lists ∙ vector-by-column (whole_numbers v fits) x b y one x_whole both c.requires.inner c.loop-j.j c.index_axis.ensures.value c.index_axis.ensures.whole in
     let within : c.loop-j.j < get_or b.lengths 1 0 = subst (λ n. c.loop-j.j < n) (ap (λ l. get_or l 1 0) (c.into_pattern-k.ensures ∙ c.raw_dim.ensures.lengths)) c.loop-j-test.true in
-    let off = c.if-not-dot_fits.true in
-    says_no _ (λ all. let on = tested-no fits v x y _ same products c.dot_fits.result c.dot_fits.ensures.magnitudes c.dot_fits.ensures.selections (all 0 c.loop-j.j (lit< tt) within) in absurd (cc))
+    let off = c.if-not-inner_stays_in_range.true in
+    says_no _ (λ all. let on = tested-no fits v c.again.result c.cells_of-column.result _ products c.inner_stays_in_range.result c.inner_stays_in_range.ensures.magnitudes c.inner_stays_in_range.ensures.selections (all 0 c.loop-j.j (lit< tt) within) in absurd (cc))
 
 pub loop-j-preserved : goal.loop-j-preserved
 loop-j-preserved g c =
@@ -29,9 +30,9 @@ loop-j-preserved g c =
     let y = c.index_axis.result in
     let (x_whole, one) = c.requires.vector in
     let both : length b.lengths ≡ 2 = c.raw_dim.ensures.axes in
-    let same = column-lengths x b y one both c.requires.inner c.loop-j.j c.index_axis.ensures.value in
-    let products = vector-by-column (whole_numbers v fits) x b y one x_whole both c.requires.inner c.loop-j.j c.index_axis.ensures.value c.index_axis.ensures.whole in
-    let here = tested-yes fits v x y _ same products c.dot_fits.result c.dot_fits.ensures.magnitudes c.dot_fits.ensures.selections c.if-not-dot_fits.false in
+    let lists = ap (λ l. products_of int_products v l c.cells_of-column.result) (c.again.ensures ∙ (c.cells_of-numbers.ensures ∙ ap (λ w. w.cells) c.view.ensures.same)) ∙ ap (products_of int_products v x.cells) c.cells_of-column.ensures in
+    let products = lists ∙ vector-by-column (whole_numbers v fits) x b y one x_whole both c.requires.inner c.loop-j.j c.index_axis.ensures.value c.index_axis.ensures.whole in
+    let here = tested-yes fits v c.again.result c.cells_of-column.result _ products c.inner_stays_in_range.result c.inner_stays_in_range.ensures.magnitudes c.inner_stays_in_range.ensures.selections c.if-not-inner_stays_in_range.false in
     λ k lt. below-next (EntryFits fits (row_of (whole_numbers v fits) x) (matrix_of (whole_numbers v fits) b) 0) c.loop-j.j c.loop-j.invariant here k (omega (arith, lt))
 
 pub returns-clause-magnitudes : goal.returns-clause-magnitudes

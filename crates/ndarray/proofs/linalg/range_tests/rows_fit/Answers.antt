@@ -1,13 +1,13 @@
-use Rattle.std.proofs.Common.{◌≡◌, ◌∙◌, ◌<◌, ◌∷◌, [], ap, arith, get_or, length, lit<, subst, sym}
-use Rattle.ndarray.specs.Products.{column_of, matrix_of}
+use Rattle.std.proofs.Common.{◌≡◌, ◌∙◌, ◌<◌, ap, arith, get_or, length, lit<, subst}
+use Rattle.ndarray.specs.Integers.{int_products}
+use Rattle.ndarray.specs.Products.{column_of, matrix_of, products_of}
 use Rattle.ndarray.specs.WholeValues.{whole_numbers}
-use Rattle.ndarray.proofs.cells.EntryTests.{EntryFits, below-next, entries-yes, row-by-vector, row-lengths, tested-no, tested-yes}
-use Rattle.ndarray.proofs.cells.Matrices.{one-length}
+use Rattle.ndarray.proofs.cells.EntryTests.{EntryFits, below-next, entries-yes, row-by-vector, tested-no, tested-yes}
 use Rattle.ndarray.proofs.lists.Decisions.{says_no}
 use Rattle.ndarray.proofs.linalg.range_tests.rows_fit.Goals as goal
 
-pub returns-then-not-dot_fits-clause-magnitudes : goal.returns-then-not-dot_fits-clause-magnitudes
-returns-then-not-dot_fits-clause-magnitudes g c =
+pub returns-then-not-inner_stays_in_range-clause-magnitudes : goal.returns-then-not-inner_stays_in_range-clause-magnitudes
+returns-then-not-inner_stays_in_range-clause-magnitudes g c =
     let v = g.A.Number.value in
     let fits = g.A.Number.fits in
     let a = c.args.a.now in
@@ -15,11 +15,11 @@ returns-then-not-dot_fits-clause-magnitudes g c =
     let r = c.index_axis.result in
     let (x_whole, one) = c.requires.vector in
     let two : length a.lengths ≡ 2 = c.raw_dim.ensures.axes in
-    let same = row-lengths a r two c.loop-i.i c.index_axis.ensures.value ∙ (ap (λ n. n ∷ []) c.requires.inner ∙ sym (one-length x.lengths one)) in
-    let products = row-by-vector (whole_numbers v fits) a r x two one x_whole c.requires.inner c.loop-i.i c.index_axis.ensures.value c.index_axis.ensures.whole in
+    let lists = ap (λ l. products_of int_products v l c.again.result) c.cells_of-row.ensures ∙ ap (products_of int_products v r.cells) (c.again.ensures ∙ (c.cells_of-numbers.ensures ∙ ap (λ w. w.cells) c.view.ensures.same)) in
+    let products = lists ∙ row-by-vector (whole_numbers v fits) a r x two one x_whole c.requires.inner c.loop-i.i c.index_axis.ensures.value c.index_axis.ensures.whole in
     let within : c.loop-i.i < get_or a.lengths 0 0 = subst (λ n. c.loop-i.i < n) (ap (λ l. get_or l 0 0) (c.into_pattern-m.ensures ∙ c.raw_dim.ensures.lengths)) c.loop-i-test.true in
-    let off = c.if-not-dot_fits.true in
-    says_no _ (λ all. let on = tested-no fits v r x _ same products c.dot_fits.result c.dot_fits.ensures.magnitudes c.dot_fits.ensures.selections (all c.loop-i.i 0 within (lit< tt)) in absurd (cc))
+    let off = c.if-not-inner_stays_in_range.true in
+    says_no _ (λ all. let on = tested-no fits v c.cells_of-row.result c.again.result _ products c.inner_stays_in_range.result c.inner_stays_in_range.ensures.magnitudes c.inner_stays_in_range.ensures.selections (all c.loop-i.i 0 within (lit< tt)) in absurd (cc))
 
 pub loop-i-preserved : goal.loop-i-preserved
 loop-i-preserved g c =
@@ -30,9 +30,9 @@ loop-i-preserved g c =
     let r = c.index_axis.result in
     let (x_whole, one) = c.requires.vector in
     let two : length a.lengths ≡ 2 = c.raw_dim.ensures.axes in
-    let same = row-lengths a r two c.loop-i.i c.index_axis.ensures.value ∙ (ap (λ n. n ∷ []) c.requires.inner ∙ sym (one-length x.lengths one)) in
-    let products = row-by-vector (whole_numbers v fits) a r x two one x_whole c.requires.inner c.loop-i.i c.index_axis.ensures.value c.index_axis.ensures.whole in
-    let here = tested-yes fits v r x _ same products c.dot_fits.result c.dot_fits.ensures.magnitudes c.dot_fits.ensures.selections c.if-not-dot_fits.false in
+    let lists = ap (λ l. products_of int_products v l c.again.result) c.cells_of-row.ensures ∙ ap (products_of int_products v r.cells) (c.again.ensures ∙ (c.cells_of-numbers.ensures ∙ ap (λ w. w.cells) c.view.ensures.same)) in
+    let products = lists ∙ row-by-vector (whole_numbers v fits) a r x two one x_whole c.requires.inner c.loop-i.i c.index_axis.ensures.value c.index_axis.ensures.whole in
+    let here = tested-yes fits v c.cells_of-row.result c.again.result _ products c.inner_stays_in_range.result c.inner_stays_in_range.ensures.magnitudes c.inner_stays_in_range.ensures.selections c.if-not-inner_stays_in_range.false in
     λ k lt. below-next (λ n. EntryFits fits (matrix_of (whole_numbers v fits) a) (column_of (whole_numbers v fits) x) n 0) c.loop-i.i c.loop-i.invariant here k (omega (arith, lt))
 
 pub returns-clause-magnitudes : goal.returns-clause-magnitudes

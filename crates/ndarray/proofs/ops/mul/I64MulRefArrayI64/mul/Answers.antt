@@ -2,6 +2,4 @@ use Rattle.std.proofs.Common.{◌≡◌, of_z, rules, to_z, w64}
 use Rattle.ndarray.proofs.ops.mul.I64MulRefArrayI64.mul.Goals as goal
 
 pub returns : goal.returns
-returns g c =
-    let back : to_z w64 (of_z w64 c.args.self) ≡ c.args.self = search rules in
-    rw back at c.combine_left_scalar.ensures
+returns g c = let back : to_z w64 (of_z w64 c.args.self) ≡ c.args.self = search rules in rw back at c.combine_left_scalar.ensures
