@@ -67,6 +67,17 @@ module _ {A : Type 0} (e : ValuedGhosts A) (alpha beta : A) where
       (λ i j d. record { from_row = omega (arith, d.0); to_row = omega (arith, d.0); from_column = omega (arith, d.1); to_column = omega (arith, d.1) })
       (λ i j d p. absurd (omega (arith, d.to_column, p.1)))
 
+  -- some rows, and the one behind them
+  pub tile-next_row : (sum : ℕ → ℕ → e.Carrier) (old mid new : Grid A) (i first last : ℕ) → AccumulatesIn e (InTile 0 i first last) alpha beta sum old mid → AccumulatesIn e (InTile i (i + 1) first last) alpha beta sum mid new → AccumulatesIn e (InTile 0 (i + 1) first last) alpha beta sum old new
+  tile-next_row sum old mid new i first last = tiles-join _ _ _ sum old mid new
+      (λ r c d. elim (cases_lt r i) [
+        | inl before ↦ inl (record { from_row = d.from_row; to_row = before; from_column = d.from_column; to_column = d.to_column })
+        | inr behind ↦ inr (record { from_row = behind; to_row = d.to_row; from_column = d.from_column; to_column = d.to_column })
+      ])
+      (λ r c d. record { from_row = d.from_row; to_row = omega (arith, d.to_row); from_column = d.from_column; to_column = d.to_column })
+      (λ r c d. record { from_row = omega arith; to_row = d.to_row; from_column = d.from_column; to_column = d.to_column })
+      (λ r c d p. absurd (omega (arith, d.to_row, p.from_row)))
+
 -- the value at a place of a list
 pub sum-at : {A : Type 0} (e : ValuedGhosts A) (first : ℕ) (xs : List A) (t i : ℕ) (s : A) → t < length xs → s ≡ get_or xs t s → sums_from e first xs i (first + t) ≡ e.meaning s
 sum-at e first xs t i s lt is =

@@ -4,15 +4,44 @@ ghost use Rattle.std.specs.Prelude.{◌≡◌, ◌+◌, ◌-◌, ◌<◌, ◌≤
 ghost use Rattle.ndarray.specs.Grid.{IsGrid, cell};
 ghost use Rattle.ndarray.specs.Index.{InBox};
 ghost use Rattle.ndarray.specs.ProductTiles.{AccumulatesIn, CanAccumulateIn, InTile, sums_from};
-ghost use Rattle.ndarray.specs.Products.{AddsScaled, CanAddScaled, matrix_of, product_of, row_of};
+ghost use Rattle.ndarray.specs.Products.{AddsScaled, CanAddScaled, HasSumsInRange, matrix_of, product_of, row_of};
 ghost use Rattle.ndarray.specs.RowSums.{CanSumRow};
 ghost use Rattle.ndarray.specs.Writes.{with_cell};
 
 use crate::base::array::{ArrayBase, ArrayView};
+use crate::base::axis::Axis;
 use crate::base::dimension::{Dimension, Ix1, Ix2, Lengths};
 use crate::base::storage::DataMut;
 use crate::elements::LinalgScalar;
 use crate::linalg::row_sums::add_rows;
+
+/// Leaves in the cells of some columns, from one on, the old values times `beta` plus `alpha` times the product of a matrix and a part of
+/// another, row by row.
+pub(crate) fn accumulate_columns<A: LinalgScalar, S: DataMut<Elem = A>>(
+    alpha: A,
+    left: &ArrayView<'_, A, Ix2>,
+    part: &ArrayView<'_, A, Ix2>,
+    beta: A,
+    array: &mut ArrayBase<S, Ix2>,
+    first: usize,
+    cells: &[A],
+)
+    requires inner { slice_index left.now.lengths 1 ≡ slice_index part.now.lengths 0 }
+    requires sums { HasSumsInRange A.Valued (matrix_of A.Valued left.now) (matrix_of A.Valued part.now) }
+    requires width { slice_index part.now.lengths 1 ≤ 64 }
+    requires cells { 64 ≤ length cells.now }
+    requires rows { slice_index left.now.lengths 0 ≡ slice_index array.old.lengths 0 }
+    requires columns { first + slice_index part.now.lengths 1 ≤ slice_index array.old.lengths 1 }
+    requires scaled { CanAccumulateIn A.Valued (InTile 0 (slice_index left.now.lengths 0) first (first + slice_index part.now.lengths 1)) alpha beta (λ i j. (product_of A.Valued (matrix_of A.Valued left.now) (matrix_of A.Valued part.now)).cell i (j - first)) array.old }
+    ensures { AccumulatesIn A.Valued (InTile 0 (slice_index left.now.lengths 0) first (first + slice_index part.now.lengths 1)) alpha beta (λ i j. (product_of A.Valued (matrix_of A.Valued left.now) (matrix_of A.Valued part.now)).cell i (j - first)) array.old array.new }
+{
+    let _whole = array.raw_dim();
+    let (rows, _) = left.raw_dim().into_pattern();
+    for i in 0..rows {
+        let x = left.index_axis(Axis(0), i);
+        accumulate_tile(alpha, &x, part, beta, array, i, first, cells);
+    }
+}
 
 /// Leaves in the cells of a row, from a column on, the old values times `beta` plus `alpha` times the sums of the products of a vector
 /// with each column of a part of a matrix. These are at most 64, and are made in an array on the stack; `cells` are as many cells of

@@ -1,4 +1,5 @@
 use Rattle.std.proofs.Common.{◌≡◌, ◌≤◌, ◌<◌, ◌+◌, ◌-◌, ◌∙◌, ℕ, ap, arith, get_or, length, map, replicate, subst, suc, sym, take, zero, refl, ◌∷◌}
+use Rattle.std.proofs.lemmas.List.{take-replicate}
 use Rattle.ndarray.specs.Matrices.{values_below}
 use Rattle.ndarray.specs.ProductTiles.{AccumulatesIn, InTile, sums_from}
 use Rattle.ndarray.specs.Products.{CanAddScaled, matrix_of, product_of, row_of}
@@ -6,17 +7,12 @@ use Rattle.ndarray.proofs.cells.ProductTiles.{sums-known, tile-sums}
 use Rattle.ndarray.proofs.sums.RowSums.{values-alike, values-length}
 use Rattle.ndarray.proofs.linalg.product_tiles.accumulate_tile.Goals as goal
 
-take-alike : {X : Type 0} (x : X) (n m : ℕ) → n ≤ m → take n (replicate m x) ≡ replicate n x
-take-alike x zero m le = refl
-take-alike x (suc n) zero le = absurd (omega (arith, le))
-take-alike x (suc n) (suc m) le = ap (λ l. x ∷ l) (take-alike x n m (omega (arith, le)))
-
 pub add_rows-requires-clause-zeros : goal.add_rows-requires-clause-zeros
 add_rows-requires-clause-zeros g c κs within =
     let v = g.A.Valued in
     let columns = ap (λ k. get_or k 1 0) (c.into_pattern-columns.ensures ∙ c.raw_dim.ensures.lengths) in
     let zero_meaning = ap v.meaning c.zero-tile.ensures ∙ g.met.A.SumElem.zero_meaning in
-    ap (map v.meaning) (take-alike c.zero-tile.result c.into_pattern-columns.result.1 64 (omega (arith, columns, c.requires.width)))
+    ap (map v.meaning) (take-replicate c.into_pattern-columns.result.1 64 c.zero-tile.result (omega (arith, columns, c.requires.width)))
     ∙ (values-alike v.meaning c.zero-tile.result v.addition.unit c.into_pattern-columns.result.1 zero_meaning
     ∙ ap (λ n. values_below n (λ _. v.addition.unit)) columns)
 
