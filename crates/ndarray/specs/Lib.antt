@@ -24,7 +24,6 @@ pub mod Joining
 pub mod LaneSums
 pub mod Laws
 pub mod Limits
-pub mod MagnitudeSums
 pub mod Matrices
 pub mod MatrixLaws
 pub mod MatrixPowers

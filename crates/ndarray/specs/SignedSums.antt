@@ -1,5 +1,6 @@
 -- Positive and negative whole numbers that are added apart, one after another.
-use Rattle.std.specs.Prelude.{◌≡◌, ℤ, List, pos, ◌+ℤ◌, ◌≤ℤ◌}
+use Rattle.std.specs.Prelude.{◌≡◌, ℕ, ℤ, List, negsuc, pos, ◌+ℤ◌, ◌≤ℤ◌}
+use Rattle.std.specs.List.{AllByRecursion}
 use Rattle.ndarray.specs.Integers.{negative_sum, positive_sum}
 
 -- up and down are the sums of the positive and of the negative numbers of whole before rest, and both fit
@@ -10,3 +11,12 @@ pub record AddedApart (fits : ℤ → Type 0) (whole rest : List ℤ) (up down :
   pub down_sum : down +ℤ negative_sum rest ≡ negative_sum whole
   pub down_negative : down ≤ℤ pos 0
   pub down_fits : fits down
+
+-- a number that is negative shows that some negative number fits
+unfoldable pub NegativeFits : (ℤ → Type 0) → ℤ → Type 0
+NegativeFits fits z = (n : ℕ) → z ≡ negsuc n → (m : ℕ) × fits (negsuc m)
+
+-- products of numbers that fit are added apart: a type that has a negative number where one of rest is negative has one where one of whole is
+pub record ProductsApart (fits : ℤ → Type 0) (whole rest : List ℤ) (up down : ℤ) : Type 0 where
+  pub apart : AddedApart fits whole rest up down
+  pub signs : AllByRecursion (NegativeFits fits) rest → AllByRecursion (NegativeFits fits) whole

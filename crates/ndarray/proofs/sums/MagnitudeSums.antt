@@ -1,14 +1,15 @@
 -- Sums of absolute values, and the sums of all selections.
-use Rattle.std.proofs.Common.{◌≡◌, ℕ, suc, Bool, true, false, cond, List, [], ◌∷◌, ◌++◌, ◌+◌, ◌≤◌, append-nil, refl, sym, ap, ◌∙◌, subst, arith}
-use Rattle.std.specs.Prelude.{ℤ, pos, negsuc, neg_ℤ, ◌+ℤ◌, ◌*ℤ◌, ◌≤ℤ◌, unsigned_abs}
+use Rattle.std.proofs.Common.{◌≡◌, ℕ, suc, Bool, true, false, cond, List, [], ◌∷◌, ◌++◌, Option, None, Some, ◌+◌, ◌≤◌, append-nil, refl, sym, ap, inl, inr, subst, arith}
+use Rattle.std.specs.Prelude.{ℤ, pos, negsuc, neg_ℤ, ◌+ℤ◌, ◌-ℤ◌, ◌*ℤ◌, ◌≤ℤ◌, ◌<ℤ◌, IfSome, IsSome, MatchOption, unsigned_abs}
 use Rattle.std.specs.List.{AllByRecursion}
 use Rattle.std.proofs.lemmas.Int.{ints}
-use Rattle.ndarray.specs.Integers.{int_sums}
-use Rattle.ndarray.specs.MagnitudeSums.{AddedSoFar, NegativeFits, SignedSoFar}
+use Rattle.num_traits.specs.Laws.{Checks}
+use Rattle.ndarray.specs.Integers.{int_sums, negative_sum, positive_sum}
 use Rattle.ndarray.specs.Products.{magnitude_sum}
+use Rattle.ndarray.specs.SignedSums.{AddedApart, NegativeFits, ProductsApart}
 use Rattle.ndarray.specs.Sums.{total, select, IsSummable}
 use Rattle.ndarray.proofs.sums.NonzeroProducts.{negative-product, within}
-use Rattle.ndarray.proofs.sums.Selections.{op_unit}
+use Rattle.ndarray.proofs.sums.SignedSums.{AddedApart-end, AddedApart-next, AddedApart-start, checked-both, either-sign, negative_sum-negative, positive_sum-positive}
 
 pub own-negative : (fits : ℤ → Type 0) (z : ℤ) → fits z → NegativeFits fits z
 unfolding NegativeFits
@@ -51,99 +52,101 @@ module _ (fits : ℤ → Type 0) where
       → (zs : List ℤ) → AllByRecursion (NegativeFits fits) zs → fits (pos (magnitude_sum zs)) → IsSummable int_sums fits zs
   magnitudes-summable between negated zero_fits zs f h = λ keep. let s = selections keep zs f in within fits between negated zero_fits (total int_sums (select keep zs)) (magnitude_sum zs) s.0 h s.1
 
-pub added-start : (fits : ℤ → Type 0) (whole rest : List ℤ) (sum : ℤ) → rest ≡ whole → sum ≡ pos 0 → fits (pos 0) → AddedSoFar fits whole rest sum
-added-start fits whole rest sum e none h = record {
-  number = 0;
-  is_number = none;
-  in_range = subst fits (sym none) h;
-  total_is = (let p = ap magnitude_sum e in omega (arith, p));
-  signs = λ f. subst (AllByRecursion (NegativeFits fits)) e f;
-}
+-- ---- positive and negative products added apart
 
-pub added-end : (fits : ℤ → Type 0) (whole rest : List ℤ) (sum : ℤ) → rest ≡ [] → AddedSoFar fits whole rest sum → fits (pos (magnitude_sum whole)) × AllByRecursion (NegativeFits fits) whole
-added-end fits whole rest sum none h =
-    let p = ap magnitude_sum none in
-    let t = h.total_is in
-    let n : h.number ≡ magnitude_sum whole = omega (arith, t, p) in
-    (subst fits (h.is_number ∙ ap pos n) h.in_range, h.signs (subst (AllByRecursion (NegativeFits fits)) (sym none) tt))
+-- the absolute values of all numbers add up to what the positive ones do, less what the negative ones do
+magnitudes-apart : (zs : List ℤ) → positive_sum zs ≡ pos (magnitude_sum zs) +ℤ negative_sum zs
+magnitudes-apart [] = refl
+magnitudes-apart (pos n ∷ zs) = let h = magnitudes-apart zs in omega (arith, ints, h)
+magnitudes-apart (negsuc n ∷ zs) = let h = magnitudes-apart zs in omega (arith, ints, h)
 
--- the next number is z
-module _ (fits : ℤ → Type 0) (whole now rest : List ℤ) (z sum : ℤ) (next : now ≡ z ∷ rest) (sign : NegativeFits fits z) (h : AddedSoFar fits whole now sum) where
-  total-next : (h.number + unsigned_abs z) + magnitude_sum rest ≡ magnitude_sum whole
-  total-next = let p = ap magnitude_sum next in let t = h.total_is in omega (arith, p, t)
+negative-abs : (z : ℤ) → z ≤ℤ pos 0 → pos (unsigned_abs z) +ℤ z ≡ pos 0
+negative-abs (pos n) h = omega (arith, ints, h)
+negative-abs (negsuc n) h = omega (arith, ints)
 
-  sum-is : sum +ℤ pos (unsigned_abs z) ≡ pos (h.number + unsigned_abs z)
-  sum-is = ap (λ t. t +ℤ pos (unsigned_abs z)) h.is_number
+-- the next number is no larger than all absolute values together
+small-number : (fits : ℤ → Type 0) (whole rest : List ℤ) (z up down : ℤ) → AddedApart fits whole (z ∷ rest) up down → unsigned_abs z ≤ magnitude_sum whole
+small-number fits whole rest (pos n) up down h =
+    let a = magnitudes-apart whole in
+    let b = negative_sum-negative whole in
+    let r = positive_sum-positive rest in
+    omega (arith, ints, a, b, r, h.up_sum, h.up_positive)
+small-number fits whole rest (negsuc n) up down h =
+    let a = magnitudes-apart whole in
+    let b = positive_sum-positive whole in
+    let r = negative_sum-negative rest in
+    omega (arith, ints, a, b, r, h.down_sum, h.down_negative)
 
-  pub added-next : (more : ℤ) → more ≡ sum +ℤ pos (unsigned_abs z) → fits (sum +ℤ pos (unsigned_abs z)) → AddedSoFar fits whole rest more
-  added-next more e f = record {
-    number = h.number + unsigned_abs z;
-    is_number = e ∙ sum-is;
-    in_range = subst fits (sym e) f;
-    total_is = total-next;
-    signs = λ k. h.signs (subst (AllByRecursion (NegativeFits fits)) (sym next) (sign, k));
-  }
+-- nor is the sum of its sign with it
+small-up : (fits : ℤ → Type 0) (whole rest : List ℤ) (z up down : ℤ) → AddedApart fits whole (z ∷ rest) up down → pos 0 ≤ℤ z → (up +ℤ z) ≤ℤ pos (magnitude_sum whole)
+small-up fits whole rest (pos n) up down h positive =
+    let a = magnitudes-apart whole in
+    let b = negative_sum-negative whole in
+    let r = positive_sum-positive rest in
+    omega (arith, ints, a, b, r, h.up_sum, h.up_positive)
+small-up fits whole rest (negsuc n) up down h positive = absurd (omega (arith, ints, positive))
 
-  module _ (between : (x y z : ℤ) → fits x → fits z → x ≤ℤ y → y ≤ℤ z → fits y) (zero_fits : fits (pos 0)) where
-    below : (n m : ℕ) → n ≤ m → fits (pos m) → fits (pos n)
-    below n m le f = between (pos 0) (pos n) (pos m) zero_fits f (omega (arith, ints)) (omega (arith, ints))
+small-down : (fits : ℤ → Type 0) (whole rest : List ℤ) (z up down : ℤ) → AddedApart fits whole (z ∷ rest) up down → z <ℤ pos 0 → unsigned_abs (down +ℤ z) ≤ magnitude_sum whole
+small-down fits whole rest (pos n) up down h negative = absurd (omega (arith, ints, negative))
+small-down fits whole rest (negsuc n) up down h negative =
+    let a = magnitudes-apart whole in
+    let b = positive_sum-positive whole in
+    let r = negative_sum-negative rest in
+    let below : (down +ℤ negsuc n) ≤ℤ pos 0 = omega (arith, ints, h.down_negative) in
+    let size = negative-abs (down +ℤ negsuc n) below in
+    omega (arith, ints, a, b, r, h.down_sum, size)
 
-    -- the absolute value or the sum with it is too large, and so is the whole sum
-    pub added-excess : (fits (pos (unsigned_abs z)) × fits (sum +ℤ pos (unsigned_abs z)) → ⊥) → fits (pos (magnitude_sum whole)) → ⊥
-    added-excess excess f =
-        let t = total-next in
-        excess (
-          below (unsigned_abs z) (magnitude_sum whole) (omega (arith, t)) f,
-          subst fits (sym sum-is) (below (h.number + unsigned_abs z) (magnitude_sum whole) (omega (arith, t)) f),
-        )
-
--- ---- the signed sum next to that of the absolute values
-
-pub signed-start : (fits : ℤ → Type 0) (whole rest : List ℤ) (magnitude sum : ℤ) → rest ≡ whole → magnitude ≡ pos 0 → sum ≡ pos 0 → fits (pos 0) → SignedSoFar fits whole rest magnitude sum
-signed-start fits whole rest magnitude sum e none zero h = record {
-  magnitudes = added-start fits whole rest magnitude e none h;
-  total_is = ap (λ s. s +ℤ total int_sums rest) zero ∙ (int_sums.unit_op (total int_sums rest) ∙ ap (total int_sums) e);
-  small = (let s = ap unsigned_abs zero in omega (arith, s));
-  negative = subst (NegativeFits fits) (sym zero) (none-negative fits);
-}
+pub apart-start : (fits : ℤ → Type 0) (whole : List ℤ) (up down : ℤ) → fits (pos 0) → up ≡ pos 0 → down ≡ pos 0 → ProductsApart fits whole whole up down
+apart-start fits whole up down h e f = record { apart = AddedApart-start fits whole whole up down refl h e f; signs = λ k. k }
 
 -- all numbers are left, and none behind them
-pub signed-all : (fits : ℤ → Type 0) (whole : List ℤ) (magnitude sum : ℤ) → SignedSoFar fits whole whole magnitude sum → SignedSoFar fits whole (whole ++ []) magnitude sum
-signed-all fits whole magnitude sum h = subst (λ l. SignedSoFar fits whole l magnitude sum) (sym (append-nil whole)) h
+pub apart-all : (fits : ℤ → Type 0) (whole : List ℤ) (up down : ℤ) → ProductsApart fits whole whole up down → ProductsApart fits whole (whole ++ []) up down
+apart-all fits whole up down h = subst (λ l. ProductsApart fits whole l up down) (sym (append-nil whole)) h
 
--- what it says at the end
-pub signed-end : (fits : ℤ → Type 0) (whole : List ℤ) (magnitude sum : ℤ) → ((x y z : ℤ) → fits x → fits z → x ≤ℤ y → y ≤ℤ z → fits y) → ((m n : ℕ) → fits (negsuc m) → fits (pos n) → fits (neg_ℤ (pos n))) → fits (pos 0)
-    → SignedSoFar fits whole [] magnitude sum → fits (pos (magnitude_sum whole)) × (IsSummable int_sums fits whole × (sum ≡ total int_sums whole))
-signed-end fits whole magnitude sum between negated zero_fits h =
-    let (fit, signs) = added-end fits whole [] magnitude refl h.magnitudes in
-    (fit, (magnitudes-summable fits between negated zero_fits whole signs fit, sym (op_unit int_sums sum) ∙ h.total_is))
+module _ (fits : ℤ → Type 0) (between : (x y z : ℤ) → fits x → fits z → x ≤ℤ y → y ≤ℤ z → fits y) (negated : (m n : ℕ) → fits (negsuc m) → fits (pos n) → fits (neg_ℤ (pos n))) (zero_fits : fits (pos 0)) (whole : List ℤ) where
+  -- the next number is z
+  module _ (rest : List ℤ) (z : ℤ) (sign : NegativeFits fits z) {T : Type 0} (v : T → ℤ) (up down : T) (h : ProductsApart fits whole (z ∷ rest) (v up) (v down)) where
+    -- it is too large, and so are all absolute values together
+    pub apart-excess : (fits z → ⊥) → fits (pos (magnitude_sum whole)) → ⊥
+    apart-excess excess f = excess (within fits between negated zero_fits z (magnitude_sum whole) (small-number fits whole rest z (v up) (v down) h.apart) f sign)
 
--- the next number is z, whose absolute value may be added
-module _ (fits : ℤ → Type 0) (whole now rest : List ℤ) (z magnitude sum : ℤ) (next : now ≡ z ∷ rest) (sign : NegativeFits fits z) (h : SignedSoFar fits whole now magnitude sum) where
-  larger : magnitude +ℤ pos (unsigned_abs z) ≡ pos (unsigned_abs magnitude + unsigned_abs z)
-  larger =
-      let n = h.magnitudes.is_number in
-      ap (λ t. t +ℤ pos (unsigned_abs z)) n ∙ ap (λ t. pos (unsigned_abs t + unsigned_abs z)) (sym n)
+    up-fits : pos 0 ≤ℤ z → fits (pos (magnitude_sum whole)) → fits (v up +ℤ z)
+    up-fits positive f = between (pos 0) (v up +ℤ z) (pos (magnitude_sum whole)) zero_fits f (omega (arith, ints, h.apart.up_positive, positive)) (small-up fits whole rest z (v up) (v down) h.apart positive)
 
-  smaller : unsigned_abs (sum +ℤ z) ≤ unsigned_abs magnitude + unsigned_abs z
-  smaller = let a = abs-sum sum z in let s = h.small in omega (arith, a, s)
+    down-fits : z <ℤ pos 0 → fits (pos (magnitude_sum whole)) → fits (v down +ℤ z)
+    down-fits negative f =
+        within fits between negated zero_fits (v down +ℤ z) (magnitude_sum whole) (small-down fits whole rest z (v up) (v down) h.apart negative) f
+        (negative-sum fits (v down) z (own-negative fits (v down) h.apart.down_fits) sign)
 
-  module _ (between : (x y z : ℤ) → fits x → fits z → x ≤ℤ y → y ≤ℤ z → fits y) (negated : (m n : ℕ) → fits (negsuc m) → fits (pos n) → fits (neg_ℤ (pos n))) (zero_fits : fits (pos 0)) where
-    -- the absolute value may be added, and so may the number itself
-    signed-fits : fits (magnitude +ℤ pos (unsigned_abs z)) → fits (sum +ℤ z)
-    signed-fits f = within fits between negated zero_fits (sum +ℤ z) (unsigned_abs magnitude + unsigned_abs z) smaller (subst fits larger f) (negative-sum fits sum z h.negative sign)
+    -- what adding it to the sum of its sign gives
+    pub apart-added : {S : Type 0} (up_of down_of : S → T) (r : Option S) → (pos 0 ≤ℤ z → Checks (λ s. v (up_of s)) fits (v up +ℤ z) r × IfSome r (λ s. down_of s ≡ down))
+        → (z <ℤ pos 0 → Checks (λ s. v (down_of s)) fits (v down +ℤ z) r × IfSome r (λ s. up_of s ≡ up))
+        → MatchOption r (fits (pos (magnitude_sum whole)) → ⊥) (λ s. ProductsApart fits whole rest (v (up_of s)) (v (down_of s)))
+    apart-added up_of down_of None positive negative = λ f. elim (either-sign z) [ inl p ↦ (positive p).0 (up-fits p f) | inr n ↦ (negative n).0 (down-fits n f) ]
+    apart-added up_of down_of (Some s) positive negative = record {
+      apart = AddedApart-next fits whole (z ∷ rest) rest z (v up) (v down) refl h.apart (v (up_of s)) (v (down_of s))
+          (λ p. let t = positive p in (t.0, ap v t.1))
+          (λ n. let t = negative n in (t.0, ap v t.1));
+      signs = λ k. h.signs (sign, k);
+    }
 
-    number-fits : fits (pos (unsigned_abs z)) → fits z
-    number-fits f = within fits between negated zero_fits z (unsigned_abs z) (omega arith) f sign
+  -- none is left
+  module _ (up down : ℤ) (h : ProductsApart fits whole [] up down) where
+    -- all absolute values together
+    pub joined-magnitude : up +ℤ (pos 0 -ℤ down) ≡ pos (magnitude_sum whole)
+    joined-magnitude = let a = magnitudes-apart whole in omega (arith, ints, a, h.apart.up_sum, h.apart.down_sum)
 
-    -- the number, its absolute value, or a sum with one of them is too large, and so is the whole sum of absolute values
-    pub signed-excess : (fits z × (fits (pos (unsigned_abs z)) × (fits (magnitude +ℤ pos (unsigned_abs z)) × fits (sum +ℤ z))) → ⊥) → fits (pos (magnitude_sum whole)) → ⊥
-    signed-excess excess = added-excess fits whole now rest z magnitude next sign h.magnitudes between zero_fits (λ both. excess (number-fits both.0, (both.0, (both.1, signed-fits both.1))))
+    pub joined-size : fits (pos (magnitude_sum whole)) → fits (pos 0 -ℤ down)
+    joined-size f =
+        let a = magnitudes-apart whole in
+        let b = positive_sum-positive whole in
+        between (pos 0) (pos 0 -ℤ down) (pos (magnitude_sum whole)) zero_fits f (omega (arith, ints, h.apart.down_negative)) (omega (arith, ints, a, b, h.apart.down_sum))
 
-  pub signed-next : (more added : ℤ) → more ≡ magnitude +ℤ pos (unsigned_abs z) → fits (magnitude +ℤ pos (unsigned_abs z)) → added ≡ sum +ℤ z → SignedSoFar fits whole rest more added
-  signed-next more added e f a = record {
-    magnitudes = added-next fits whole now rest z magnitude next sign h.magnitudes more e f;
-    total_is = ap (λ t. t +ℤ total int_sums rest) a ∙ (int_sums.associates sum z (total int_sums rest) ∙ (ap (λ l. sum +ℤ total int_sums l) (sym next) ∙ h.total_is));
-    small = (let s = smaller in let x = ap unsigned_abs a in let y = ap unsigned_abs (e ∙ larger) in omega (arith, s, x, y));
-    negative = subst (NegativeFits fits) (sym a) (negative-sum fits sum z h.negative sign);
-  }
+    pub joined-summable : fits (pos (magnitude_sum whole)) → IsSummable int_sums fits whole
+    joined-summable f = magnitudes-summable fits between negated zero_fits whole (h.signs tt) f
+
+    -- both sums may be added, and make that of all numbers
+    pub joined-sum : {A : Type 0} (value : A → ℤ) (r : Option A) → Checks value fits (up +ℤ down) r → IsSome r × IfSome r (λ s. value s ≡ total int_sums whole)
+    joined-sum value r c =
+        let both = checked-both value fits whole up down r between h.apart c in
+        (both.0.1 (AddedApart-end fits whole [] up down refl h.apart), both.1)

@@ -11,12 +11,12 @@ use Rattle.ndarray.specs.Sums.{total}
 use Rattle.ndarray.proofs.lists.Decisions.{says_yes}
 use Rattle.ndarray.proofs.sums.Rearrangements.{total-rearranged}
 
-positive_sum-positive : (zs : List ℤ) → pos 0 ≤ℤ positive_sum zs
+pub positive_sum-positive : (zs : List ℤ) → pos 0 ≤ℤ positive_sum zs
 positive_sum-positive [] = omega (arith, ints)
 positive_sum-positive (pos n ∷ zs) = let h = positive_sum-positive zs in omega (arith, ints)
 positive_sum-positive (negsuc n ∷ zs) = positive_sum-positive zs
 
-negative_sum-negative : (zs : List ℤ) → negative_sum zs ≤ℤ pos 0
+pub negative_sum-negative : (zs : List ℤ) → negative_sum zs ≤ℤ pos 0
 negative_sum-negative [] = omega (arith, ints)
 negative_sum-negative (pos n ∷ zs) = negative_sum-negative zs
 negative_sum-negative (negsuc n ∷ zs) = let h = negative_sum-negative zs in omega (arith, ints)
@@ -29,7 +29,7 @@ down_front : (z : ℤ) (zs : List ℤ) → z <ℤ pos 0 → (positive_sum (z ∷
 down_front (pos n) zs h = absurd (omega (arith, ints))
 down_front (negsuc n) zs h = (refl, refl)
 
-either-sign : (z : ℤ) → (pos 0 ≤ℤ z) ⊎ (z <ℤ pos 0)
+pub either-sign : (z : ℤ) → (pos 0 ≤ℤ z) ⊎ (z <ℤ pos 0)
 either-sign (pos n) = inl (omega (arith, ints))
 either-sign (negsuc n) = inr (omega (arith, ints))
 

@@ -2,10 +2,9 @@
 
 ghost use Rattle.std.specs.Prelude.{◌≡◌, ◌↔◌, ◌+ℤ◌, ◌*ℤ◌, ◌<ℤ◌, ◌≤ℤ◌, ◌++◌, ◌∷◌, [], ℤ, List, IfSome, IsSome, IsTrue, MatchOption, map, pos, unsigned_abs};
 ghost use Rattle.num_traits.specs.Laws.{Checks};
-ghost use Rattle.ndarray.specs.MagnitudeSums.{SignedSoFar};
 ghost use Rattle.ndarray.specs.Products.{magnitude_sum, products_of};
 ghost use Rattle.ndarray.specs.NonzeroProducts.{MultipliedSoFar};
-ghost use Rattle.ndarray.specs.SignedSums.{AddedApart};
+ghost use Rattle.ndarray.specs.SignedSums.{AddedApart, ProductsApart};
 ghost use Rattle.ndarray.specs.Sums.{IsSummable, IsSummableBy, total, total_by};
 ghost use Rattle.ndarray.specs.Integers.{int_products, int_sums, magnitude_product, negative_sum, nonzero_magnitude, positive_sum};
 
@@ -262,10 +261,10 @@ fn checked_inner<A: IntegerElem>(left: Strided<'_, A>, right: Strided<'_, A>) ->
     ensures selections { IsSome result → IsSummable int_sums A.fits (products_of int_products A.value left.entry right.entry) }
     ensures sum { IfSome result (λ s. A.value s ≡ total int_sums (products_of int_products A.value left.entry right.entry)) }
 {
-    let Some(sums) = add_products(no_products(), left, right) else {
+    let Some(sums) = add_products(no_sums(), left, right) else {
         return None;
     };
-    Some(sums.sum)
+    joined_in_range(&sums)
 }
 
 /// Whether the absolute values of the products of the cells of two arrays of the same lengths add up to at most the type's
@@ -279,7 +278,7 @@ pub(crate) fn products_stay_in_range<A: IntegerElem, D: Lengths>(
     ensures selections { IsTrue result → IsSummable int_sums A.fits (products_of int_products A.value x.now.cells y.now.cells) }
 {
     let _whole = y.raw_dim();
-    let mut sums = no_products();
+    let mut sums = no_sums();
     let mut rows = BoxRows::new(x.raw_dim(), Order::RowMajor);
     while let Some(row) = rows.next() {
         let left = x.cells_along(&row.first, row.axis, row.count);
@@ -289,34 +288,42 @@ pub(crate) fn products_stay_in_range<A: IntegerElem, D: Lengths>(
         };
         sums = more;
     }
-    true
+    joined_in_range(&sums).is_some()
 }
 
-/// The sum of some products, and that of their absolute values.
-#[derive(Drop)]
-struct ProductSums<A> {
-    sum: A,
-    magnitude: A,
-}
-
-/// The sums of no products.
-fn no_products<A: IntegerElem>() -> ProductSums<A>
-    ensures { (whole : List ℤ) → SignedSoFar A.fits whole whole (A.value result.magnitude) (A.value result.sum) }
+/// The sums of no numbers.
+fn no_sums<A: IntegerElem>() -> SignedSums<A>
+    ensures { (whole : List ℤ) → ProductsApart A.fits whole whole (A.value result.up) (A.value result.down) }
 {
-    ProductSums {
-        sum: A::zero(),
-        magnitude: A::zero(),
+    SignedSums {
+        up: A::zero(),
+        down: A::zero(),
     }
 }
 
-/// The sums with the products of two lists of cells added, place by place, where the type has them.
+/// Both sums added, where the type has the sum of their absolute values.
+fn joined_in_range<A: IntegerElem>(sums: &SignedSums<A>) -> Option<A>
+    ensures magnitudes { (whole : List ℤ) → ProductsApart A.fits whole [] (A.value sums.now.up) (A.value sums.now.down) → IsSome result ↔ A.fits (pos (magnitude_sum whole)) }
+    ensures selections { (whole : List ℤ) → ProductsApart A.fits whole [] (A.value sums.now.up) (A.value sums.now.down) → IsSome result → IsSummable int_sums A.fits whole }
+    ensures sum { (whole : List ℤ) → ProductsApart A.fits whole [] (A.value sums.now.up) (A.value sums.now.down) → IfSome result (λ s. A.value s ≡ total int_sums whole) }
+{
+    let Some(size) = A::zero().checked_sub(&sums.down) else {
+        return None;
+    };
+    let Some(_magnitude) = sums.up.checked_add(&size) else {
+        return None;
+    };
+    sums.up.checked_add(&sums.down)
+}
+
+/// The sums with the products of two lists of cells added, place by place, each to that of its sign, where the type has them.
 fn add_products<A: IntegerElem>(
-    sums: ProductSums<A>,
+    sums: SignedSums<A>,
     left: Strided<'_, A>,
     right: Strided<'_, A>,
-) -> Option<ProductSums<A>>
-    ensures { (whole rest : List ℤ) → SignedSoFar A.fits whole (products_of int_products A.value left.entry right.entry ++ rest) (A.value sums.magnitude) (A.value sums.sum)
-        → MatchOption result (A.fits (pos (magnitude_sum whole)) → ⊥) (λ more. SignedSoFar A.fits whole rest (A.value more.magnitude) (A.value more.sum)) }
+) -> Option<SignedSums<A>>
+    ensures { (whole rest : List ℤ) → ProductsApart A.fits whole (products_of int_products A.value left.entry right.entry ++ rest) (A.value sums.up) (A.value sums.down)
+        → MatchOption result (A.fits (pos (magnitude_sum whole)) → ⊥) (λ more. ProductsApart A.fits whole rest (A.value more.up) (A.value more.down)) }
 {
     if let Some(xs) = left.side_by_side() {
         if let Some(ys) = right.side_by_side() {
@@ -328,12 +335,12 @@ fn add_products<A: IntegerElem>(
 
 /// The same of slices.
 fn add_slice_products<A: IntegerElem>(
-    sums: ProductSums<A>,
+    sums: SignedSums<A>,
     xs: &[A],
     ys: &[A],
-) -> Option<ProductSums<A>>
-    ensures { (whole rest : List ℤ) → SignedSoFar A.fits whole (products_of int_products A.value xs.now ys.now ++ rest) (A.value sums.magnitude) (A.value sums.sum)
-        → MatchOption result (A.fits (pos (magnitude_sum whole)) → ⊥) (λ more. SignedSoFar A.fits whole rest (A.value more.magnitude) (A.value more.sum)) }
+) -> Option<SignedSums<A>>
+    ensures { (whole rest : List ℤ) → ProductsApart A.fits whole (products_of int_products A.value xs.now ys.now ++ rest) (A.value sums.up) (A.value sums.down)
+        → MatchOption result (A.fits (pos (magnitude_sum whole)) → ⊥) (λ more. ProductsApart A.fits whole rest (A.value more.up) (A.value more.down)) }
 {
     let mut sums = sums;
     let mut i = 0;
@@ -349,12 +356,12 @@ fn add_slice_products<A: IntegerElem>(
 
 /// The same of cells that lie a step apart.
 fn add_stepped_products<A: IntegerElem>(
-    sums: ProductSums<A>,
+    sums: SignedSums<A>,
     left: Strided<'_, A>,
     right: Strided<'_, A>,
-) -> Option<ProductSums<A>>
-    ensures { (whole rest : List ℤ) → SignedSoFar A.fits whole (products_of int_products A.value left.entry right.entry ++ rest) (A.value sums.magnitude) (A.value sums.sum)
-        → MatchOption result (A.fits (pos (magnitude_sum whole)) → ⊥) (λ more. SignedSoFar A.fits whole rest (A.value more.magnitude) (A.value more.sum)) }
+) -> Option<SignedSums<A>>
+    ensures { (whole rest : List ℤ) → ProductsApart A.fits whole (products_of int_products A.value left.entry right.entry ++ rest) (A.value sums.up) (A.value sums.down)
+        → MatchOption result (A.fits (pos (magnitude_sum whole)) → ⊥) (λ more. ProductsApart A.fits whole rest (A.value more.up) (A.value more.down)) }
 {
     let mut sums = sums;
     let mut pairs = PairRun {
@@ -370,37 +377,18 @@ fn add_stepped_products<A: IntegerElem>(
     Some(sums)
 }
 
-/// The sums with a product added, where the type has them.
+/// The sums with a product added to that of its sign, where the type has them.
 #[inline(always)]
-fn add_product<A: IntegerElem>(sums: ProductSums<A>, x: A, y: A) -> Option<ProductSums<A>>
-    ensures { (whole rest : List ℤ) → SignedSoFar A.fits whole ((A.value x *ℤ A.value y) ∷ rest) (A.value sums.magnitude) (A.value sums.sum)
-        → MatchOption result (A.fits (pos (magnitude_sum whole)) → ⊥) (λ more. SignedSoFar A.fits whole rest (A.value more.magnitude) (A.value more.sum)) }
+fn add_product<A: IntegerElem>(sums: SignedSums<A>, x: A, y: A) -> Option<SignedSums<A>>
+    ensures { (whole rest : List ℤ) → ProductsApart A.fits whole ((A.value x *ℤ A.value y) ∷ rest) (A.value sums.up) (A.value sums.down)
+        → MatchOption result (A.fits (pos (magnitude_sum whole)) → ⊥) (λ more. ProductsApart A.fits whole rest (A.value more.up) (A.value more.down)) }
 {
     x.tell_fits();
     y.tell_fits();
     let Some(product) = x.checked_mul(&y) else {
         return None;
     };
-    add_number(sums, product)
-}
-
-/// The sums with a number and its absolute value added, where the type has them.
-#[inline(always)]
-fn add_number<A: IntegerElem>(sums: ProductSums<A>, number: A) -> Option<ProductSums<A>>
-    ensures { (whole rest : List ℤ) → SignedSoFar A.fits whole (A.value number ∷ rest) (A.value sums.magnitude) (A.value sums.sum)
-        → MatchOption result (A.fits (pos (magnitude_sum whole)) → ⊥) (λ more. SignedSoFar A.fits whole rest (A.value more.magnitude) (A.value more.sum)) }
-{
-    number.tell_fits();
-    let Some(size) = magnitude(number) else {
-        return None;
-    };
-    let Some(magnitude) = sums.magnitude.checked_add(&size) else {
-        return None;
-    };
-    let Some(sum) = sums.sum.checked_add(&number) else {
-        return None;
-    };
-    Some(ProductSums { sum, magnitude })
+    add_by_sign(sums, &product)
 }
 
 /// The absolute value, where the type has it.

@@ -1,7 +1,7 @@
-use Rattle.std.proofs.Common.{◌++◌, ◌∙◌, ap, arith, filter_map, map, subst, sym}
+use Rattle.std.proofs.Common.{rules, ◌++◌, ◌∙◌, ap, arith, filter_map, map, subst, sym}
 use Rattle.ndarray.specs.Grid.{cell}
 use Rattle.ndarray.specs.Integers.{int_products}
-use Rattle.ndarray.specs.MagnitudeSums.{SignedSoFar}
+use Rattle.ndarray.specs.SignedSums.{ProductsApart}
 use Rattle.ndarray.specs.Products.{products_of}
 use Rattle.ndarray.specs.Rows.{HasRows, joined, rows_in}
 use Rattle.ndarray.specs.base.Ranks.{row_from}
@@ -10,7 +10,6 @@ use Rattle.ndarray.proofs.boxes.RowProducts.{products-by_rows, row_products, row
 use Rattle.ndarray.proofs.lists.Decisions.{says_no}
 use Rattle.ndarray.proofs.runs.Rows.{HasRows-rows_in}
 use Rattle.ndarray.proofs.strides.Rows.{length-row_from}
-use Rattle.ndarray.proofs.sums.MagnitudeSums.{signed-end}
 use Rattle.ndarray.proofs.reduce.range_tests.products_stay_in_range.Goals as goal
 
 pub loop-row-init : goal.loop-row-init
@@ -24,9 +23,9 @@ loop-row-init g c =
       subst (HasRows x) (sym rows) (HasRows-rows_in x RowMajor c.raw_dim.ensures.whole),
       (
         subst (HasRows y) (sym (rows ∙ ap (rows_in RowMajor) c.requires.same)) (HasRows-rows_in y RowMajor c.raw_dim-whole.ensures.whole),
-        subst (λ l. SignedSoFar fits products l (v c.no_products-sums.result.magnitude) (v c.no_products-sums.result.sum))
+        subst (λ l. ProductsApart fits products l (v c.no_sums-sums.result.up) (v c.no_sums-sums.result.down))
             (products-by_rows int_products v x y c.raw_dim.ensures.whole c.raw_dim-whole.ensures.whole c.requires.same ∙ ap (λ rs. joined (map (row_products int_products v x y) rs)) (sym rows))
-            (c.no_products-sums.ensures products),
+            (c.no_sums-sums.ensures products),
       ),
     )
 
@@ -56,7 +55,7 @@ returns-in_default-add_products-clause-magnitudes g c =
     let next = ap (λ rs. joined (map (row_products int_products v x y) rs)) c.in-Some.ensures
     ∙ (ap (λ l. products_of int_products v l (filter_map (cell y) (row_from (g.D.Lengths.numbers c.in-Some.row.first) c.in-Some.row.axis c.in-Some.row.count)) ++ rest) (sym c.cells_along-left.ensures)
     ∙ ap (λ l. products_of int_products v c.cells_along-left.result l ++ rest) (sym c.cells_along-right.ensures)) in
-    says_no _ (c.in_default-add_products.ensures products rest (subst (λ l. SignedSoFar fits products l (v c.loop-row.sums.magnitude) (v c.loop-row.sums.sum)) next c.loop-row.invariant.1.1))
+    says_no _ (c.in_default-add_products.ensures products rest (subst (λ l. ProductsApart fits products l (v c.loop-row.sums.up) (v c.loop-row.sums.down)) next c.loop-row.invariant.1.1))
 
 pub loop-row-preserved : goal.loop-row-preserved
 loop-row-preserved g c =
@@ -73,17 +72,28 @@ loop-row-preserved g c =
       (rows-next x c.loop-row.rows c.next.new.self row c.in-Some.ensures c.loop-row.invariant.0).1,
       (
         (rows-next y c.loop-row.rows c.next.new.self row c.in-Some.ensures c.loop-row.invariant.1.0).1,
-        c.in-Some-add_products.ensures products rest (subst (λ l. SignedSoFar fits products l (v c.loop-row.sums.magnitude) (v c.loop-row.sums.sum)) next c.loop-row.invariant.1.1),
+        c.in-Some-add_products.ensures products rest (subst (λ l. ProductsApart fits products l (v c.loop-row.sums.up) (v c.loop-row.sums.down)) next c.loop-row.invariant.1.1),
       ),
     )
 
-pub returns-clause-selections : goal.returns-clause-selections
-returns-clause-selections g c =
+pub returns-clause-magnitudes : goal.returns-clause-magnitudes
+returns-clause-magnitudes g c =
+    let v = g.A.Number.value in
     let fits = g.A.Number.fits in
-    let exact = g.met.A.Integral.exact_law in
     let x = c.args.x.now in
     let y = c.args.y.now in
-    let v = g.A.Number.value in
     let products = products_of int_products v x.cells y.cells in
-    let ended = subst (λ rs. SignedSoFar fits products (joined (map (row_products int_products v x y) rs)) (v c.loop-row.sums.magnitude) (v c.loop-row.sums.sum)) c.in_default.ensures.0 c.loop-row.invariant.1.1 in
-    λ _. (signed-end fits products _ _ (λ x y z. g.A.Number.between_law x y z exact) g.met.A.IntegerElem.negated_fits (g.met.A.Zero.zero_fits_law exact) ended).1.0
+    let ended = subst (λ rs. ProductsApart fits products (joined (map (row_products int_products v x y) rs)) (v c.loop-row.sums.up) (v c.loop-row.sums.down)) c.in_default.ensures.0 c.loop-row.invariant.1.1 in
+    let when = c.joined_in_range.ensures.magnitudes products ended in
+    search (rules, when, c.is_some.ensures)
+
+pub returns-clause-selections : goal.returns-clause-selections
+returns-clause-selections g c =
+    let v = g.A.Number.value in
+    let fits = g.A.Number.fits in
+    let x = c.args.x.now in
+    let y = c.args.y.now in
+    let products = products_of int_products v x.cells y.cells in
+    let ended = subst (λ rs. ProductsApart fits products (joined (map (row_products int_products v x y) rs)) (v c.loop-row.sums.up) (v c.loop-row.sums.down)) c.in_default.ensures.0 c.loop-row.invariant.1.1 in
+    let summable = c.joined_in_range.ensures.selections products ended in
+    search (rules, summable, c.is_some.ensures)

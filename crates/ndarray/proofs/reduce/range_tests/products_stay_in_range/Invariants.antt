@@ -1,6 +1,6 @@
 use Rattle.std.proofs.Common.{length, map}
 use Rattle.ndarray.specs.Integers.{int_products}
-use Rattle.ndarray.specs.MagnitudeSums.{SignedSoFar}
+use Rattle.ndarray.specs.SignedSums.{ProductsApart}
 use Rattle.ndarray.specs.Products.{products_of}
 use Rattle.ndarray.specs.Rows.{HasRows, joined}
 use Rattle.ndarray.proofs.boxes.RowProducts.{row_products}
@@ -11,7 +11,7 @@ invariant-loop-row g l =
     let v = g.A.Number.value in
     HasRows l.x l.rows
     × (HasRows l.y l.rows
-    × SignedSoFar g.A.Number.fits (products_of int_products v l.x.cells l.y.cells) (joined (map (row_products int_products v l.x l.y) l.rows)) (v l.sums.magnitude) (v l.sums.sum))
+    × ProductsApart g.A.Number.fits (products_of int_products v l.x.cells l.y.cells) (joined (map (row_products int_products v l.x l.y) l.rows)) (v l.sums.up) (v l.sums.down))
 
 abbrev pub decreases-loop-row : goal.decreases-loop-row
 decreases-loop-row g l = length l.rows
