@@ -28,27 +28,6 @@ impl<D: Lengths> Model for BoxRows<D> {
     ghost view = { λ s. map (λ is. row_from is s.axis s.count) s.firsts };
 }
 
-impl<D: Lengths> Row<D> {
-    /// At most `most` of the index lists, from the one that comes `from` later than the first on.
-    pub(crate) fn part(&self, from: usize, most: usize) -> Self
-        requires fits { FitsOnAxis (D.numbers self.now.first) self.now.axis self.now.count }
-        requires within { from ≤ self.now.count }
-        ensures first { D.numbers result.first ≡ row_at (D.numbers self.now.first) self.now.axis from }
-        ensures axis { result.axis ≡ self.now.axis }
-        ensures count { result.count ≡ min most (self.now.count - from) }
-    {
-        let mut first = self.first.copied();
-        if self.axis < first.ndim() {
-            first.set_axis(self.axis, first.axis(self.axis) + from);
-        }
-        Row {
-            first,
-            axis: self.axis,
-            count: most.min(self.count - from),
-        }
-    }
-}
-
 /// 1 for a number that is not 0.
 pub(crate) fn one_if_some(n: usize) -> usize
     ensures { result ≡ one_if_some n }
@@ -126,5 +105,26 @@ impl<D: Lengths> BoxRows<D> {
             axis: self.axis,
             count: self.count,
         })
+    }
+}
+
+impl<D: Lengths> Row<D> {
+    /// At most `most` of the index lists, from the one that comes `from` later than the first on.
+    pub(crate) fn part(&self, from: usize, most: usize) -> Self
+        requires fits { FitsOnAxis (D.numbers self.now.first) self.now.axis self.now.count }
+        requires within { from ≤ self.now.count }
+        ensures first { D.numbers result.first ≡ row_at (D.numbers self.now.first) self.now.axis from }
+        ensures axis { result.axis ≡ self.now.axis }
+        ensures count { result.count ≡ min most (self.now.count - from) }
+    {
+        let mut first = self.first.copied();
+        if self.axis < first.ndim() {
+            first.set_axis(self.axis, first.axis(self.axis) + from);
+        }
+        Row {
+            first,
+            axis: self.axis,
+            count: most.min(self.count - from),
+        }
     }
 }

@@ -37,7 +37,7 @@ pub(super) fn are_tiles_faster<S: Data, D: Lengths>(array: &ArrayBase<S, D>, axi
     along != axis && array.len_of(Axis(along)) >= 8 && array.are_closer_along(along, axis)
 }
 
-/// Scans the lanes of an axis in place, in tiles of as many lanes as there are values at most.
+/// Scans the lanes of an axis in place, in tiles of at most as many lanes as there are values.
 #[inline(always)]
 pub(super) fn scan_by_tiles<
     A: Copy,
