@@ -2,6 +2,7 @@
 pub mod Boxes
 pub mod CountedRows
 pub mod JoinedBoxes
+pub mod LaneIndices
 pub mod Orders
 pub mod RowProducts
 pub mod ProductShapes

@@ -15,14 +15,17 @@ pub mod EntryTests
 pub mod IndexedCells
 pub mod LaneCells
 pub mod LanePairs
+pub mod LaneSteps
 pub mod LaneSums
 pub mod LaneTests
+pub mod LaneTiles
 pub mod LaneTotals
 pub mod Matrices
 pub mod ProductRows
 pub mod Products
 pub mod ReversedProducts
 pub mod RowProducts
+pub mod RowScans
 pub mod RunProducts
 pub mod RunningProducts
 pub mod Scans

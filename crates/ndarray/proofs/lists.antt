@@ -5,6 +5,7 @@ pub mod Decisions
 pub mod Elements
 pub mod FlatMaps
 pub mod Pairs
+pub mod Parts
 pub mod Permutations
 pub mod Prefixes
 pub mod Pushes

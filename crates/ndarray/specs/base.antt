@@ -3,6 +3,7 @@ pub mod Chunks
 pub mod FixedAxes
 pub mod Follows
 pub mod IndexLists
+pub mod LaneScans
 pub mod Laws
 pub mod Nested
 pub mod Reborrow

@@ -7,6 +7,7 @@ pub mod axis_chunks_mut;
 pub mod axis_mut;
 pub mod exact_chunks;
 pub mod exact_chunks_mut;
+pub(crate) mod lane_tiles;
 pub mod lanes;
 pub mod lanes_mut;
 pub(crate) mod piece_layouts;

@@ -1,7 +1,6 @@
 -- A row of an array of which some diagonals are kept: zeros, cells, and zeros.
-use Rattle.std.proofs.Common.{◌≡◌, ℕ, ◌+◌, ◌-◌, ◌<◌, ◌≤◌, List, ◌++◌, get_or, Some, Bool, true, false, length, sym, ◌∙◌, ap, arith}
+use Rattle.std.proofs.Common.{◌≡◌, ℕ, ◌+◌, ◌-◌, ◌<◌, ◌≤◌, List, ◌++◌, Some, Bool, true, false, length, sym, ◌∙◌, ap, arith}
 use Rattle.std.specs.Prelude.{ℤ, pos, ◌+ℤ◌, ◌&&◌, int_le, filter_map, replicate, if◌then◌else◌}
-use Rattle.std.proofs.lemmas.List.{length-set}
 use Rattle.std.proofs.lemmas.List.Elements.{filter_map-append}
 use Rattle.ndarray.specs.Grid.{Grid, cell}
 use Rattle.ndarray.specs.Triangles.{column_minus_row}
@@ -10,25 +9,19 @@ use Rattle.ndarray.proofs.boxes.RowParts.{diagonal-along, row_at-further, row_at
 use Rattle.ndarray.proofs.cells.Diagonals.{kept_at}
 
 module _ {A : Type 0} (keeps : ℤ → Bool) (zero_cell : A) (g : Grid A) (is : List ℕ) (axis : ℕ) (axes : 2 ≤ length is) (last : axis ≡ length is - 1) where
-  below : axis < length is
-  below = omega (arith, axes, last)
-
   along : (from c : ℕ) → column_minus_row (row_at (row_at is axis from) axis c) ≡ column_minus_row is +ℤ pos (from + c)
-  along from c = ap column_minus_row (row_at-further is axis from c below) ∙ (ap (λ k. column_minus_row (row_at is k (from + c))) last ∙ diagonal-along is (from + c) axes)
-
-  inside : (from : ℕ) → axis < length (row_at is axis from)
-  inside from = let l = length-set is axis (get_or is axis 0 + from) in omega (arith, l, axes, last)
+  along from c = ap column_minus_row (row_at-further is axis from c) ∙ (ap (λ k. column_minus_row (row_at is k (from + c))) last ∙ diagonal-along is (from + c) axes)
 
   zeros : (from n : ℕ) → ((c : ℕ) → c < n → keeps (column_minus_row is +ℤ pos (from + c)) ≡ false) → filter_map (kept_at keeps zero_cell g) (row_from (row_at is axis from) axis n) ≡ replicate n zero_cell
   zeros from n none =
-      row_from-read (kept_at keeps zero_cell g) (λ _. Some zero_cell) n (row_at is axis from) axis (inside from)
+      row_from-read (kept_at keeps zero_cell g) (λ _. Some zero_cell) n (row_at is axis from) axis
       (λ c lt. ap (λ t. if t then cell g (row_at (row_at is axis from) axis c) else Some zero_cell) (ap keeps (along from c) ∙ none c lt))
       ∙ row_from-constant zero_cell n (row_at is axis from) axis
 
   cells : (from n : ℕ) → ((c : ℕ) → c < n → keeps (column_minus_row is +ℤ pos (from + c)) ≡ true)
       → filter_map (kept_at keeps zero_cell g) (row_from (row_at is axis from) axis n) ≡ filter_map (cell g) (row_from (row_at is axis from) axis n)
   cells from n all =
-      row_from-read (kept_at keeps zero_cell g) (cell g) n (row_at is axis from) axis (inside from)
+      row_from-read (kept_at keeps zero_cell g) (cell g) n (row_at is axis from) axis
       (λ c lt. ap (λ t. if t then cell g (row_at (row_at is axis from) axis c) else Some zero_cell) (ap keeps (along from c) ∙ all c lt))
 
   module _ (from to columns : ℕ) (order : from ≤ to) (within : to ≤ columns)
@@ -45,14 +38,14 @@ module _ {A : Type 0} (keeps : ℤ → Bool) (zero_cell : A) (g : Grid A) (is : 
           let two = cells from (to - from) (λ c lt. between (from + c) (omega arith) (omega (arith, lt, order))) in
           let three = zeros to (columns - to) (λ c lt. after (to + c) (omega arith) (omega (arith, lt, within))) in
           ap (λ n. filter_map f (row_from is axis n)) parts
-          ∙ (ap (filter_map f) (row_from-append from ((to - from) + (columns - to)) is axis below)
+          ∙ (ap (filter_map f) (row_from-append from ((to - from) + (columns - to)) is axis)
           ∙ (filter_map-append f (row_from is axis from) _
           ∙ (ap (λ l. filter_map f (row_from l axis from) ++ filter_map f (row_from (row_at is axis from) axis ((to - from) + (columns - to)))) (sym (row_at-none is axis))
           ∙ (ap (λ l. l ++ filter_map f (row_from (row_at is axis from) axis ((to - from) + (columns - to)))) one
           ∙ ap (λ l. replicate from zero_cell ++ l)
-          (ap (filter_map f) (row_from-append (to - from) (columns - to) (row_at is axis from) axis (inside from))
+          (ap (filter_map f) (row_from-append (to - from) (columns - to) (row_at is axis from) axis)
           ∙ (filter_map-append f (row_from (row_at is axis from) axis (to - from)) _
-          ∙ (ap (λ js. filter_map f (row_from (row_at is axis from) axis (to - from)) ++ filter_map f (row_from js axis (columns - to))) (row_at-further is axis from (to - from) below ∙ ap (row_at is axis) there)
+          ∙ (ap (λ js. filter_map f (row_from (row_at is axis from) axis (to - from)) ++ filter_map f (row_from js axis (columns - to))) (row_at-further is axis from (to - from) ∙ ap (row_at is axis) there)
           ∙ (ap (λ l. filter_map f (row_from (row_at is axis from) axis (to - from)) ++ l) three
           ∙ ap (λ l. l ++ replicate (columns - to) zero_cell) two))))))))
 

@@ -1,23 +1,26 @@
 -- Lanes whose cells are replaced one after another by the steps of a scan.
-use Rattle.std.proofs.Common.{◌≡◌, ◌≢◌, ◌+◌, ◌<◌, ◌≤◌, ℕ, zero, suc, List, [], ◌∷◌, ◌++◌, Some, length, get_or, set, insert, remove, refl, sym, ◌∙◌, ap, subst, arith, inl, inr, append-nil, append_assoc, length-append}
+use Rattle.std.proofs.Common.{◌≡◌, ◌≢◌, ◌+◌, ◌<◌, ◌≤◌, ℕ, zero, suc, List, [], ◌∷◌, ◌++◌, Some, length, get_or, min, set, insert, remove, refl, sym, ◌∙◌, ap, subst, arith, inl, inr, append-nil, append_assoc, length-append}
 use Rattle.std.specs.Prelude.{All, slice_get, Contains}
 use Rattle.std.specs.List.{FoldsTo}
 use Rattle.std.proofs.Math.Seq.{get_or-append_seam, set-append_seam}
 use Rattle.std.proofs.lemmas.Bool.{cases_eq}
 use Rattle.std.proofs.lemmas.Fn.{FoldsTo-push}
-use Rattle.std.proofs.lemmas.List.{get_or_append_left, get_or-set_same, length-set, set-get_or}
+use Rattle.std.proofs.lemmas.List.{get_or_append_left, get_or-set_other, get_or-set_same, length-set, set-get_or, set-set}
 use Rattle.std.proofs.lemmas.List.Edits.{length-remove}
 use Rattle.std.proofs.lemmas.List.Elements.{All-contains, All-push}
 use Rattle.std.proofs.lemmas.Option.{get_or_from_slice_get, slice_get_within}
 use Rattle.ndarray.specs.Grid.{Grid, IsGrid, array_by, cell, cells_by, tabulate}
 use Rattle.ndarray.specs.Index.{InBox, row_order}
+use Rattle.ndarray.specs.Limits.{IsWithinLimit}
 use Rattle.ndarray.specs.Scans.{ScanStep, MayScan, MayScanLanes, ScansLanes, ScansTo}
 use Rattle.ndarray.specs.Subviews.{lane, lanes_along, lanes_of}
 use Rattle.ndarray.specs.Writes.{with_cell}
 use Rattle.ndarray.specs.base.Laws.{slice_set-here, slice_set-elsewhere}
 use Rattle.ndarray.specs.declared.base.shape.Order.TheVariants.{RowMajor}
 use Rattle.ndarray.proofs.boxes.Boxes.{InBox-get, InBox-length, InBox-set, InBox-set_both}
+use Rattle.ndarray.proofs.boxes.LaneIndices.{remove-set}
 use Rattle.ndarray.proofs.boxes.Orders.{box_in-within, row_order-is}
+use Rattle.ndarray.proofs.boxes.Sizes.{nonzero-smaller}
 use Rattle.ndarray.proofs.callers.Collecting.{array_by-at, lanes_of-some}
 use Rattle.ndarray.proofs.cells.Assignments.{here-first, here-within}
 use Rattle.ndarray.proofs.cells.Cells.{array_by-cell, cell-inside, tabulate-same}
@@ -26,36 +29,33 @@ use Rattle.ndarray.proofs.cells.Writes.{with_cell-whole, with_cell-here, with_ce
 use Rattle.ndarray.proofs.lists.Elements.{filled-slice, filter_map-from_map, insert-remove, remove-inserted, same_from_slice_get}
 use Rattle.ndarray.proofs.views.Items.{InBox-insert}
 
-remove-set : (is : List ℕ) (k v : ℕ) → remove (set is k v) k ≡ remove is k
-remove-set [] k v = refl
-remove-set (i ∷ is) zero v = refl
-remove-set (i ∷ is) (suc k) v = ap (λ l. i ∷ l) (remove-set is k v)
-
-set-twice : (is : List ℕ) (k v w : ℕ) → set (set is k v) k w ≡ set is k w
-set-twice [] k v w = refl
-set-twice (i ∷ is) zero v w = refl
-set-twice (i ∷ is) (suc k) v w = ap (λ l. i ∷ l) (set-twice is k v w)
+-- a lane of which one cell is replaced
+module _ {A : Type 0} (g h : Grid A) (whole : IsGrid g) (new : IsGrid h) (same : h.lengths ≡ g.lengths) (k : ℕ) (lt : k < length g.lengths) (is : List ℕ) (b : InBox g.lengths is) (i : ℕ) (below : i < get_or g.lengths k 0) (y : A) where
+  pub lane-replaced : cell h (set is k i) ≡ Some y → ((j : ℕ) → j ≢ i → cell h (set is k j) ≡ cell g (set is k j)) → (lane h k (remove is k)).cells ≡ set (lane g k (remove is k)).cells i y
+  lane-replaced here others =
+      let b' : InBox h.lengths is = subst (λ ns. InBox ns is) (sym same) b in
+      let lt' : k < length h.lengths = subst (λ ns. k < length ns) (sym same) lt in
+      let long = lane-length h new k lt' is b' in
+      let old = lane-length g whole k lt is b in
+      let axis : get_or h.lengths k 0 ≡ get_or g.lengths k 0 = ap (λ ns. get_or ns k 0) same in
+      let more = length-set (lane g k (remove is k)).cells i y in
+      same_from_slice_get (lane h k (remove is k)).cells (set (lane g k (remove is k)).cells i y) (long ∙ (axis ∙ (sym old ∙ sym more)))
+      (λ j at.
+      let within : j < get_or g.lengths k 0 = omega (arith, at, long, axis) in
+      lane-cell h new k lt' is b' j (omega (arith, within, axis))
+      ∙ elim (cases_eq j i) [
+        | inl e ↦ ap (λ v. cell h (set is k v)) e ∙ (here ∙ (sym (slice_set-here (lane g k (remove is k)).cells i y (filled-slice (lane g k (remove is k)).cells i (omega (arith, below, old)))) ∙ ap (slice_get (set (lane g k (remove is k)).cells i y)) (sym e)))
+        | inr ne ↦ others j ne ∙ (sym (lane-cell g whole k lt is b j within) ∙ sym (slice_set-elsewhere (lane g k (remove is k)).cells i j y ne))
+      ])
 
 -- a lane through a cell that is written has it at the cell's index, and its other cells as before
 module _ {A : Type 0} (g : Grid A) (whole : IsGrid g) (k : ℕ) (lt : k < length g.lengths) (i : List ℕ) (b : InBox g.lengths i) (y : A) where
   pub lane-written : (lane (with_cell g i y) k (remove i k)).cells ≡ set (lane g k (remove i k)).cells (get_or i k 0) y
   lane-written =
-      let w : Grid A = with_cell g i y in
-      let ww = with_cell-whole g i y whole in
-      let long = lane-length w ww k lt i b in
-      let old = lane-length g whole k lt i b in
-      let more = length-set (lane g k (remove i k)).cells (get_or i k 0) y in
-      let inside = InBox-get g.lengths i k b lt in
       let many = InBox-length g.lengths i b in
-      same_from_slice_get (lane w k (remove i k)).cells (set (lane g k (remove i k)).cells (get_or i k 0) y) (long ∙ (sym old ∙ sym more))
-      (λ j at.
-      let below : j < get_or g.lengths k 0 = omega (arith, at, long) in
-      lane-cell w ww k lt i b j below
-      ∙ elim (cases_eq j (get_or i k 0)) [
-        | inl e ↦ ap (λ v. cell w (set i k v)) e ∙ (ap (cell w) (set-get_or i k 0) ∙ (with_cell-here g i y whole b ∙ (sym (slice_set-here (lane g k (remove i k)).cells (get_or i k 0) y (filled-slice (lane g k (remove i k)).cells (get_or i k 0) (omega (arith, inside, old)))) ∙ ap (slice_get (set (lane g k (remove i k)).cells (get_or i k 0) y)) (sym e))))
-        | inr ne ↦ with_cell-elsewhere g i (set i k j) y (λ q. ne (sym (get_or-set_same i k j 0 (omega (arith, many, lt))) ∙ ap (λ l. get_or l k 0) q))
-            ∙ (sym (lane-cell g whole k lt i b j below) ∙ sym (slice_set-elsewhere (lane g k (remove i k)).cells (get_or i k 0) j y ne))
-      ])
+      lane-replaced g (with_cell g i y) whole (with_cell-whole g i y whole) refl k lt i b (get_or i k 0) (InBox-get g.lengths i k b lt) y
+      (ap (cell (with_cell g i y)) (set-get_or i k 0) ∙ with_cell-here g i y whole b)
+      (λ j ne. with_cell-elsewhere g i (set i k j) y (λ q. ne (sym (get_or-set_same i k j 0 (omega (arith, many, lt))) ∙ ap (λ l. get_or l k 0) q)))
 
 -- arrays that agree along a lane have it in common
 pub lane-kept : {A : Type 0} (g h : Grid A) (k : ℕ) (js : List ℕ) → g.lengths ≡ h.lengths → k ≤ length js → ((is : List ℕ) → remove is k ≡ js → cell g is ≡ cell h is) → lane g k js ≡ lane h k js
@@ -197,10 +197,10 @@ module _ (ns : List ℕ) (k m : ℕ) (lt : k < length ns) (one : m ≤ 1) (most 
       let l = length-set ns k m in
       let h = InBox-get (set ns k m) s k b (omega (arith, l, lt)) in
       let e = get_or-set_same ns k m 0 lt in
-      subst (λ ms. InBox ms s) (set-twice ns k m (get_or ns k 0) ∙ set-get_or ns k 0)
+      subst (λ ms. InBox ms s) (set-set ns k m (get_or ns k 0) ∙ set-get_or ns k 0)
       (subst (InBox (set (set ns k m) k (get_or ns k 0))) (set-get_or s k 0) (InBox-set_both (set ns k m) s k (get_or ns k 0) (get_or s k 0) b (omega (arith, h, e, most))))
 
-  same-first : (s t : List ℕ) → InBox (set ns k m) s → InBox (set ns k m) t → remove s k ≡ remove t k → s ≡ t
+  pub same-first : (s t : List ℕ) → InBox (set ns k m) s → InBox (set ns k m) t → remove s k ≡ remove t k → s ≡ t
   same-first s t b d e =
       sym (insert-remove s k 0 (first-lt s b)) ∙ (ap (λ v. insert (remove s k) k v) (first-zero s b ∙ sym (first-zero t d)) ∙ (ap (λ l. insert l k (get_or t k 0)) e ∙ insert-remove t k 0 (first-lt t d)))
 
@@ -222,6 +222,65 @@ module _ (ns : List ℕ) (k m : ℕ) (lt : k < length ns) (one : m ≤ 1) (most 
 
     pub done-short : All (λ t. k ≤ length (remove t k)) done
     done-short = λ j d at. (let a = first-lt (get_or done j d) (done-inside j d at) in let r = length-remove (get_or done j d) k a in omega (arith, a, r))
+
+-- the index list of the first cell of a lane
+module _ (ns : List ℕ) (k : ℕ) (lt : k < length ns) (js : List ℕ) (b : InBox (remove ns k) js) where
+  short : k ≤ length js
+  short = let n = InBox-length (remove ns k) js b in let r = length-remove ns k lt in omega (arith, n, r, lt)
+
+  pub lane-of_first : remove (insert js k 0) k ≡ js
+  lane-of_first = remove-inserted js k 0 short
+
+  pub first-of_lane : (m : ℕ) → 0 < get_or ns k 0 → m ≡ 1 → InBox (set ns k m) (insert js k 0)
+  first-of_lane m some is_one = subst (InBox (set ns k m)) (set-inserted js k short) (InBox-set_both ns (insert js k 0) k m 0 (InBox-insert ns js k 0 lt some b) (omega (arith, is_one)))
+    where
+      set-inserted : (ks : List ℕ) (p : ℕ) → p ≤ length ks → set (insert ks p 0) p 0 ≡ insert ks p 0
+      set-inserted ks zero le = refl
+      set-inserted [] (suc p) le = absurd (omega (arith, le))
+      set-inserted (q ∷ ks) (suc p) le = ap (λ v. q ∷ v) (set-inserted ks p (omega (arith, le)))
+
+-- the box of the first cells: one index on the axis, where there is one
+pub set-smaller : (ns : List ℕ) (k m : ℕ) → m ≤ 1 → IsWithinLimit ns → IsWithinLimit (set ns k m)
+set-smaller ns k m one limit =
+    let long = length-set ns k m in
+    let h = nonzero-smaller (set ns k m) ns long (λ j lt. elim (cases_eq j k) [
+      | inl e ↦ inr (let here : get_or (set ns k m) j 0 ≡ m = ap (λ p. get_or (set ns k m) p 0) e ∙ get_or-set_same ns k m 0 (omega (arith, lt, e)) in omega (arith, here, one))
+      | inr ne ↦ inl (let there = get_or-set_other ns k j m 0 ne in omega (arith, there))
+    ]) in
+    omega (arith, h, limit)
+
+pub at-most-one : (n : ℕ) → min n 1 ≤ 1
+at-most-one n = omega arith
+
+pub at-most : (n m : ℕ) → n ≡ m → min n 1 ≤ m
+at-most n m e = omega (arith, e)
+
+pub is-one : (n m : ℕ) → n ≡ m → 0 < m → min n 1 ≡ 1
+is-one n m e some = omega (arith, e, some)
+
+-- all lanes along an axis are scanned where each is that has a cell
+module _ {A B : Type 0} (gives : B → A → B × A → Type 0) (init : B) (old a : Grid A) (k : ℕ) (lt : k < length old.lengths) (same : a.lengths ≡ old.lengths) where
+  pub lanes-scanned : IsGrid a → ((js : List ℕ) → InBox (remove old.lengths k) js → 0 < get_or old.lengths k 0 → ScansTo gives init (lane old k js).cells (lane a k js).cells) → ScansLanes gives k init old a
+  lanes-scanned whole scanned = record {
+    lengths = same;
+    whole = whole;
+    lanes = λ js x y e f.
+        let among : lanes_of old k ≡ _ = lanes_of-some old.lengths old k (omega (arith, lt)) in
+        let among' : lanes_of a k ≡ _ = lanes_of-some a.lengths a k (omega (arith, lt-now)) in
+        let b : InBox (remove old.lengths k) js = subst (λ w. InBox w.lengths js) among (cell-inside (lanes_of old k) js x e) in
+        let is-old : x ≡ lane old k js = array_by-at (remove old.lengths k) (lane old k) (lanes_of old k) js x among (cell-inside (lanes_of old k) js x e) e in
+        let is-new : y ≡ lane a k js = array_by-at (remove a.lengths k) (lane a k) (lanes_of a k) js y among' (cell-inside (lanes_of a k) js y f) f in
+        subst (λ w. ScansTo gives init w.cells y.cells) (sym is-old) (subst (λ w. ScansTo gives init (lane old k js).cells w.cells) (sym is-new) (each js b));
+  }
+    where
+      lt-now : k < length a.lengths
+      lt-now = subst (λ ns. k < length ns) (sym same) lt
+
+      each : (js : List ℕ) → InBox (remove old.lengths k) js → ScansTo gives init (lane old k js).cells (lane a k js).cells
+      each js b = elim (cases_eq (get_or old.lengths k 0) 0) [
+        | inl empty ↦ subst (λ xs. ScansTo gives init xs (lane a k js).cells) (sym (no-lane old k js empty)) (subst (λ ys. ScansTo gives init [] ys) (sym (no-lane a k js (ap (λ ns. get_or ns k 0) same ∙ empty))) (init, refl))
+        | inr ne ↦ scanned js b (omega (arith, ne))
+      ]
 
 -- all lanes along an axis, of which some are done
 module _ {A B : Type 0} (gives : B → A → B × A → Type 0) (init : B) (old : Grid A) (k m : ℕ) where
@@ -274,43 +333,12 @@ module _ {A B : Type 0} (gives : B → A → B × A → Type 0) (init : B) (old 
     }
 
   pub Lanes-end : (lt : k < length old.lengths) (some : 0 < get_or old.lengths k 0 → m ≡ 1) {to_come : List (List ℕ)} {a : Grid A} → LanesState to_come a → to_come ≡ [] → ScansLanes gives k init old a
-  Lanes-end lt some {to_come} {a} l none = record {
-    lengths = l.lengths;
-    whole = l.whole;
-    lanes = λ js x y e f.
-        let among : lanes_of old k ≡ _ = lanes_of-some old.lengths old k (omega (arith, lt)) in
-        let among' : lanes_of a k ≡ _ = lanes_of-some a.lengths a k (omega (arith, lt-now)) in
-        let b : InBox (remove old.lengths k) js = subst (λ w. InBox w.lengths js) among (cell-inside (lanes_of old k) js x e) in
-        let is-old : x ≡ lane old k js = array_by-at (remove old.lengths k) (lane old k) (lanes_of old k) js x among (cell-inside (lanes_of old k) js x e) e in
-        let is-new : y ≡ lane a k js = array_by-at (remove a.lengths k) (lane a k) (lanes_of a k) js y among' (cell-inside (lanes_of a k) js y f) f in
-        subst (λ w. ScansTo gives init w.cells y.cells) (sym is-old) (subst (λ w. ScansTo gives init (lane old k js).cells w.cells) (sym is-new) (each js b));
-  }
-    where
-      lt-now : k < length a.lengths
-      lt-now = subst (λ ns. k < length ns) (sym l.lengths) lt
-
-      each : (js : List ℕ) → InBox (remove old.lengths k) js → ScansTo gives init (lane old k js).cells (lane a k js).cells
-      each js b = elim (cases_eq (get_or old.lengths k 0) 0) [
-        | inl empty ↦ subst (λ xs. ScansTo gives init xs (lane a k js).cells) (sym (no-lane old k js empty)) (subst (λ ys. ScansTo gives init [] ys) (sym (no-lane a k js (ap (λ ns. get_or ns k 0) l.lengths ∙ empty))) (init, refl))
-        | inr ne ↦
-            (let is_one : m ≡ 1 = some (omega (arith, ne)) in
-            let n = InBox-length (remove old.lengths k) js b in
-            let r = length-remove old.lengths k lt in
-            let back : remove (insert js k 0) k ≡ js = remove-inserted js k 0 (omega (arith, n, r, lt)) in
-            let c : InBox old.lengths (insert js k 0) = InBox-insert old.lengths js k 0 lt (omega (arith, ne)) b in
-            let d : InBox (set old.lengths k m) (insert js k 0) = subst (InBox (set old.lengths k m)) (ap (λ l. set l k 0) refl ∙ own js n r) (InBox-set_both old.lengths (insert js k 0) k m 0 c (omega (arith, is_one))) in
-            let all : l.done ≡ row_order (set old.lengths k m) = sym (append-nil l.done) ∙ (ap (λ ls. l.done ++ ls) (sym none) ∙ l.parts) in
-            subst (λ ls. ScansTo gives init (lane old k ls).cells (lane a k ls).cells) back
-            (All-contains (λ t. ScansTo gives init (lane old k (remove t k)).cells (lane a k (remove t k)).cells) l.done (insert js k 0) l.scanned (subst (λ ls. Contains ls (insert js k 0)) (sym all) ((row_order-is (set old.lengths k m)).whole (insert js k 0) d))))
-      ]
-        where
-          set-inserted : (ks : List ℕ) (p : ℕ) → p ≤ length ks → set (insert ks p 0) p 0 ≡ insert ks p 0
-          set-inserted ks zero le = refl
-          set-inserted [] (suc p) le = absurd (omega (arith, le))
-          set-inserted (q ∷ ks) (suc p) le = ap (λ v. q ∷ v) (set-inserted ks p (omega (arith, le)))
-
-          own : (ks : List ℕ) → length ks ≡ length (remove old.lengths k) → length (remove old.lengths k) + 1 ≡ length old.lengths → set (insert ks k 0) k 0 ≡ insert ks k 0
-          own ks n r = set-inserted ks k (omega (arith, n, r, lt))
+  Lanes-end lt some {to_come} {a} l none = lanes-scanned gives init old a k lt l.lengths l.whole
+      (λ js b more.
+      let all : l.done ≡ row_order (set old.lengths k m) = sym (append-nil l.done) ∙ (ap (λ ls. l.done ++ ls) (sym none) ∙ l.parts) in
+      subst (λ ls. ScansTo gives init (lane old k ls).cells (lane a k ls).cells) (lane-of_first old.lengths k lt js b)
+      (All-contains (λ t. ScansTo gives init (lane old k (remove t k)).cells (lane a k (remove t k)).cells) l.done (insert js k 0) l.scanned
+      (subst (λ ls. Contains ls (insert js k 0)) (sym all) ((row_order-is (set old.lengths k m)).whole (insert js k 0) (first-of_lane old.lengths k lt js b m more (some more))))))
 
 -- the lane of an array of no axes
 module _ {A : Type 0} (g : Grid A) (k : ℕ) (none : g.lengths ≡ []) (z : A) (there : cell g [] ≡ Some z) where

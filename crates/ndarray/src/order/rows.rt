@@ -1,9 +1,10 @@
-//! The rows of a box.
+//! The rows of a box, and parts of a row.
 
-ghost use Rattle.std.specs.Prelude.{◌≡◌, ◌<◌, ◌^◌, [], ◌∷◌, MatchOption, length};
+ghost use Rattle.std.specs.Prelude.{◌≡◌, ◌-◌, ◌<◌, ◌≤◌, ◌^◌, [], ◌∷◌, MatchOption, length, min};
 ghost use Rattle.ndarray.specs.Limits.{IsWithinLimit};
 ghost use Rattle.ndarray.specs.Rows.{joined, rows_in, one_if_some};
-ghost use Rattle.ndarray.specs.base.Ranks.{row_from};
+ghost use Rattle.ndarray.specs.base.Ranks.{row_at, row_from};
+ghost use Rattle.ndarray.specs.order.Walks.{FitsOnAxis};
 
 use crate::base::dimension::Lengths;
 use crate::base::shape::axis_at;
@@ -104,5 +105,26 @@ impl<D: Lengths> BoxRows<D> {
             axis: self.axis,
             count: self.count,
         })
+    }
+}
+
+impl<D: Lengths> Row<D> {
+    /// At most `most` of the index lists, from the one that comes `from` later than the first on.
+    pub(crate) fn part(&self, from: usize, most: usize) -> Self
+        requires fits { FitsOnAxis (D.numbers self.now.first) self.now.axis self.now.count }
+        requires within { from ≤ self.now.count }
+        ensures first { D.numbers result.first ≡ row_at (D.numbers self.now.first) self.now.axis from }
+        ensures axis { result.axis ≡ self.now.axis }
+        ensures count { result.count ≡ min most (self.now.count - from) }
+    {
+        let mut first = self.first.copied();
+        if self.axis < first.ndim() {
+            first.set_axis(self.axis, first.axis(self.axis) + from);
+        }
+        Row {
+            first,
+            axis: self.axis,
+            count: most.min(self.count - from),
+        }
     }
 }

@@ -12,6 +12,8 @@ use crate::base::axis::Axis;
 use crate::base::dimension::Lengths;
 use crate::base::storage::DataMut;
 use crate::order::{Order, Walk};
+use crate::subviews::lane_tiles::{TILE, are_tiles_faster, scan_by_tiles};
+use std::mem::size_of_val;
 
 impl<A: Copy, S: DataMut<Elem = A>, D: Lengths> ArrayBase<S, D> {
     /// Scans each lane of an axis in place: the value is `init` at the lane's first cell, and `f` takes the value and the
@@ -33,6 +35,9 @@ impl<A: Copy, S: DataMut<Elem = A>, D: Lengths> ArrayBase<S, D> {
     {
         if self.ndim() == 0 {
             scan_cell(self, axis, init, &f);
+        } else if size_of_val(&init) <= 32 && are_tiles_faster(self, axis.0) {
+            let mut values = [init; TILE];
+            scan_by_tiles(self, axis, init, &mut values, &f);
         } else {
             scan_axis(self, axis, init, &f);
         }
@@ -54,7 +59,7 @@ fn scan_cell<A: Copy, S: DataMut<Elem = A>, D: Lengths, B: Copy, F: Fn(B, A) -> 
     let _last = scan_step(array, &index, init, f);
 }
 
-/// The same of an array that has the axis.
+/// The same of an array that has the axis, lane by lane.
 fn scan_axis<A: Copy, S: DataMut<Elem = A>, D: Lengths, B: Copy, F: Fn(B, A) -> (B, A)>(
     array: &mut ArrayBase<S, D>,
     axis: Axis,

@@ -51,12 +51,11 @@ push_cells-requires-clause-inside g c =
     let is = g.D.Lengths.numbers c.args.index.now in
     let ns = c.args.array.now.lengths in
     let l = InBox-length _ _ (row-first (InBox ns) _ _ _ c.requires.some c.requires.inside) in
-    let axes = c.requires.axes in
     let axis : length ns - 1 ≡ length is - 1 = omega (arith, l) in
     let to = c.max-to.ensures in
     let from = c.columns_below-from.ensures.within in
     let up = c.columns_up_to.ensures.within in
-    row_from-part (InBox ns) c.columns_below-from.result (c.max-to.result - c.columns_below-from.result) c.args.columns is (length is - 1) (omega (arith, l, axes)) (omega (arith, to, from, up))
+    row_from-part (InBox ns) c.columns_below-from.result (c.max-to.result - c.columns_below-from.result) c.args.columns is (length is - 1) (omega (arith, to, from, up))
     (subst (λ k. All (InBox ns) (row_from is k c.args.columns)) axis c.requires.inside)
 
 pub push_zeros-requires-2 : goal.push_zeros-requires-2

@@ -1,30 +1,9 @@
-use Rattle.std.proofs.Common.{◌≡◌, ◌∙◌, ◌<◌, ◌≤◌, ℕ, min, List, length, get_or, set, ap, arith, subst, sym, inl, inr}
-use Rattle.std.proofs.lemmas.Bool.{cases_eq}
-use Rattle.std.proofs.lemmas.List.{get_or-set_same, get_or-set_other, length-set}
+use Rattle.std.proofs.Common.{◌∙◌, ◌<◌, min, length, get_or, set, ap, subst, sym}
 use Rattle.ndarray.specs.Index.{row_order}
 use Rattle.ndarray.specs.Limits.{IsWithinLimit}
 use Rattle.ndarray.specs.Scans.{can_step, step_gives}
-use Rattle.ndarray.proofs.boxes.Sizes.{nonzero-smaller}
-use Rattle.ndarray.proofs.cells.Scans.{Lanes-start, Lanes-within, Lanes-asks, Lanes-next, Lanes-end}
+use Rattle.ndarray.proofs.cells.Scans.{at-most, at-most-one, is-one, set-smaller, Lanes-start, Lanes-within, Lanes-asks, Lanes-next, Lanes-end}
 use Rattle.ndarray.proofs.subviews.scans.scan_axis.Goals as goal
-
-set-smaller : (ns : List ℕ) (k m : ℕ) → m ≤ 1 → IsWithinLimit ns → IsWithinLimit (set ns k m)
-set-smaller ns k m one limit =
-    let long = length-set ns k m in
-    let h = nonzero-smaller (set ns k m) ns long (λ j lt. elim (cases_eq j k) [
-      | inl e ↦ inr (let here : get_or (set ns k m) j 0 ≡ m = ap (λ p. get_or (set ns k m) p 0) e ∙ get_or-set_same ns k m 0 (omega (arith, lt, e)) in omega (arith, here, one))
-      | inr ne ↦ inl (let there = get_or-set_other ns k j m 0 ne in omega (arith, there))
-    ]) in
-    omega (arith, h, limit)
-
-at-most-one : (n : ℕ) → min n 1 ≤ 1
-at-most-one n = omega arith
-
-at-most : (n m : ℕ) → n ≡ m → min n 1 ≤ m
-at-most n m e = omega (arith, e)
-
-is-one : (n m : ℕ) → n ≡ m → 0 < m → min n 1 ≡ 1
-is-one n m e some = omega (arith, e, some)
 
 pub new-first-items-requires : goal.new-first-items-requires
 new-first-items-requires g c =
