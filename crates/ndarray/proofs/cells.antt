@@ -20,6 +20,7 @@ pub mod LaneTests
 pub mod LaneTotals
 pub mod Matrices
 pub mod ProductRows
+pub mod ProductTiles
 pub mod Products
 pub mod ReversedProducts
 pub mod RowProducts
