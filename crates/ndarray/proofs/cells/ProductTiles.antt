@@ -96,9 +96,9 @@ module _ {A : Type 0} (e : ValuedGhosts A) (alpha beta : A) where
     lengths = k.lengths ∙ h.lengths;
     whole = k.whole;
     done = λ is z f s. elim (parts is f) [
-        | inl d ↦ h.done is z d (sym (k.left is (apart is d)) ∙ s)
-        | inr p ↦ (let (x, at, added) = k.done is z p s in (x, sym (h.left is (λ d. apart is d p)) ∙ at, added))
-      ];
+      | inl d ↦ h.done is z d (sym (k.left is (apart is d)) ∙ s)
+      | inr p ↦ (let (x, at, added) = k.done is z p s in (x, sym (h.left is (λ d. apart is d p)) ∙ at, added))
+    ];
     left = λ is out. k.left is (λ p. out (second is p)) ∙ h.left is (λ d. out (first is d));
   }
 
@@ -141,9 +141,9 @@ module _ {A : Type 0} (e : ValuedGhosts A) (alpha beta : A) where
     lengths = ap (λ g. g.lengths) written;
     whole = subst IsGrid (sym written) (with_cell-whole old ks z whole);
     done = λ is y d s. (
-      let here : cell new ks ≡ Some z = ap (λ g. cell g ks) written ∙ with_cell-here old ks z whole (cell-inside old ks x at) in
-      let same : y ≡ z = (let both : Some y ≡ Some z = sym s ∙ (ap (cell new) d ∙ here) in cc) in
-      (x, ap (cell old) d ∙ at, subst (λ k. AddsScaled e (e.meaning alpha) (e.meaning beta) (e.meaning x) (sum k) (e.meaning y)) (sym d) (subst (λ k. AddsScaled e (e.meaning alpha) (e.meaning beta) (e.meaning x) (sum ks) (e.meaning k)) (sym same) added)));
+        let here : cell new ks ≡ Some z = ap (λ g. cell g ks) written ∙ with_cell-here old ks z whole (cell-inside old ks x at) in
+        let same : y ≡ z = (let both : Some y ≡ Some z = sym s ∙ (ap (cell new) d ∙ here) in cc) in
+        (x, ap (cell old) d ∙ at, subst (λ k. AddsScaled e (e.meaning alpha) (e.meaning beta) (e.meaning x) (sum k) (e.meaning y)) (sym d) (subst (λ k. AddsScaled e (e.meaning alpha) (e.meaning beta) (e.meaning x) (sum ks) (e.meaning k)) (sym same) added)));
     left = λ is out. ap (λ g. cell g is) written ∙ with_cell-elsewhere old ks is z out;
   }
 

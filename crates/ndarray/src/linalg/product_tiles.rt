@@ -37,7 +37,12 @@ pub(crate) fn accumulate_matrix<A: LinalgScalar, S: DataMut<Elem = A>>(
     ensures { Accumulates A.Valued alpha beta (entries_along axis 0 (product_of A.Valued (matrix_of A.Valued left.now) (matrix_of A.Valued right.now))) array.old array.new }
 {
     let _whole = array.raw_dim();
+    let (rows, _) = left.raw_dim().into_pattern();
     let (_, columns) = right.raw_dim().into_pattern();
+    if rows == 0 {
+        // However many columns there are.
+        return;
+    }
     let mut first = 0;
     'tiles: while first < columns {
         let width = (columns - first).min(64);
