@@ -6,12 +6,14 @@ pub mod CellRows
 pub mod Cells
 pub mod CellsInOrder
 pub mod CollectedCells
+pub mod ColumnParts
 pub mod DiagonalRows
 pub mod DiagonalSwaps
 pub mod Diagonals
 pub mod Differences
 pub mod Elementwise
 pub mod EntryTests
+pub mod GeneralProducts
 pub mod IndexedCells
 pub mod LaneCells
 pub mod LanePairs
@@ -22,6 +24,7 @@ pub mod LaneTiles
 pub mod LaneTotals
 pub mod Matrices
 pub mod ProductRows
+pub mod ProductTiles
 pub mod Products
 pub mod ReversedProducts
 pub mod RowProducts

@@ -31,6 +31,7 @@ pub mod NonzeroProducts
 pub mod Orders
 pub mod PartialFolds
 pub mod Producers
+pub mod ProductTiles
 pub mod Products
 pub mod RowCells
 pub mod RowSums

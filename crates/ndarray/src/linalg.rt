@@ -12,6 +12,7 @@ mod general;
 pub(crate) mod inner;
 mod kronecker;
 mod matrix_products;
+mod product_tiles;
 mod products;
 mod range_tests;
 pub(crate) mod row_sums;

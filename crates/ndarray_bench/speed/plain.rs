@@ -83,6 +83,10 @@ fn main() {
             for name in names {
                 report(name, n, turns, || product(name, n, black_box(&b), black_box(&c)));
             }
+            if words[0] == "products" {
+                let (left, right, mut sums) = (vec![3u32; n * n], vec![5u32; n * n], vec![7u32; n * n]);
+                report("general_product", n, turns, || general_product(n, black_box(&left), black_box(&right), black_box(&mut sums)) as i64);
+            }
         }
         "small" => {
             for name in SMALL {
@@ -377,6 +381,19 @@ fn product(name: &str, n: usize, a: &[i64], b: &[i64]) -> i64 {
         }
     }
     made[1]
+}
+
+/// Adds a product, in the best order of loops.
+#[inline(never)]
+fn general_product(n: usize, a: &[u32], b: &[u32], c: &mut [u32]) -> u32 {
+    for (sums, row) in c.chunks_mut(n).zip(a.chunks(n)) {
+        for (x, other) in row.iter().zip(b.chunks(n)) {
+            for (sum, y) in sums.iter_mut().zip(other) {
+                *sum = sum.wrapping_add(x.wrapping_mul(*y));
+            }
+        }
+    }
+    c[1]
 }
 
 fn add_scaled(sums: &mut [i64], x: i64, ys: &[i64]) {

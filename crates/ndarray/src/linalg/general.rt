@@ -1,18 +1,22 @@
 //! General products: what an array holds times a number, plus a product times another. They allocate nothing.
 
-ghost use Rattle.std.specs.Prelude.{◌≡◌, ◌↔◌, IsTrue, MatchResult, Some};
+ghost use Rattle.std.specs.Prelude.{◌≡◌, ◌↔◌, ◌≤◌, IsTrue, MatchResult, Some};
+ghost use Rattle.std.specs.Mem.{type_size};
 ghost use Rattle.ndarray.specs.Grid.{cell};
 ghost use Rattle.ndarray.specs.Products.{Accumulates, AccumulatesEntries, AddsScaled, CanAccumulate, CanAddScaled, HasSumsInRange, ShapesMultiplyInto, column_entries, column_of, matrix_entries, matrix_of, product_of};
 
-use crate::base::array::ArrayBase;
+use crate::base::array::{ArrayBase, ArrayView};
 use crate::base::dimension::{Dimension, Ix1, Ix2, Lengths};
 use crate::base::index_lists::Indices;
 use crate::base::storage::{Data, DataMut};
 use crate::elements::LinalgScalar;
 use crate::linalg::entries::Entries;
 use crate::linalg::inner::{RowsByColumns, RowsByVector};
+use crate::linalg::product_tiles::{accumulate_matrix, accumulate_vector, scaled_sum};
+use crate::linalg::row_sums::has_close_rows;
 use crate::zip::updating::{CellCall, try_update};
 use std::alloc::AllocError;
+use std::mem::size_of_val;
 
 /// Whether the shapes are (m, k), (k, n) and (m, n), as [`general_mat_mul`] requires.
 ///
@@ -81,11 +85,7 @@ where
     requires scaled { CanAccumulate A.Valued alpha beta (matrix_entries (product_of A.Valued (matrix_of A.Valued a.now) (matrix_of A.Valued b.now))) c.old }
     ensures { Accumulates A.Valued alpha beta (matrix_entries (product_of A.Valued (matrix_of A.Valued a.now) (matrix_of A.Valued b.now))) c.old c.new }
 {
-    let sums = RowsByColumns {
-        left: a.view(),
-        right: b.view(),
-    };
-    accumulate(alpha, sums, beta, c);
+    accumulate_product(alpha, &a.view(), &b.view(), beta, c);
 }
 
 /// Leaves in each cell of `y` its old value times `beta`, plus `alpha` times the product of `a` and `x` there. Where `beta`
@@ -116,11 +116,144 @@ where
     requires scaled { CanAccumulate A.Valued alpha beta (column_entries (product_of A.Valued (matrix_of A.Valued a.now) (column_of A.Valued x.now))) y.old }
     ensures { Accumulates A.Valued alpha beta (column_entries (product_of A.Valued (matrix_of A.Valued a.now) (column_of A.Valued x.now))) y.old y.new }
 {
+    accumulate_column(alpha, &a.view(), &x.view(), beta, y);
+}
+
+/// The product of two matrices: by the rows of the right one where these are close, else by the columns of the left one where those are,
+/// else by inner sums.
+fn accumulate_product<A: LinalgScalar, S: DataMut<Elem = A>>(
+    alpha: A,
+    left: &ArrayView<'_, A, Ix2>,
+    right: &ArrayView<'_, A, Ix2>,
+    beta: A,
+    array: &mut ArrayBase<S, Ix2>,
+)
+    requires shapes { ShapesMultiplyInto left.now.lengths right.now.lengths array.old.lengths }
+    requires sums { HasSumsInRange A.Valued (matrix_of A.Valued left.now) (matrix_of A.Valued right.now) }
+    requires scaled { CanAccumulate A.Valued alpha beta (matrix_entries (product_of A.Valued (matrix_of A.Valued left.now) (matrix_of A.Valued right.now))) array.old }
+    ensures { Accumulates A.Valued alpha beta (matrix_entries (product_of A.Valued (matrix_of A.Valued left.now) (matrix_of A.Valued right.now))) array.old array.new }
+{
+    if size_of_val(&alpha) <= 64 && has_close_rows(right) {
+        accumulate_by_rows(alpha, left, right, beta, array);
+    } else if size_of_val(&alpha) <= 64 && has_close_rows(&left.t()) {
+        accumulate_by_columns(alpha, left, right, beta, array);
+    } else {
+        accumulate_inner_sums(alpha, left, right, beta, array);
+    }
+}
+
+/// The same by the rows of the right matrix.
+fn accumulate_by_rows<A: LinalgScalar, S: DataMut<Elem = A>>(
+    alpha: A,
+    left: &ArrayView<'_, A, Ix2>,
+    right: &ArrayView<'_, A, Ix2>,
+    beta: A,
+    array: &mut ArrayBase<S, Ix2>,
+)
+    requires small { type_size A.row ≤ 64 }
+    requires shapes { ShapesMultiplyInto left.now.lengths right.now.lengths array.old.lengths }
+    requires sums { HasSumsInRange A.Valued (matrix_of A.Valued left.now) (matrix_of A.Valued right.now) }
+    requires scaled { CanAccumulate A.Valued alpha beta (matrix_entries (product_of A.Valued (matrix_of A.Valued left.now) (matrix_of A.Valued right.now))) array.old }
+    ensures { Accumulates A.Valued alpha beta (matrix_entries (product_of A.Valued (matrix_of A.Valued left.now) (matrix_of A.Valued right.now))) array.old array.new }
+{
+    let _two = (left.raw_dim(), right.raw_dim());
+    accumulate_matrix(alpha, left, right, beta, array, 1);
+}
+
+/// The same by the columns of the left matrix: the transposed array takes the product of the transposed matrices.
+fn accumulate_by_columns<A: LinalgScalar, S: DataMut<Elem = A>>(
+    alpha: A,
+    left: &ArrayView<'_, A, Ix2>,
+    right: &ArrayView<'_, A, Ix2>,
+    beta: A,
+    array: &mut ArrayBase<S, Ix2>,
+)
+    requires small { type_size A.row ≤ 64 }
+    requires shapes { ShapesMultiplyInto left.now.lengths right.now.lengths array.old.lengths }
+    requires sums { HasSumsInRange A.Valued (matrix_of A.Valued left.now) (matrix_of A.Valued right.now) }
+    requires scaled { CanAccumulate A.Valued alpha beta (matrix_entries (product_of A.Valued (matrix_of A.Valued left.now) (matrix_of A.Valued right.now))) array.old }
+    ensures { Accumulates A.Valued alpha beta (matrix_entries (product_of A.Valued (matrix_of A.Valued left.now) (matrix_of A.Valued right.now))) array.old array.new }
+{
+    accumulate_matrix(alpha, &right.t(), &left.t(), beta, array, 0);
+}
+
+/// The same by inner sums.
+fn accumulate_inner_sums<A: LinalgScalar, S: DataMut<Elem = A>>(
+    alpha: A,
+    left: &ArrayView<'_, A, Ix2>,
+    right: &ArrayView<'_, A, Ix2>,
+    beta: A,
+    array: &mut ArrayBase<S, Ix2>,
+)
+    requires shapes { ShapesMultiplyInto left.now.lengths right.now.lengths array.old.lengths }
+    requires sums { HasSumsInRange A.Valued (matrix_of A.Valued left.now) (matrix_of A.Valued right.now) }
+    requires scaled { CanAccumulate A.Valued alpha beta (matrix_entries (product_of A.Valued (matrix_of A.Valued left.now) (matrix_of A.Valued right.now))) array.old }
+    ensures { Accumulates A.Valued alpha beta (matrix_entries (product_of A.Valued (matrix_of A.Valued left.now) (matrix_of A.Valued right.now))) array.old array.new }
+{
+    let sums = RowsByColumns {
+        left: left.view(),
+        right: right.view(),
+    };
+    accumulate(alpha, sums, beta, array);
+}
+
+/// The product of a matrix and a vector: that of the vector and the transposed matrix where the columns of the matrix are close, else by
+/// inner sums.
+fn accumulate_column<A: LinalgScalar, S: DataMut<Elem = A>>(
+    alpha: A,
+    left: &ArrayView<'_, A, Ix2>,
+    x: &ArrayView<'_, A, Ix1>,
+    beta: A,
+    array: &mut ArrayBase<S, Ix1>,
+)
+    requires shapes { ShapesMultiplyInto left.now.lengths x.now.lengths array.old.lengths }
+    requires sums { HasSumsInRange A.Valued (matrix_of A.Valued left.now) (column_of A.Valued x.now) }
+    requires scaled { CanAccumulate A.Valued alpha beta (column_entries (product_of A.Valued (matrix_of A.Valued left.now) (column_of A.Valued x.now))) array.old }
+    ensures { Accumulates A.Valued alpha beta (column_entries (product_of A.Valued (matrix_of A.Valued left.now) (column_of A.Valued x.now))) array.old array.new }
+{
+    if size_of_val(&alpha) <= 64 && has_close_rows(&left.t()) {
+        accumulate_as_row(alpha, left, x, beta, array);
+    } else {
+        accumulate_column_sums(alpha, left, x, beta, array);
+    }
+}
+
+/// The same by inner sums.
+fn accumulate_column_sums<A: LinalgScalar, S: DataMut<Elem = A>>(
+    alpha: A,
+    left: &ArrayView<'_, A, Ix2>,
+    x: &ArrayView<'_, A, Ix1>,
+    beta: A,
+    array: &mut ArrayBase<S, Ix1>,
+)
+    requires shapes { ShapesMultiplyInto left.now.lengths x.now.lengths array.old.lengths }
+    requires sums { HasSumsInRange A.Valued (matrix_of A.Valued left.now) (column_of A.Valued x.now) }
+    requires scaled { CanAccumulate A.Valued alpha beta (column_entries (product_of A.Valued (matrix_of A.Valued left.now) (column_of A.Valued x.now))) array.old }
+    ensures { Accumulates A.Valued alpha beta (column_entries (product_of A.Valued (matrix_of A.Valued left.now) (column_of A.Valued x.now))) array.old array.new }
+{
     let sums = RowsByVector {
-        left: a.view(),
+        left: left.view(),
         right: x.view(),
     };
-    accumulate(alpha, sums, beta, y);
+    accumulate(alpha, sums, beta, array);
+}
+
+/// The same by that of the vector and the transposed matrix.
+fn accumulate_as_row<A: LinalgScalar, S: DataMut<Elem = A>>(
+    alpha: A,
+    left: &ArrayView<'_, A, Ix2>,
+    x: &ArrayView<'_, A, Ix1>,
+    beta: A,
+    array: &mut ArrayBase<S, Ix1>,
+)
+    requires small { type_size A.row ≤ 64 }
+    requires shapes { ShapesMultiplyInto left.now.lengths x.now.lengths array.old.lengths }
+    requires sums { HasSumsInRange A.Valued (matrix_of A.Valued left.now) (column_of A.Valued x.now) }
+    requires scaled { CanAccumulate A.Valued alpha beta (column_entries (product_of A.Valued (matrix_of A.Valued left.now) (column_of A.Valued x.now))) array.old }
+    ensures { Accumulates A.Valued alpha beta (column_entries (product_of A.Valued (matrix_of A.Valued left.now) (column_of A.Valued x.now))) array.old array.new }
+{
+    let _one = x.raw_dim();
+    accumulate_vector(alpha, x, &left.t(), beta, array);
 }
 
 /// Leaves in each cell its old value times `beta` plus `alpha` times the entry there.
@@ -154,10 +287,7 @@ impl<A: LinalgScalar, X, C: Entries<X, Elem = A>> CellCall<A, X> for Accumulatio
     ghost call_gives = { λ c t r d. MatchResult r (λ z. (s : A) × C.computes c.sums t.1 s × AddsScaled A.Valued (A.meaning c.alpha) (A.meaning c.beta) (A.meaning t.0) (A.meaning s) (A.meaning z)) (λ _. ⊥) × (d ≡ c) };
 
     fn call(&mut self, cell: &A, at: X) -> Result<A, AllocError> {
-        let added = self.alpha * self.sums.entry(at);
-        if self.beta.is_zero() {
-            return Ok(added);
-        }
-        Ok(*cell * self.beta + added)
+        let sum = self.sums.entry(at);
+        Ok(scaled_sum(self.alpha, sum, self.beta, *cell))
     }
 }

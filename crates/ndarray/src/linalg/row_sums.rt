@@ -65,7 +65,7 @@ pub(crate) fn push_zeros<A: LinalgScalar>(sums: &mut Vec<A>, many: usize)
 }
 
 /// Adds to sums that are zero the products of a vector with each column of a matrix, row by row of the matrix.
-fn add_rows<A: LinalgScalar>(
+pub(crate) fn add_rows<A: LinalgScalar>(
     sums: &mut [A],
     x: &ArrayView<'_, A, Ix1>,
     right: &ArrayView<'_, A, Ix2>,

@@ -1,27 +1,15 @@
-use Rattle.std.proofs.Common.{◌∙◌, [], ◌∷◌, ap, arith, length, subst, sym}
-use Rattle.ndarray.specs.Index.{InBox}
-use Rattle.ndarray.specs.Products.{CanAddScaled, column_entries, column_of, matrix_of, product_of}
-use Rattle.ndarray.proofs.boxes.ProductShapes.{inner-two, lengths-two_one}
-use Rattle.ndarray.proofs.cells.Cells.{cell-inside}
-use Rattle.ndarray.proofs.cells.Products.{accumulates-of, product-of_views, sums-of_views}
+use Rattle.std.proofs.Common.{subst, sym}
+use Rattle.ndarray.specs.Products.{Accumulates, CanAccumulate, column_entries, column_of, matrix_of, product_of}
 use Rattle.ndarray.proofs.linalg.general.general_mat_vec_mul.Goals as goal
 
-pub accumulate-requires-after_bounds : goal.accumulate-requires-after_bounds
-accumulate-requires-after_bounds g c κs within x old at =
+pub accumulate_column-requires-clause-scaled : goal.accumulate_column-requires-clause-scaled
+accumulate_column-requires-clause-scaled g c κs within =
     let v = g.A.Valued in
-    let box = subst (λ ns. InBox ns (x ∷ [])) (c.requires.shapes.product ∙ lengths-two_one c.args.a.now.lengths c.args.x.now.lengths c.view.ensures.axes c.view-2.ensures.axes) (cell-inside c.args.y.now (x ∷ []) old at) in (
-      (
-        sums-of_views v (matrix_of v) (column_of v) c.args.a.now c.args.x.now _ _ c.view.ensures.same c.view-2.ensures.same x 0 (inner-two c.args.a.now.lengths c.args.x.now.lengths c.view.ensures.axes c.requires.shapes.inner) box.0 (omega arith) c.requires.sums,
-        ap (λ w. length w.lengths) c.view.ensures.same ∙ c.view.ensures.axes,
-        ap (λ w. length w.lengths) c.view-2.ensures.same ∙ c.view-2.ensures.axes,
-        c.view-2.ensures.whole,
-      ),
-      λ s k. subst (CanAddScaled v (v.meaning c.args.alpha) (v.meaning c.args.beta) (v.meaning old)) (sym (k ∙ product-of_views v (matrix_of v) (column_of v) c.args.a.now c.args.x.now _ _ c.view.ensures.same c.view-2.ensures.same x 0)) (c.requires.scaled (x ∷ []) old at),
-    )
+    subst (λ w. CanAccumulate v c.args.alpha c.args.beta (column_entries (product_of v (matrix_of v w) (column_of v c.view-2.result))) c.args.y.now) (sym c.view.ensures.same)
+    (subst (λ w. CanAccumulate v c.args.alpha c.args.beta (column_entries (product_of v (matrix_of v c.args.a.now) (column_of v w))) c.args.y.now) (sym c.view-2.ensures.same) c.requires.scaled)
 
 pub returns : goal.returns
 returns g c =
     let v = g.A.Valued in
-    accumulates-of v _ _ (column_entries (product_of v (matrix_of v c.args.a.now) (column_of v c.args.x.now))) c.args.alpha c.args.beta _ _
-    (λ t s k. k ∙ product-of_views v (matrix_of v) (column_of v) c.args.a.now c.args.x.now _ _ c.view.ensures.same c.view-2.ensures.same t 0)
-    c.accumulate.ensures
+    subst (λ w. Accumulates v c.args.alpha c.args.beta (column_entries (product_of v (matrix_of v w) (column_of v c.args.x.now))) c.args.y.now c.accumulate_column.new.array) c.view.ensures.same
+    (subst (λ w. Accumulates v c.args.alpha c.args.beta (column_entries (product_of v (matrix_of v c.view.result) (column_of v w))) c.args.y.now c.accumulate_column.new.array) c.view-2.ensures.same c.accumulate_column.ensures)
