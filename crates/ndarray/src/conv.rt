@@ -139,7 +139,7 @@ fn over_columns<A: LinalgScalar, D: Dimension>(
     Ok(sums.reversed_axes())
 }
 
-/// The same by rows of the result where these are longer than the kernel's, else window by window.
+/// The same by rows of the result where these are no shorter than the kernel's and of eight cells or more, else window by window.
 fn over_rows<A: LinalgScalar, D: Dimension>(
     alloc: Global,
     a: &ArrayView<'_, A, D>,
