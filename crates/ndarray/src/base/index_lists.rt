@@ -170,9 +170,7 @@ impl<D: Lengths> IndexRow<D> {
             list.set_axis(self.axis, self.next);
         }
         self.left -= 1;
-        if self.left > 0 {
-            self.next += 1;
-        }
+        self.next = self.next.wrapping_add(1);
         Some(list)
     }
 }

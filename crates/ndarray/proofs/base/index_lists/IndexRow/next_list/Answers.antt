@@ -1,9 +1,11 @@
-use Rattle.std.proofs.Common.{◌≡◌, ◌∙◌, ◌∷◌, ◌+◌, ◌-◌, ap, arith, length, set, sym}
+use Rattle.std.proofs.Common.{◌≡◌, ◌∙◌, ◌∷◌, ◌+◌, ◌-◌, ◌%◌, ◌^◌, ap, arith, inl, inr, length, set, sym}
+use Rattle.std.proofs.Math.Nat.{mod-eq_of_lt}
+use Rattle.std.proofs.lemmas.Bool.{cases_lt}
 use Rattle.std.proofs.lemmas.List.{set_past}
 use Rattle.ndarray.specs.base.Ranks.{row_from}
 use Rattle.ndarray.proofs.boxes.CountedRows.{counted-none, counted-row}
 use Rattle.ndarray.proofs.base.index_lists.IndexRow.next_list.Goals as goal
-use Rattle.ndarray.proofs.base.index_lists.IndexRow.next_list.Goals.{then-self-ndim, else-self-ndim, then-self-gt0, else-self-gt0}
+use Rattle.ndarray.proofs.base.index_lists.IndexRow.next_list.Goals.{then-self-ndim, else-self-ndim}
 
 pub returns : goal.returns
 returns g c =
@@ -12,13 +14,14 @@ returns g c =
     let is = axes r.list in
     let n = c.ndim.ensures.value in
     let l = ap length c.copied-list.ensures.value in
+    let limit = c.self.invariant in
     let here : set is r.axis r.next ≡ axes c.if-self-ndim.list = elim c.if-self-ndim.branch [
       | then-self-ndim w ↦ ap (λ js. set js r.axis r.next) (sym c.copied-list.ensures.value) ∙ (sym w.set_axis.ensures ∙ ap axes (sym w.list-is))
       | else-self-ndim w ↦ set_past is r.axis r.next (omega (arith, w.if-self-ndim.false)) ∙ (sym c.copied-list.ensures.value ∙ ap axes (sym w.list-is))
     ] in
-    let rest : row_from (set is r.axis (r.next + 1)) r.axis (r.left - 1) ≡ c.if-self-gt0.self = elim c.if-self-gt0.branch [
-      | then-self-gt0 w ↦ sym w.self-is
-      | else-self-gt0 w ↦ counted-none (set is r.axis (r.next + 1)) (set is r.axis r.next) r.axis (r.left - 1) (omega (arith, w.if-self-gt0.false)) ∙ sym w.self-is
+    let rest : row_from (set is r.axis (r.next + 1)) r.axis (r.left - 1) ≡ row_from (set is r.axis ((r.next + 1) % 2 ^ 64)) r.axis (r.left - 1) = elim (cases_lt 1 r.left) [
+      | inl more ↦ ap (λ k. row_from (set is r.axis k) r.axis (r.left - 1)) (sym (mod-eq_of_lt (omega (arith, limit, more))))
+      | inr last ↦ counted-none (set is r.axis (r.next + 1)) (set is r.axis ((r.next + 1) % 2 ^ 64)) r.axis (r.left - 1) (omega (arith, last))
     ] in
     sym c.self.view_is
     ∙ (counted-row is r.axis r.next r.left (omega (arith, c.if-self-eq0.false))
