@@ -309,16 +309,8 @@ fn filter(name: &str, n: usize, a: &mut [i64], b: &[i64]) -> i64 {
                 }
             }
         }
-        "zip_four_fold" => {
-            for (((w, x), y), z) in a.iter().zip(b).zip(a.iter()).zip(b) {
-                sum = sum.wrapping_add(w.wrapping_mul(*x)).wrapping_add(y.wrapping_mul(*z));
-            }
-        }
-        "zip_six_fold" => {
-            for (((((u, v), w), x), y), z) in a.iter().zip(b).zip(a.iter()).zip(b).zip(a.iter()).zip(b) {
-                sum = sum.wrapping_add(u.wrapping_mul(*v)).wrapping_add(w.wrapping_mul(*x)).wrapping_add(y.wrapping_mul(*z));
-            }
-        }
+        "zip_four_fold" => return fold_of_four([a, b, a, b]),
+        "zip_six_fold" => return fold_of_six([a, b, a, b, a, b]),
         "zip_column_fold" => {
             for (row, y) in a.chunks(n).zip(b.chunks(n)) {
                 for x in row {
@@ -381,6 +373,22 @@ fn product(name: &str, n: usize, a: &[i64], b: &[i64]) -> i64 {
         }
     }
     made[1]
+}
+
+/// As if all slices were different ones: so that each is read.
+#[inline(never)]
+fn fold_of_four([w, x, y, z]: [&[i64]; 4]) -> i64 {
+    w.iter().zip(x).zip(y).zip(z).fold(0, |sum: i64, (((w, x), y), z)| {
+        sum.wrapping_add(w.wrapping_mul(*x)).wrapping_add(y.wrapping_mul(*z))
+    })
+}
+
+/// The same of six.
+#[inline(never)]
+fn fold_of_six([u, v, w, x, y, z]: [&[i64]; 6]) -> i64 {
+    u.iter().zip(v).zip(w).zip(x).zip(y).zip(z).fold(0, |sum: i64, (((((u, v), w), x), y), z)| {
+        sum.wrapping_add(u.wrapping_mul(*v)).wrapping_add(w.wrapping_mul(*x)).wrapping_add(y.wrapping_mul(*z))
+    })
 }
 
 /// Adds a product, in the best order of loops.
