@@ -1,7 +1,8 @@
 //! Scans of lanes in tiles: one step along each of many lanes, and then the next step, so that cells that lie close together
 //! follow one another.
 
-ghost use Rattle.std.specs.Prelude.{◌≡◌, ◌≢◌, ◌<◌, All, AllPairs, length, replicate, slice_index};
+ghost use Rattle.core.specs.Mem.{type_size};
+ghost use Rattle.std.specs.Prelude.{◌≡◌, ◌≢◌, ◌<◌, ◌≤◌, All, AllPairs, length, replicate, slice_index};
 ghost use Rattle.ndarray.specs.Grid.{IsGrid, cell};
 ghost use Rattle.ndarray.specs.Index.{InBox};
 ghost use Rattle.ndarray.specs.Limits.{IsWithinLimit};
@@ -20,7 +21,7 @@ use crate::order::rows::BoxRows;
 use crate::places::place_rows::PlaceRow;
 
 /// How many lanes are scanned side by side at most.
-pub(super) const TILE: usize = 512;
+const TILE: usize = 512;
 
 /// From how many cells on an array does not stay in cache.
 const MANY_CELLS: usize = 1 << 17;
@@ -37,7 +38,8 @@ pub(super) fn are_tiles_faster<S: Data, D: Lengths>(array: &ArrayBase<S, D>, axi
     along != axis && array.len_of(Axis(along)) >= 8 && array.are_closer_along(along, axis)
 }
 
-/// Scans the lanes of an axis in place, in tiles of at most as many lanes as there are values.
+/// Scans the lanes of an axis in place, in tiles of at most 512 lanes. The array of their values is cleared whenever this
+/// function is entered, so `scan_lanes` itself has none.
 #[inline(always)]
 pub(super) fn scan_by_tiles<
     A: Copy,
@@ -45,12 +47,13 @@ pub(super) fn scan_by_tiles<
     D: Lengths,
     B: Copy,
     F: Fn(B, A) -> (B, A),
->(array: &mut ArrayBase<S, D>, axis: Axis, init: B, values: &mut [B], f: &F)
+>(array: &mut ArrayBase<S, D>, axis: Axis, init: B, f: &F)
     requires axis { axis.0 < length array.old.lengths }
-    requires some { 0 < length values.old }
+    requires small { type_size B.row ≤ 32 }
     requires callable { MayScanLanes (step_gives F.Fn f.now) (can_step F.Fn f.now) axis.0 init array.old }
     ensures { ScansLanes (step_gives F.Fn f.now) axis.0 init array.old array.new }
 {
+    let mut values = [init; TILE];
     let dim = array.raw_dim();
     let len = dim.axis(axis.0);
     // The index lists of the first cells of the lanes.
@@ -58,7 +61,7 @@ pub(super) fn scan_by_tiles<
     firsts.set_axis(axis.0, len.min(1));
     let mut rows = BoxRows::new(firsts, array.fast_order());
     while let Some(row) = rows.next() {
-        scan_row(array, axis.0, &row, len, init, values, f);
+        scan_row(array, axis.0, &row, len, init, &mut values, f);
     }
 }
 

@@ -12,7 +12,7 @@ use crate::base::axis::Axis;
 use crate::base::dimension::Lengths;
 use crate::base::storage::DataMut;
 use crate::order::{Order, Walk};
-use crate::subviews::lane_tiles::{TILE, are_tiles_faster, scan_by_tiles};
+use crate::subviews::lane_tiles::{are_tiles_faster, scan_by_tiles};
 use std::mem::size_of_val;
 
 impl<A: Copy, S: DataMut<Elem = A>, D: Lengths> ArrayBase<S, D> {
@@ -36,8 +36,7 @@ impl<A: Copy, S: DataMut<Elem = A>, D: Lengths> ArrayBase<S, D> {
         if self.ndim() == 0 {
             scan_cell(self, axis, init, &f);
         } else if size_of_val(&init) <= 32 && are_tiles_faster(self, axis.0) {
-            let mut values = [init; TILE];
-            scan_by_tiles(self, axis, init, &mut values, &f);
+            scan_by_tiles(self, axis, init, &f);
         } else {
             scan_axis(self, axis, init, &f);
         }
