@@ -12,7 +12,7 @@ add_rows-requires-clause-zeros g c κs within =
     let v = g.A.Valued in
     let columns = ap (λ k. get_or k 1 0) (c.into_pattern-columns.ensures ∙ c.raw_dim.ensures.lengths) in
     let zero_meaning = ap v.meaning c.zero-tile.ensures ∙ g.met.A.SumElem.zero_meaning in
-    ap (map v.meaning) (take-replicate c.into_pattern-columns.result.1 64 c.zero-tile.result (omega (arith, columns, c.requires.width)))
+    ap (map v.meaning) (take-replicate c.into_pattern-columns.result.1 256 c.zero-tile.result (omega (arith, columns, c.requires.width)))
     ∙ (values-alike v.meaning c.zero-tile.result v.addition.unit c.into_pattern-columns.result.1 zero_meaning
     ∙ ap (λ n. values_below n (λ _. v.addition.unit)) columns)
 
