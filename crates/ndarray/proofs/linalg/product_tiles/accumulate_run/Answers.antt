@@ -1,4 +1,4 @@
-use Rattle.std.proofs.Common.{◌≡◌, ◌≤◌, ◌<◌, ◌+◌, ◌-◌, ◌∙◌, ℕ, List, ap, arith, get_or, length, map, subst, sym}
+use Rattle.std.proofs.Common.{◌+◌, ◌∙◌, ap, arith, get_or, map, subst, sym}
 use Rattle.std.proofs.lemmas.List.{take-replicate}
 use Rattle.ndarray.specs.Matrices.{values_below}
 use Rattle.ndarray.specs.ProductTiles.{AccumulatesIn, InRun, list_along, row_along}
