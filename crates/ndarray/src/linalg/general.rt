@@ -119,8 +119,8 @@ where
     accumulate_column(alpha, &a.view(), &x.view(), beta, y);
 }
 
-/// The product of two matrices: by the rows of the right one where these are close, else by the columns of the left one where those are,
-/// else by inner sums.
+/// [`general_mat_mul`] of views: by the rows of the right matrix where these are close, else by the columns of the left one where those
+/// are, else by inner sums.
 fn accumulate_product<A: LinalgScalar, S: DataMut<Elem = A>>(
     alpha: A,
     left: &ArrayView<'_, A, Ix2>,
@@ -197,8 +197,8 @@ fn accumulate_inner_sums<A: LinalgScalar, S: DataMut<Elem = A>>(
     accumulate(alpha, sums, beta, array);
 }
 
-/// The product of a matrix and a vector: that of the vector and the transposed matrix where the columns of the matrix are close, else by
-/// inner sums.
+/// [`general_mat_vec_mul`] of views: as the product of the vector and the transposed matrix where the columns of the matrix are close, else
+/// by inner sums.
 fn accumulate_column<A: LinalgScalar, S: DataMut<Elem = A>>(
     alpha: A,
     left: &ArrayView<'_, A, Ix2>,
@@ -238,7 +238,7 @@ fn accumulate_column_sums<A: LinalgScalar, S: DataMut<Elem = A>>(
     accumulate(alpha, sums, beta, array);
 }
 
-/// The same by that of the vector and the transposed matrix.
+/// The same as the product of the vector and the transposed matrix.
 fn accumulate_as_row<A: LinalgScalar, S: DataMut<Elem = A>>(
     alpha: A,
     left: &ArrayView<'_, A, Ix2>,

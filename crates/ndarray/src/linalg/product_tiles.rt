@@ -4,7 +4,7 @@ ghost use Rattle.std.specs.Prelude.{◌≡◌, ◌+◌, ◌<◌, ◌≤◌, List
 ghost use Rattle.std.specs.Mem.{type_size};
 ghost use Rattle.ndarray.specs.Grid.{cell};
 ghost use Rattle.ndarray.specs.Index.{InBox};
-ghost use Rattle.ndarray.specs.ProductTiles.{AccumulatesIn, CanAccumulateIn, InRun, InTile, entries_along, list_along, row_along, other_index};
+ghost use Rattle.ndarray.specs.ProductTiles.{AccumulatesIn, CanAccumulateIn, InRun, InTile, entries_along, list_along, other_index, row_along};
 ghost use Rattle.ndarray.specs.Products.{Accumulates, AddsScaled, CanAccumulate, CanAddScaled, HasSumsInRange, matrix_of, product_of, row_of};
 ghost use Rattle.ndarray.specs.RowSums.{CanSumRow};
 ghost use Rattle.ndarray.specs.Writes.{with_cell};
@@ -17,8 +17,7 @@ use crate::elements::LinalgScalar;
 use crate::linalg::row_sums::add_rows;
 
 /// Leaves in the cells of an array the old values times `beta` plus `alpha` times the product of two matrices, whose columns lie along an
-/// axis of the array. They are made at most 64 columns at a time, so that the cells of the right matrix that each row goes over stay in
-/// cache.
+/// axis of the array, at most 256 columns at a time.
 pub(crate) fn accumulate_matrix<A: LinalgScalar, S: DataMut<Elem = A>>(
     alpha: A,
     left: &ArrayView<'_, A, Ix2>,
@@ -45,7 +44,7 @@ pub(crate) fn accumulate_matrix<A: LinalgScalar, S: DataMut<Elem = A>>(
     }
     let mut first = 0;
     'tiles: while first < columns {
-        let width = (columns - first).min(64);
+        let width = (columns - first).min(256);
         let part = right.part(1, first, width);
         accumulate_columns(alpha, left, &part, beta, array, axis, first);
         first += width;
@@ -65,7 +64,7 @@ fn accumulate_columns<A: LinalgScalar, S: DataMut<Elem = A>>(
     requires small { type_size A.row ≤ 64 }
     requires inner { slice_index left.now.lengths 1 ≡ slice_index part.now.lengths 0 }
     requires sums { HasSumsInRange A.Valued (matrix_of A.Valued left.now) (matrix_of A.Valued part.now) }
-    requires width { slice_index part.now.lengths 1 ≤ 64 }
+    requires width { slice_index part.now.lengths 1 ≤ 256 }
     requires axis { axis < 2 }
     requires rows { other_index axis array.old.lengths ≡ slice_index left.now.lengths 0 }
     requires columns { first + slice_index part.now.lengths 1 ≤ slice_index array.old.lengths axis }
@@ -81,7 +80,7 @@ fn accumulate_columns<A: LinalgScalar, S: DataMut<Elem = A>>(
     }
 }
 
-/// Leaves in the cells of a vector the old values times `beta` plus `alpha` times the product of a vector and a matrix, at most 64
+/// Leaves in the cells of a vector the old values times `beta` plus `alpha` times the product of a vector and a matrix, at most 256
 /// columns at a time.
 pub(crate) fn accumulate_vector<A: LinalgScalar, S: DataMut<Elem = A>>(
     alpha: A,
@@ -100,7 +99,7 @@ pub(crate) fn accumulate_vector<A: LinalgScalar, S: DataMut<Elem = A>>(
     let (_, columns) = right.raw_dim().into_pattern();
     let mut first = 0;
     'runs: while first < columns {
-        let width = (columns - first).min(64);
+        let width = (columns - first).min(256);
         let part = right.part(1, first, width);
         accumulate_run(alpha, x, &part, beta, array, &Ix1(0), 0, first);
         first += width;
@@ -122,7 +121,7 @@ fn accumulate_run<A: LinalgScalar, S: DataMut<Elem = A>, D: Lengths>(
 )
     requires small { type_size A.row ≤ 64 }
     requires can { CanSumRow A.Valued x.now part.now }
-    requires width { slice_index part.now.lengths 1 ≤ 64 }
+    requires width { slice_index part.now.lengths 1 ≤ 256 }
     requires axis { axis < length array.old.lengths }
     requires axes { length (D.numbers index.now) ≡ length array.old.lengths }
     requires columns { first + slice_index part.now.lengths 1 ≤ slice_index array.old.lengths axis }
@@ -131,7 +130,7 @@ fn accumulate_run<A: LinalgScalar, S: DataMut<Elem = A>, D: Lengths>(
     ensures { AccumulatesIn A.Valued (InRun (D.numbers index.now) axis first (first + slice_index part.now.lengths 1)) alpha beta (row_along axis first (product_of A.Valued (row_of A.Valued x.now) (matrix_of A.Valued part.now))) array.old array.new }
 {
     let (_, columns) = part.raw_dim().into_pattern();
-    let mut tile = [A::zero(); 64];
+    let mut tile = [A::zero(); 256];
     let sums = &mut tile[..columns];
     add_rows(sums, x, part);
     accumulate_sums(alpha, sums, beta, array, index, axis, first);

@@ -1,5 +1,4 @@
-use Rattle.std.proofs.Common.{◌≡◌, ◌<◌, ◌≤◌, ◌+◌, ◌-◌, ◌∙◌, List, ℕ, [], ◌∷◌, ap, arith, get_or, length, subst, sym}
-use Rattle.ndarray.specs.Index.{InBox}
+use Rattle.std.proofs.Common.{◌≡◌, ◌≤◌, ◌+◌, ◌-◌, ◌∙◌, List, ℕ, ap, arith, get_or, subst, sym}
 use Rattle.ndarray.specs.ProductTiles.{AccumulatesIn, InTile, entries_along, other_index}
 use Rattle.ndarray.specs.Products.{CanAddScaled, matrix_of, product_of}
 use Rattle.ndarray.proofs.cells.ColumnParts.{part-columns, part-inner, part-product, part-sums}

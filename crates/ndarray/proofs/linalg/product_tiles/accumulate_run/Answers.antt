@@ -1,4 +1,4 @@
-use Rattle.std.proofs.Common.{◌≡◌, ◌≤◌, ◌<◌, ◌+◌, ◌-◌, ◌∙◌, ℕ, List, ap, arith, get_or, length, map, subst, sym}
+use Rattle.std.proofs.Common.{◌+◌, ◌∙◌, ap, arith, get_or, map, subst, sym}
 use Rattle.std.proofs.lemmas.List.{take-replicate}
 use Rattle.ndarray.specs.Matrices.{values_below}
 use Rattle.ndarray.specs.ProductTiles.{AccumulatesIn, InRun, list_along, row_along}
@@ -12,7 +12,7 @@ add_rows-requires-clause-zeros g c κs within =
     let v = g.A.Valued in
     let columns = ap (λ k. get_or k 1 0) (c.into_pattern-columns.ensures ∙ c.raw_dim.ensures.lengths) in
     let zero_meaning = ap v.meaning c.zero-tile.ensures ∙ g.met.A.SumElem.zero_meaning in
-    ap (map v.meaning) (take-replicate c.into_pattern-columns.result.1 64 c.zero-tile.result (omega (arith, columns, c.requires.width)))
+    ap (map v.meaning) (take-replicate c.into_pattern-columns.result.1 256 c.zero-tile.result (omega (arith, columns, c.requires.width)))
     ∙ (values-alike v.meaning c.zero-tile.result v.addition.unit c.into_pattern-columns.result.1 zero_meaning
     ∙ ap (λ n. values_below n (λ _. v.addition.unit)) columns)
 

@@ -1,4 +1,4 @@
-use Rattle.std.proofs.Common.{◌≡◌, ◌<◌, ◌≤◌, ◌+◌, ◌-◌, ◌∙◌, List, ℕ, [], ◌∷◌, ap, arith, get_or, length, subst, sym}
+use Rattle.std.proofs.Common.{◌≡◌, ◌≤◌, ◌+◌, ◌-◌, ◌∙◌, List, ℕ, [], ◌∷◌, ap, arith, get_or, length, subst, sym}
 use Rattle.ndarray.specs.Index.{InBox}
 use Rattle.ndarray.specs.ProductTiles.{AccumulatesIn, InRun, row_along}
 use Rattle.ndarray.specs.Products.{CanAddScaled, matrix_of, product_of, row_of}
