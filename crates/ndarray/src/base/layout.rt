@@ -270,7 +270,7 @@ impl<D: Dimension> Layout<D> {
 }
 
 /// The same numbers under another type of dimension, which has this number of axes.
-fn same_numbers<D: Lengths, E: Lengths>(numbers: &D) -> E
+pub(crate) fn same_numbers<D: Lengths, E: Lengths>(numbers: &D) -> E
     requires { E.has_axes (length (D.numbers numbers.now)) }
     ensures { E.numbers result ≡ D.numbers numbers.now }
 {

@@ -8,6 +8,7 @@ ghost use Rattle.ndarray.specs.Views.{transpose_of, axis_inversion, broadcast_to
 
 use crate::base::array::{ArrayBase, ArrayView};
 use crate::base::axis::Axis;
+use crate::base::broadcast::are_equal;
 use crate::base::dimension::{Dimension, Lengths};
 use crate::base::into_dimension::IntoDimension;
 use crate::base::layout::{Layout, broadcast_strides, reversed};
@@ -97,6 +98,9 @@ impl<'a, A, D: Lengths> ArrayView<'a, A, D> {
         ensures axes { IfSome result (λ v. E.has_axes (length v.lengths)) }
         ensures whole { IfSome result IsGrid }
     {
+        if are_equal(&self.layout.dim, &dim) {
+            return self.broadcast_within(dim);
+        }
         if !dim.size_ok() {
             return None;
         }
