@@ -95,9 +95,9 @@ impl<D: Lengths> Layout<D> {
         self.start.checked_add(block - 1).is_some()
     }
 
-    /// Which way the cells lie, by the axes longer than 1: positive where those along the last of them are side by side, else
-    /// negative where those along the first are; else 0, as where it is the only one. It is 2 or -2 but for one of the two that is
-    /// broadcast.
+    /// Which way the cells lie, by the first and the last of the axes longer than 1: positive where those along the last lie side by
+    /// side, else negative where those along the first do; else 0, as where there are no two such axes. It is 1 or -1 where the
+    /// other axis is broadcast, so that few cells are read, and 2 or -2 where it is not.
     pub(crate) fn tendency(&self) -> i32
         requires { length (D.numbers self.now.strides) ≡ length (D.numbers self.now.dim) }
     {
