@@ -1,12 +1,44 @@
 //! The lengths of two shapes broadcast together.
 
-ghost use Rattle.std.specs.Prelude.{◌≡◌, ◌≢◌, ◌⊎◌, length, max, MatchOption, slice_index, ◌<◌, ◌≤◌};
+ghost use Rattle.std.specs.Prelude.{◌≡◌, ◌≢◌, ◌⊎◌, ◌↔◌, IsTrue, length, max, MatchOption, slice_index, ◌<◌, ◌≤◌};
+ghost use Rattle.ndarray.specs.Limits.{IsWithinLimit};
 ghost use Rattle.ndarray.specs.Broadcast.{BroadcastTogether, broadcast_lengths, meeting_length, with_ones_before};
 
 use crate::base::dimension::Lengths;
+use crate::base::layout::same_numbers;
 
-/// The lengths of two shapes broadcast together; `None` where they do not broadcast, or the result is beyond the limit.
+/// The lengths of two shapes broadcast together, the left one within the limit; `None` where they do not broadcast, or the result is
+/// beyond the limit.
 pub(crate) fn co_broadcast<D: Lengths, E: Lengths, O: Lengths>(left: &D, right: &E) -> Option<O>
+    requires axes { O.has_axes (max (length (D.numbers left.now)) (length (E.numbers right.now))) }
+    requires limit { IsWithinLimit (D.numbers left.now) }
+    ensures { MatchOption result (BroadcastTogether (D.numbers left.now) (E.numbers right.now) → ⊥) (λ d. (O.numbers d ≡ broadcast_lengths (D.numbers left.now) (E.numbers right.now)) × BroadcastTogether (D.numbers left.now) (E.numbers right.now)) }
+{
+    if are_equal(left, right) {
+        Some(same_numbers(left))
+    } else {
+        met_lengths(left, right)
+    }
+}
+
+/// Whether two lists of numbers are equal.
+pub(crate) fn are_equal<D: Lengths, E: Lengths>(left: &D, right: &E) -> bool
+    ensures { IsTrue result ↔ (D.numbers left.now ≡ E.numbers right.now) }
+{
+    let ndim = left.ndim();
+    if right.ndim() != ndim {
+        return false;
+    }
+    for k in 0..ndim {
+        if left.axis(k) != right.axis(k) {
+            return false;
+        }
+    }
+    true
+}
+
+/// The same of any two shapes, axis by axis.
+fn met_lengths<D: Lengths, E: Lengths, O: Lengths>(left: &D, right: &E) -> Option<O>
     requires { O.has_axes (max (length (D.numbers left.now)) (length (E.numbers right.now))) }
     ensures { MatchOption result (BroadcastTogether (D.numbers left.now) (E.numbers right.now) → ⊥) (λ d. (O.numbers d ≡ broadcast_lengths (D.numbers left.now) (E.numbers right.now)) × BroadcastTogether (D.numbers left.now) (E.numbers right.now)) }
 {

@@ -97,10 +97,11 @@ pub trait Lengths: Drop + Sized {
         for axis in 0..self.ndim() {
             let len = self.axis(axis);
             if len != 0 {
-                if len > isize::MAX as usize / product {
+                let (more, wraps) = product.overflowing_mul(len);
+                if wraps || more > isize::MAX as usize {
                     return false;
                 }
-                product *= len;
+                product = more;
             }
         }
         true

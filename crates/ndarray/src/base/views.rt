@@ -8,6 +8,7 @@ ghost use Rattle.ndarray.specs.Views.{transpose_of, axis_inversion, broadcast_to
 
 use crate::base::array::{ArrayBase, ArrayView};
 use crate::base::axis::Axis;
+use crate::base::broadcast::are_equal;
 use crate::base::dimension::{Dimension, Lengths};
 use crate::base::into_dimension::IntoDimension;
 use crate::base::layout::{Layout, broadcast_strides, reversed};
@@ -97,10 +98,24 @@ impl<'a, A, D: Lengths> ArrayView<'a, A, D> {
         ensures axes { IfSome result (λ v. E.has_axes (length v.lengths)) }
         ensures whole { IfSome result IsGrid }
     {
-        let _axes = dim.ndim();
+        if are_equal(&self.layout.dim, &dim) {
+            return self.broadcast_within(dim);
+        }
         if !dim.size_ok() {
             return None;
         }
+        self.broadcast_within(dim)
+    }
+
+    /// The same at a dimension within the limit.
+    pub(crate) fn broadcast_within<E: Lengths>(&self, dim: E) -> Option<ArrayView<'a, A, E>>
+        requires { IsWithinLimit (E.numbers dim) }
+        ensures answers { IsSome result ↔ BroadcastsTo self.now.lengths (E.numbers dim) }
+        ensures value { IfSome result (λ v. v ≡ broadcast_to self.now (E.numbers dim)) }
+        ensures axes { IfSome result (λ v. E.has_axes (length v.lengths)) }
+        ensures whole { IfSome result IsGrid }
+    {
+        let _axes = dim.ndim();
         let Some(strides) = broadcast_strides(&self.layout.dim, &self.layout.strides, &dim) else {
             return None;
         };

@@ -208,7 +208,7 @@ impl<'a, A, E: Lengths, D: Lengths> IntoBroadcast<D> for ArrayView<'a, A, E> {
     ghost broadcasts_as = { λ v ns r. r ≡ broadcast_to v ns };
 
     fn into_broadcast(self, dim: D) -> ArrayView<'a, A, D> {
-        let Some(view) = self.broadcast_to(dim) else {
+        let Some(view) = self.broadcast_within(dim) else {
             unreachable!()
         };
         view

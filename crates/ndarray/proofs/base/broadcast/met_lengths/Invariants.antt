@@ -1,7 +1,7 @@
 use Rattle.std.proofs.Common.{◌≡◌, ℕ, ◌<◌, get_or, length}
 use Rattle.ndarray.specs.Broadcast.{meeting_length, with_ones_before}
 use Rattle.ndarray.proofs.views.BroadcastLengths.{Meet}
-use Rattle.ndarray.proofs.base.broadcast.co_broadcast.Given as goal
+use Rattle.ndarray.proofs.base.broadcast.met_lengths.Given as goal
 
 abbrev pub invariant-loop-k : goal.invariant-loop-k
 invariant-loop-k g l = record {
