@@ -95,35 +95,28 @@ impl<D: Lengths> Layout<D> {
         self.start.checked_add(block - 1).is_some()
     }
 
-    /// Which way the cells lie, by the first and the last of the axes longer than 1: positive where those along the last lie side by
-    /// side, else negative where those along the first do; else 0, as where there are no two such axes. It is 1 or -1 where the
-    /// other axis is broadcast, so that few cells are read, and 2 or -2 where it is not.
+    /// Which way the cells lie: 2 where they are side by side in row order, -2 in column order, else -1 or 1
+    /// where those along the first or the last axis are; else 0. It is 0 too where at most one axis is
+    /// longer than 1 and both orders are one.
     pub(crate) fn tendency(&self) -> i32
-        requires { length (D.numbers self.now.strides) ≡ length (D.numbers self.now.dim) }
+        requires as_many { length (D.numbers self.now.strides) ≡ length (D.numbers self.now.dim) }
+        requires limit { IsWithinLimit (D.numbers self.now.dim) }
     {
-        let mut first: usize = 0;
-        let mut last: usize = 0;
-        let mut long = false;
-        let mut several = false;
-        for k in 0..self.dim.ndim() {
-            if self.dim.axis(k) > 1 {
-                last = self.strides.axis(k);
-                if long {
-                    several = true;
-                } else {
-                    first = last;
-                    long = true;
-                }
-            }
+        let ndim = self.dim.ndim();
+        if self.is_contiguous_in(Order::RowMajor) {
+            return if self.has_long_axes() { 2 } else { 0 };
         }
-        if !several {
+        if ndim < 2 {
             return 0;
         }
-        if last == 1 {
-            return if first == 0 { 1 } else { 2 };
+        if self.is_contiguous_in(Order::ColumnMajor) {
+            return -2;
         }
-        if first == 1 {
-            return if last == 0 { -1 } else { -2 };
+        if self.dim.axis(0) > 1 && self.strides.axis(0) == 1 {
+            return -1;
+        }
+        if self.dim.axis(ndim - 1) > 1 && self.strides.axis(ndim - 1) == 1 {
+            return 1;
         }
         0
     }
@@ -150,6 +143,20 @@ impl<D: Lengths> Layout<D> {
             return true;
         }
         self.is_row_major()
+    }
+
+    /// Whether two or more axes are longer than 1.
+    fn has_long_axes(&self) -> bool {
+        let mut long = false;
+        for k in 0..self.dim.ndim() {
+            if self.dim.axis(k) > 1 {
+                if long {
+                    return true;
+                }
+                long = true;
+            }
+        }
+        false
     }
 
     /// The same with its axes from the last to the first.
