@@ -1,4 +1,5 @@
 pub mod EmptyLanes
+pub mod FaultsPassedOn
 pub mod FirstFaults
 pub mod Neighbours
 pub mod Pieces

@@ -13,6 +13,20 @@ ghost use Rattle.ndarray.specs.Limits.{IsWithinLimit};
 use crate::base::axis::Axis;
 use arrayvec::ArrayVec;
 
+/// Writes a number to its place in a list. Each place is tested, so that the compiler may hold a short list in registers: a place that
+/// it does not know it could only write in memory.
+#[inline(always)]
+fn write_number(numbers: &mut [usize], place: usize, number: usize)
+    requires { place < length numbers.old }
+    ensures { numbers.new ≡ slice_set numbers.old place number }
+{
+    for k in 0..numbers.len() {
+        if k == place {
+            numbers[k] = number;
+        }
+    }
+}
+
 /// A list of numbers, one for each axis: the lengths of a shape, or an index list.
 ///
 /// No call takes memory.
@@ -70,7 +84,7 @@ pub trait Lengths: Drop + Sized {
         requires { axis < length (numbers self.old) }
         ensures { numbers self.new ≡ slice_set (numbers self.old) axis number }
     {
-        self.slice_mut()[axis] = number;
+        write_number(self.slice_mut(), axis, number);
     }
 
     /// The number of index lists in the box of the lengths: their product, and 1 for no axes.
