@@ -17,12 +17,14 @@ pub mod GeneralProducts
 pub mod IndexedCells
 pub mod LaneCells
 pub mod LanePairs
+pub mod LanePlaces
 pub mod LaneSteps
 pub mod LaneSums
 pub mod LaneTests
 pub mod LaneTiles
 pub mod LaneTotals
 pub mod Matrices
+pub mod PlaceScans
 pub mod ProductRows
 pub mod ProductTiles
 pub mod Products

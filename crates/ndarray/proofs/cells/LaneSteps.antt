@@ -19,7 +19,7 @@ use Rattle.ndarray.proofs.lists.Parts.{Contains-map_back, Contains-or_not, slice
 use Rattle.ndarray.proofs.strides.NestedPlaces.{Reaches-apart}
 use Rattle.ndarray.proofs.strides.Reach.{cell-at}
 
-InBox-or_not : (ns is : List ℕ) → InBox ns is ⊎ (InBox ns is → ⊥)
+pub InBox-or_not : (ns is : List ℕ) → InBox ns is ⊎ (InBox ns is → ⊥)
 InBox-or_not [] [] = inl tt
 InBox-or_not [] (i ∷ is) = inr (λ h. h)
 InBox-or_not (n ∷ ns) [] = inr (λ h. h)

@@ -48,15 +48,6 @@ module _ {A : Type 0} (g h : Grid A) (whole : IsGrid g) (new : IsGrid h) (same :
         | inr ne ↦ others j ne ∙ (sym (lane-cell g whole k lt is b j within) ∙ sym (slice_set-elsewhere (lane g k (remove is k)).cells i j y ne))
       ])
 
--- a lane through a cell that is written has it at the cell's index, and its other cells as before
-module _ {A : Type 0} (g : Grid A) (whole : IsGrid g) (k : ℕ) (lt : k < length g.lengths) (i : List ℕ) (b : InBox g.lengths i) (y : A) where
-  pub lane-written : (lane (with_cell g i y) k (remove i k)).cells ≡ set (lane g k (remove i k)).cells (get_or i k 0) y
-  lane-written =
-      let many = InBox-length g.lengths i b in
-      lane-replaced g (with_cell g i y) whole (with_cell-whole g i y whole) refl k lt i b (get_or i k 0) (InBox-get g.lengths i k b lt) y
-      (ap (cell (with_cell g i y)) (set-get_or i k 0) ∙ with_cell-here g i y whole b)
-      (λ j ne. with_cell-elsewhere g i (set i k j) y (λ q. ne (sym (get_or-set_same i k j 0 (omega (arith, many, lt))) ∙ ap (λ l. get_or l k 0) q)))
-
 -- arrays that agree along a lane have it in common
 pub lane-kept : {A : Type 0} (g h : Grid A) (k : ℕ) (js : List ℕ) → g.lengths ≡ h.lengths → k ≤ length js → ((is : List ℕ) → remove is k ≡ js → cell g is ≡ cell h is) → lane g k js ≡ lane h k js
 lane-kept g h k js lengths le same = tabulate-same (get_or g.lengths k 0 ∷ []) (get_or h.lengths k 0 ∷ []) (λ is. cell g (insert js k (get_or is 0 0))) (λ is. cell h (insert js k (get_or is 0 0)))
@@ -123,62 +114,6 @@ module _ {A B : Type 0} (gives : B → A → B × A → Type 0) (init : B) where
           let all : length (a.given ++ (z ∷ zs)) ≡ length cells = ap length n in
           let at = a.at in
           absurd (omega (arith, many, all, at, full))
-
-  -- a lane of which the cells before i are replaced
-  module _ (old : Grid A) (k : ℕ) (js : List ℕ) where
-    pub record LaneState (v : B) (a : Grid A) (i : ℕ) (idx : List ℕ) : Type 0 where
-      pub lengths : a.lengths ≡ old.lengths
-      pub whole : IsGrid a
-      pub inside : InBox old.lengths idx
-      pub own : remove idx k ≡ js
-      pub along : Along (lane old k js).cells v (lane a k js).cells i
-      pub others : (is : List ℕ) → remove is k ≢ js → cell a is ≡ cell old is
-
-    pub Lane-start : (idx : List ℕ) → IsGrid old → InBox old.lengths idx → remove idx k ≡ js → LaneState init old 0 idx
-    Lane-start idx whole inside own = record { lengths = refl; whole = whole; inside = inside; own = own; along = Along-start (lane old k js).cells; others = λ is ne. refl }
-
-    module _ (lt : k < length old.lengths) {v : B} {a : Grid A} {i : ℕ} {idx : List ℕ} (s : LaneState v a i idx) where
-      lt-now : k < length a.lengths
-      lt-now = subst (λ ns. k < length ns) (sym s.lengths) lt
-
-      inside-now : InBox a.lengths idx
-      inside-now = subst (λ ns. InBox ns idx) (sym s.lengths) s.inside
-
-      module _ (below : i < get_or old.lengths k 0) where
-        below-now : i < get_or a.lengths k 0
-        below-now = subst (λ ns. i < get_or ns k 0) (sym s.lengths) below
-
-        -- the index list of its cell i
-        pub Lane-within : InBox a.lengths (set idx k i)
-        Lane-within = InBox-set a.lengths idx k i inside-now below-now
-
-        here : slice_get (lane a k js).cells i ≡ cell a (set idx k i)
-        here = ap (λ ls. slice_get (lane a k ls).cells i) (sym s.own) ∙ lane-cell a s.whole k lt-now idx inside-now i below-now
-
-        pub Lane-asks : (x : A) → cell a (set idx k i) ≡ Some x → (can : B → A → Type 0) → MayScan gives can init (lane old k js).cells → can v x
-        Lane-asks x e can may = Along-asks s.along (here ∙ e) can may
-
-        pub Lane-next : (x y : A) (w : B) (new : Grid A) → cell a (set idx k i) ≡ Some x → gives v x (w, y) → new ≡ with_cell a (set idx k i) y → LaneState w new (i + 1) (set idx k i)
-        Lane-next x y w new e given is-new =
-            let many = InBox-length a.lengths idx inside-now in
-            let place : get_or (set idx k i) k 0 ≡ i = get_or-set_same idx k i 0 (omega (arith, many, lt-now)) in
-            let own : remove (set idx k i) k ≡ js = remove-set idx k i ∙ s.own in
-            let written = lane-written a s.whole k lt-now (set idx k i) Lane-within y in
-            let cells : (lane new k js).cells ≡ set (lane a k js).cells i y =
-            ap (λ h. (lane h k js).cells) is-new ∙ (ap (λ ls. (lane (with_cell a (set idx k i) y) k ls).cells) (sym own) ∙ (written ∙ (ap (λ ls. set (lane a k ls).cells (get_or (set idx k i) k 0) y) own ∙ ap (λ p. set (lane a k js).cells p y) place))) in
-            record {
-              lengths = ap (λ h. h.lengths) is-new ∙ s.lengths;
-              whole = subst IsGrid (sym is-new) (with_cell-whole a (set idx k i) y s.whole);
-              inside = InBox-set old.lengths idx k i s.inside below;
-              own = own;
-              along = subst (λ l. Along (lane old k js).cells w l (i + 1)) (sym cells) (Along-next s.along (here ∙ e) w y given);
-              others = λ is ne. ap (λ h. cell h is) is-new ∙ (with_cell-elsewhere a (set idx k i) is y (λ q. ne (ap (λ l. remove l k) q ∙ own)) ∙ s.others is ne);
-            }
-
-      pub Lane-end : i ≡ get_or old.lengths k 0 → ScansTo gives init (lane old k js).cells (lane a k js).cells
-      Lane-end full =
-          let long : length (lane a k js).cells ≡ get_or a.lengths k 0 = ap (λ ls. length (lane a k ls).cells) (sym s.own) ∙ lane-length a s.whole k lt-now idx inside-now in
-          Along-end s.along (full ∙ (ap (λ ns. get_or ns k 0) (sym s.lengths) ∙ sym long))
 
 -- the index lists of the first cells of lanes along an axis
 module _ (ns : List ℕ) (k m : ℕ) (lt : k < length ns) (one : m ≤ 1) (most : m ≤ get_or ns k 0) where
@@ -304,6 +239,9 @@ module _ {A B : Type 0} (gives : B → A → B × A → Type 0) (init : B) (old 
 
     inside : InBox old.lengths s
     inside = first-inside old.lengths k m lt one most s (first-here old.lengths k m lt one most l.done s rest parts-now)
+
+    pub Lanes-first : get_or s k 0 ≡ 0
+    Lanes-first = first-zero old.lengths k m lt one most s (first-here old.lengths k m lt one most l.done s rest parts-now)
 
     lane-now : lane a k (remove s k) ≡ lane old k (remove s k)
     lane-now = lane-kept a old k (remove s k) l.lengths (short-enough old.lengths k m lt one most l.done s rest parts-now)

@@ -1,17 +1,19 @@
 //! Scans of the lanes of an array, in place: a value goes along each lane, and each cell is replaced on the way.
 
-ghost use Rattle.std.specs.Prelude.{◌≡◌, ◌≢◌, ◌⊎◌, ◌<◌, ℕ, List, [], Some, length, remove, slice_index};
+ghost use Rattle.std.specs.Prelude.{◌≡◌, ◌≢◌, ◌⊎◌, ◌<◌, ℕ, Contains, List, [], Some, filter_map, length, remove, slice_index};
 ghost use Rattle.ndarray.specs.Grid.{IsGrid, cell};
 ghost use Rattle.ndarray.specs.Index.{InBox};
 ghost use Rattle.ndarray.specs.Scans.{MayScan, MayScanLanes, ScansLanes, ScansTo, can_step, step_gives};
 ghost use Rattle.ndarray.specs.Subviews.{lane};
 ghost use Rattle.ndarray.specs.Writes.{with_cell};
+ghost use Rattle.ndarray.specs.places.ElementPlaces.{AreDistinctPlaces};
 
 use crate::base::array::ArrayBase;
 use crate::base::axis::Axis;
 use crate::base::dimension::Lengths;
 use crate::base::storage::DataMut;
 use crate::order::{Order, Walk};
+use crate::places::place_rows::PlaceRow;
 use crate::subviews::lane_tiles::{are_tiles_faster, scan_by_tiles};
 use std::mem::size_of_val;
 
@@ -92,17 +94,41 @@ fn scan_lane<A: Copy, S: DataMut<Elem = A>, D: Lengths, B: Copy, F: Fn(B, A) -> 
     requires whole { IsGrid array.old }
     requires len { len ≡ slice_index array.old.lengths axis }
     requires within { InBox array.old.lengths (D.numbers first.now) }
+    requires first { slice_index (D.numbers first.now) axis ≡ 0 }
     requires callable { MayScan (step_gives F.Fn f.now) (can_step F.Fn f.now) init (lane array.old axis (remove (D.numbers first.now) axis)).cells }
     ensures lengths { array.new.lengths ≡ array.old.lengths }
     ensures whole { IsGrid array.new }
     ensures scan { ScansTo (step_gives F.Fn f.now) init (lane array.old axis (remove (D.numbers first.now) axis)).cells (lane array.new axis (remove (D.numbers first.now) axis)).cells }
     ensures others { (is : List ℕ) → remove is axis ≢ remove (D.numbers first.now) axis → cell array.new is ≡ cell array.old is }
 {
-    let mut index = first.copied();
+    let places = PlaceRow {
+        place: array.layout.place(first),
+        stride: array.layout.stride(axis),
+        left: len,
+    };
+    scan_places(&mut array.storage, places, init, f);
+}
+
+/// Scans the elements at some places, one after another.
+#[inline(always)]
+fn scan_places<A: Copy, S: DataMut<Elem = A>, B: Copy, F: Fn(B, A) -> (B, A)>(
+    storage: &mut S,
+    places: PlaceRow,
+    init: B,
+    f: &F,
+)
+    requires distinct { AreDistinctPlaces (S.at storage.old) places }
+    requires callable { MayScan (step_gives F.Fn f.now) (can_step F.Fn f.now) init (filter_map (S.at storage.old) places) }
+    ensures distinct { AreDistinctPlaces (S.at storage.new) places }
+    ensures scan { ScansTo (step_gives F.Fn f.now) init (filter_map (S.at storage.old) places) (filter_map (S.at storage.new) places) }
+    ensures kept { (p : ℕ) → (Contains places p → ⊥) → S.at storage.new p ≡ S.at storage.old p }
+{
+    let mut places = places;
     let mut value = init;
-    for k in 0..len {
-        index.set_axis(axis, k);
-        value = scan_step(array, &index, value, f);
+    while let Some(place) = places.next() {
+        let (next, new) = f(value, *storage.element(place));
+        *storage.element_mut(place) = new;
+        value = next;
     }
 }
 

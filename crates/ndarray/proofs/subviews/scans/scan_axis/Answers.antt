@@ -2,7 +2,7 @@ use Rattle.std.proofs.Common.{◌∙◌, ◌<◌, min, length, get_or, set, ap, 
 use Rattle.ndarray.specs.Index.{row_order}
 use Rattle.ndarray.specs.Limits.{IsWithinLimit}
 use Rattle.ndarray.specs.Scans.{can_step, step_gives}
-use Rattle.ndarray.proofs.cells.Scans.{at-most, at-most-one, is-one, set-smaller, Lanes-start, Lanes-within, Lanes-asks, Lanes-next, Lanes-end}
+use Rattle.ndarray.proofs.cells.Scans.{at-most, at-most-one, is-one, set-smaller, Lanes-start, Lanes-within, Lanes-asks, Lanes-first, Lanes-next, Lanes-end}
 use Rattle.ndarray.proofs.subviews.scans.scan_axis.Goals as goal
 
 pub new-first-items-requires : goal.new-first-items-requires
@@ -29,6 +29,11 @@ pub scan_lane-requires-clause-within : goal.scan_lane-requires-clause-within
 scan_lane-requires-clause-within g c =
     let len = c.axis-len.ensures ∙ ap (λ ns. get_or ns c.args.axis.0 0) c.raw_dim-dim.ensures.lengths in
     Lanes-within (step_gives g.F.Fn c.args.f.now) c.args.init c.args.array.now c.args.axis.0 (min c.axis-len.result 1) c.requires.axis (at-most-one c.axis-len.result) (at-most c.axis-len.result _ len) c.loop-first.invariant c.in-Some.ensures.steps
+
+pub scan_lane-requires-clause-first : goal.scan_lane-requires-clause-first
+scan_lane-requires-clause-first g c =
+    let len = c.axis-len.ensures ∙ ap (λ ns. get_or ns c.args.axis.0 0) c.raw_dim-dim.ensures.lengths in
+    Lanes-first (step_gives g.F.Fn c.args.f.now) c.args.init c.args.array.now c.args.axis.0 (min c.axis-len.result 1) c.requires.axis (at-most-one c.axis-len.result) (at-most c.axis-len.result _ len) c.loop-first.invariant c.in-Some.ensures.steps
 
 pub scan_lane-requires-clause-callable : goal.scan_lane-requires-clause-callable
 scan_lane-requires-clause-callable g c =
