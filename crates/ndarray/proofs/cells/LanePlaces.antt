@@ -1,11 +1,10 @@
 -- The places of the cells of a lane, one after another.
-use Rattle.std.proofs.Common.{◌≡◌, ◌≢◌, ◌+◌, ◌<◌, ◌≤◌, ℕ, zero, suc, List, [], ◌∷◌, ◌⊎◌, Option, Some, length, get_or, filter_map, map, set, remove, refl, sym, ◌∙◌, ap, subst, arith, inl, inr}
-use Rattle.std.specs.Prelude.{All, Contains, IsTrue, slice_get}
+use Rattle.std.proofs.Common.{◌≡◌, ◌≢◌, ◌+◌, ◌<◌, ℕ, zero, suc, List, Option, length, get_or, filter_map, set, remove, sym, ◌∙◌, ap, subst, arith, inl, inr}
+use Rattle.std.specs.Prelude.{All, Contains, IsTrue}
 use Rattle.std.specs.Option.{is_some}
 use Rattle.std.proofs.lemmas.List.{get_or-map, get_or-set_same}
 use Rattle.ndarray.specs.Grid.{Grid, IsGrid, cell}
 use Rattle.ndarray.specs.Index.{InBox}
-use Rattle.ndarray.specs.Scans.{MayScan, ScansTo}
 use Rattle.ndarray.specs.Subviews.{lane}
 use Rattle.ndarray.specs.base.Places.{Reaches, grid_at, place}
 use Rattle.ndarray.specs.base.Ranks.{row_at, row_from}
@@ -20,7 +19,7 @@ use Rattle.ndarray.proofs.cells.LaneSteps.{InBox-or_not}
 use Rattle.ndarray.proofs.lists.Elements.{length-filter_map_all, same_from_slice_get, slice_get-filter_map_all, some-of}
 use Rattle.ndarray.proofs.lists.Parts.{Contains-or_not}
 use Rattle.ndarray.proofs.strides.NestedPlaces.{Reaches-apart}
-use Rattle.ndarray.proofs.strides.Reach.{cell-at, length-cells_at}
+use Rattle.ndarray.proofs.strides.Reach.{cell-at}
 use Rattle.ndarray.proofs.strides.Rows.{length-places_from, length-row_from, row-places}
 
 -- the index list that comes j after the first of a row

@@ -1,11 +1,11 @@
 -- Scans of the elements at some places, and of the lane whose cells lie there.
-use Rattle.std.proofs.Common.{◌≡◌, ◌≢◌, ◌+◌, ◌<◌, ◌≤◌, ℕ, List, [], ◌∷◌, ◌++◌, ◌⊎◌, Option, None, Some, length, get_or, filter_map, set, refl, sym, ◌∙◌, ap, subst, arith, inl, inr, append_assoc, length-append}
-use Rattle.std.specs.Prelude.{All, AllPairs, Contains, IsTrue, slice_get}
+use Rattle.std.proofs.Common.{◌≡◌, ◌≢◌, ◌+◌, ◌<◌, ℕ, List, [], ◌∷◌, ◌++◌, Option, Some, length, get_or, filter_map, set, refl, sym, ◌∙◌, ap, subst, arith, inl, inr, append_assoc, length-append}
+use Rattle.std.specs.Prelude.{All, Contains, IsTrue, slice_get}
 use Rattle.std.specs.Option.{is_some}
 use Rattle.std.proofs.Math.Seq.{get_or-append_seam}
 use Rattle.std.proofs.lemmas.Bool.{cases_eq}
 use Rattle.std.proofs.lemmas.Grind.{get_or_default_zero}
-use Rattle.std.proofs.lemmas.List.{get_or_append_left, length-set}
+use Rattle.std.proofs.lemmas.List.{length-set}
 use Rattle.ndarray.specs.Scans.{MayScan, ScansTo}
 use Rattle.ndarray.specs.base.Laws.{slice_set-here, slice_set-elsewhere}
 use Rattle.ndarray.specs.places.ElementPlaces.{AreDistinctPlaces}

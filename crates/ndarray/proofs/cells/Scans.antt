@@ -17,15 +17,14 @@ use Rattle.ndarray.specs.Subviews.{lane, lanes_along, lanes_of}
 use Rattle.ndarray.specs.Writes.{with_cell}
 use Rattle.ndarray.specs.base.Laws.{slice_set-here, slice_set-elsewhere}
 use Rattle.ndarray.specs.declared.base.shape.Order.TheVariants.{RowMajor}
-use Rattle.ndarray.proofs.boxes.Boxes.{InBox-get, InBox-length, InBox-set, InBox-set_both}
-use Rattle.ndarray.proofs.boxes.LaneIndices.{remove-set}
+use Rattle.ndarray.proofs.boxes.Boxes.{InBox-get, InBox-length, InBox-set_both}
 use Rattle.ndarray.proofs.boxes.Orders.{box_in-within, row_order-is}
 use Rattle.ndarray.proofs.boxes.Sizes.{nonzero-smaller}
 use Rattle.ndarray.proofs.callers.Collecting.{array_by-at, lanes_of-some}
 use Rattle.ndarray.proofs.cells.Assignments.{here-first, here-within}
 use Rattle.ndarray.proofs.cells.Cells.{array_by-cell, cell-inside, tabulate-same}
 use Rattle.ndarray.proofs.cells.LaneCells.{lane-among, lane-cell, lane-length, no-lane}
-use Rattle.ndarray.proofs.cells.Writes.{with_cell-whole, with_cell-here, with_cell-elsewhere}
+use Rattle.ndarray.proofs.cells.Writes.{with_cell-whole, with_cell-here}
 use Rattle.ndarray.proofs.lists.Elements.{filled-slice, filter_map-from_map, insert-remove, remove-inserted, same_from_slice_get}
 use Rattle.ndarray.proofs.views.Items.{InBox-insert}
 
