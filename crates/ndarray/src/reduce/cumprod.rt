@@ -1,8 +1,9 @@
 //! Running products along an axis.
 
-ghost use Rattle.std.specs.Prelude.{◌≡◌, ◌≢◌, ◌<◌, ◌≤◌, ◌-◌, ◌++◌, List, ℕ, length, slice_get, IfOk, IsOk, Some};
+ghost use Rattle.std.specs.Prelude.{◌≡◌, ◌≢◌, ◌<◌, ◌≤◌, ◌-◌, ◌++◌, List, ℕ, filter_map, length, slice_get, IfOk, IsOk, Some};
 ghost use Rattle.ndarray.specs.AlongAxis.{CanCumulate, Cumulates};
 ghost use Rattle.ndarray.specs.Elementwise.{CanMap};
+ghost use Rattle.ndarray.specs.Grid.{cell};
 ghost use Rattle.ndarray.specs.Index.{size};
 ghost use Rattle.ndarray.specs.Subviews.{lanes_of};
 ghost use Rattle.ndarray.specs.base.Ranks.{row_from};
@@ -14,6 +15,7 @@ use crate::base::builder::ArrayBuilder;
 use crate::base::dimension::Lengths;
 use crate::base::layout::default_strides;
 use crate::base::storage::Data;
+use crate::base::strided::Strided;
 use crate::order::rows::BoxRows;
 use crate::order::{Order, Row};
 use std::alloc::{AllocError, Global};
@@ -173,8 +175,36 @@ fn with_other_row<A: Copy + Mul<A, Output = A>, D: Lengths>(
     ensures order { result.order ≡ products.order }
     ensures pushed { (rest : List (List ℕ)) → RunningProducts A.mul_gives array.now axis products.cells (row_from (D.numbers row.now.first) row.now.axis row.now.count ++ rest) → RunningProducts A.mul_gives array.now axis result.cells rest }
 {
+    let cells = array.cells_along(&row.first, row.axis, row.count);
+    match cells.side_by_side() {
+        Some(slice) => with_cells(products, array, axis, step, row, Strided::over(slice)),
+        None => with_cells(products, array, axis, step, row, cells),
+    }
+}
+
+/// The same of the row's cells. Where they lie side by side their step is a constant, so that the loop takes vectors of them.
+#[inline(always)]
+fn with_cells<A: Copy + Mul<A, Output = A>, D: Lengths>(
+    products: ArrayBuilder<A, D>,
+    array: &ArrayView<'_, A, D>,
+    axis: usize,
+    step: usize,
+    row: &Row<D>,
+    cells: Strided<'_, A>,
+) -> ArrayBuilder<A, D>
+    requires step { AreBlocks array.now axis step }
+    requires defined { CanMap (λ lane. CanCumulate A.can_mul A.mul_gives lane.cells) (lanes_of array.now axis) }
+    requires lengths { products.lengths ≡ array.now.lengths }
+    requires other { row.now.axis ≢ axis }
+    requires cells { cells ≡ filter_map (cell array.now) (row_from (D.numbers row.now.first) row.now.axis row.now.count) }
+    requires some { 0 < row.now.count }
+    requires next { (rest : List (List ℕ)) × RunningProducts A.mul_gives array.now axis products.cells (row_from (D.numbers row.now.first) row.now.axis row.now.count ++ rest) }
+    ensures lengths { result.lengths ≡ products.lengths }
+    ensures order { result.order ≡ products.order }
+    ensures pushed { (rest : List (List ℕ)) → RunningProducts A.mul_gives array.now axis products.cells (row_from (D.numbers row.now.first) row.now.axis row.now.count ++ rest) → RunningProducts A.mul_gives array.now axis result.cells rest }
+{
     let index = row.first.axis(axis);
-    let mut cells = array.cells_along(&row.first, row.axis, row.count);
+    let mut cells = cells;
     let mut products = products;
     while let Some(cell) = cells.next() {
         let product = next_product(cell, index, &products, step);

@@ -1,7 +1,7 @@
 use Rattle.std.proofs.Common.{◌≡◌, length}
 use Rattle.ndarray.specs.base.Ranks.{row_from}
 use Rattle.ndarray.proofs.cells.ProductRows.{AcrossRow}
-use Rattle.ndarray.proofs.reduce.cumprod.with_other_row.Given as goal
+use Rattle.ndarray.proofs.reduce.cumprod.with_cells.Given as goal
 
 abbrev pub invariant-loop-cell : goal.invariant-loop-cell
 invariant-loop-cell g l = record {
