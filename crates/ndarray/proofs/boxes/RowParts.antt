@@ -33,7 +33,7 @@ row_from-append (suc m) n is axis =
     (row_from-append m n (row_at is axis 1) axis
     ∙ ap (λ js. row_from (row_at is axis 1) axis m ++ row_from js axis n) (row_at-more is axis m))
 
--- and a middle part stands between a first one and a last one
+-- and a middle part is between a first one and a last one
 pub row_from-middle : (from n m : ℕ) (is : List ℕ) (axis : ℕ) → from + n ≤ m
     → row_from is axis m ≡ row_from is axis from ++ (row_from (row_at is axis from) axis n ++ row_from (row_at is axis (from + n)) axis (m - (from + n)))
 row_from-middle from n m is axis fits =

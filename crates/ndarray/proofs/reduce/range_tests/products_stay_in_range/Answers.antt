@@ -1,4 +1,4 @@
-use Rattle.std.proofs.Common.{rules, ◌++◌, ◌∙◌, ap, arith, filter_map, map, subst, sym}
+use Rattle.std.proofs.Common.{[], rules, ◌++◌, ◌∙◌, ap, arith, filter_map, map, subst, sym}
 use Rattle.ndarray.specs.Grid.{cell}
 use Rattle.ndarray.specs.Integers.{int_products}
 use Rattle.ndarray.specs.SignedSums.{ProductsApart}
@@ -10,6 +10,7 @@ use Rattle.ndarray.proofs.boxes.RowProducts.{products-by_rows, row_products, row
 use Rattle.ndarray.proofs.lists.Decisions.{says_no}
 use Rattle.ndarray.proofs.runs.Rows.{HasRows-rows_in}
 use Rattle.ndarray.proofs.strides.Rows.{length-row_from}
+use Rattle.ndarray.proofs.reduce.range_tests.products_stay_in_range.Goals.{After-drop-whole-2}
 use Rattle.ndarray.proofs.reduce.range_tests.products_stay_in_range.Goals as goal
 
 pub loop-row-init : goal.loop-row-init
@@ -76,24 +77,20 @@ loop-row-preserved g c =
       ),
     )
 
-pub returns-clause-magnitudes : goal.returns-clause-magnitudes
-returns-clause-magnitudes g c =
+-- all products are added
+ended : (g : _) (c : After-drop-whole-2 g) → ProductsApart g.A.Number.fits (products_of int_products g.A.Number.value c.args.x.now.cells c.args.y.now.cells) [] (g.A.Number.value c.loop-row.sums.up) (g.A.Number.value c.loop-row.sums.down)
+ended g c =
     let v = g.A.Number.value in
-    let fits = g.A.Number.fits in
     let x = c.args.x.now in
     let y = c.args.y.now in
-    let products = products_of int_products v x.cells y.cells in
-    let ended = subst (λ rs. ProductsApart fits products (joined (map (row_products int_products v x y) rs)) (v c.loop-row.sums.up) (v c.loop-row.sums.down)) c.in_default.ensures.0 c.loop-row.invariant.1.1 in
-    let when = c.joined_in_range.ensures.magnitudes products ended in
+    subst (λ rs. ProductsApart g.A.Number.fits (products_of int_products v x.cells y.cells) (joined (map (row_products int_products v x y) rs)) (v c.loop-row.sums.up) (v c.loop-row.sums.down)) c.in_default.ensures.0 c.loop-row.invariant.1.1
+
+pub returns-clause-magnitudes : goal.returns-clause-magnitudes
+returns-clause-magnitudes g c =
+    let when = c.joined_in_range.ensures.magnitudes _ (ended g c) in
     search (rules, when, c.is_some.ensures)
 
 pub returns-clause-selections : goal.returns-clause-selections
 returns-clause-selections g c =
-    let v = g.A.Number.value in
-    let fits = g.A.Number.fits in
-    let x = c.args.x.now in
-    let y = c.args.y.now in
-    let products = products_of int_products v x.cells y.cells in
-    let ended = subst (λ rs. ProductsApart fits products (joined (map (row_products int_products v x y) rs)) (v c.loop-row.sums.up) (v c.loop-row.sums.down)) c.in_default.ensures.0 c.loop-row.invariant.1.1 in
-    let summable = c.joined_in_range.ensures.selections products ended in
+    let summable = c.joined_in_range.ensures.selections _ (ended g c) in
     search (rules, summable, c.is_some.ensures)
