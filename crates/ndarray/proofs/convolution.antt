@@ -1,6 +1,7 @@
 -- Convolutions: their laws, and how they go over windows.
 pub mod Cauchy
 pub mod Examples
+pub mod Exchanged
 pub mod Filters
 pub mod Full
 pub mod KernelSums

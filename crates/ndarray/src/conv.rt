@@ -256,7 +256,8 @@ impl<'a, 'k, A: IntegerElem, D: Lengths> ItemCall<ArrayView<'a, A, D>> for Windo
 ///
 /// Requires, where both have cells, that n + 2m - 2 is at most `isize::MAX`; check with [`conv_full_ok`]. Requires too that at each s every
 /// selection of the products has its sum in range, for which [`full_fits`] is enough. The error is allocation failure; where one of
-/// them has no cells there is none. Besides the result, a copy of `x` between m - 1 zeros on each side is allocated.
+/// them has no cells there is none. Besides the result, a copy of the longer vector between zeros is allocated, on each side one fewer than
+/// the other has cells.
 ///
 /// ```
 /// // x = [1, 2, 3], y = [1, 1]
@@ -271,12 +272,31 @@ pub fn conv_full<A: LinalgScalar, S: Data<Elem = A>, S2: Data<Elem = A>>(
     requires sums { HasFullSumsInRange A.Valued x.now.cells y.now.cells }
     ensures { MakesFullConvolution A.Valued x.now.cells y.now.cells result }
 {
+    let x = x.view();
+    let y = y.view();
+    if x.len() < y.len() {
+        convolution_of_longer(alloc, &y, &x)
+    } else {
+        convolution_of_longer(alloc, &x, &y)
+    }
+}
+
+/// The same of two vectors of which the first is mostly the longer one: each of its cells between zeros is multiplied with each of the second.
+fn convolution_of_longer<A: LinalgScalar>(
+    alloc: Global,
+    x: &ArrayView<'_, A, Ix1>,
+    y: &ArrayView<'_, A, Ix1>,
+) -> Result<Array<A, Ix1>, AllocError>
+    requires limit { CanPad (length x.now.cells) (length y.now.cells) }
+    requires sums { HasFullSumsInRange A.Valued x.now.cells y.now.cells }
+    ensures { MakesFullConvolution A.Valued x.now.cells y.now.cells result }
+{
     let _whole = y.raw_dim();
     let m = y.len();
     if x.len() == 0 || m == 0 {
         return Array::zeros(alloc, 0);
     }
-    let padded = between_zeros(alloc, &x.view(), m - 1)?;
+    let padded = between_zeros(alloc, x, m - 1)?;
     conv_valid(alloc, &padded, y)
 }
 

@@ -1,30 +1,19 @@
-use Rattle.std.proofs.Common.{◌≡◌, ◌-◌, ◌∙◌, ap, arith, inl, inr, length, refl, sym}
-use Rattle.ndarray.specs.Convolution.{padded}
-use Rattle.ndarray.specs.Grid.{one_axis}
-use Rattle.ndarray.proofs.callers.Joining.{one_axis-is}
-use Rattle.ndarray.proofs.convolution.Padding.{none-made, padded-made, padded-sums}
+use Rattle.std.proofs.Common.{subst, sym}
+use Rattle.ndarray.specs.Convolution.{HasFullSumsInRange, MakesFullConvolution}
+use Rattle.ndarray.proofs.convolution.Exchanged.{made-exchanged, sums-exchanged}
 use Rattle.ndarray.proofs.conv.conv_full.Goals as goal
 
-pub conv_valid-requires-clause-sums : goal.conv_valid-requires-clause-sums
-conv_valid-requires-clause-sums g c κs lives =
+pub convolution_of_longer-requires-clause-sums : goal.convolution_of_longer-requires-clause-sums
+convolution_of_longer-requires-clause-sums g c κs lives =
     let v = g.A.Valued in
-    let xs = c.args.x.now.cells in
-    let ys = c.args.y.now.cells in
-    let is_padded : c.in_ok-padded.padded ≡ one_axis (padded g.A.Zero.zero (length ys - 1) xs) = c.in_ok-padded.ensures ∙ (ap (λ k. one_axis (padded g.A.Zero.zero (k - 1) c.view.result.cells)) c.len-m.ensures.cells ∙ ap (λ w. one_axis (padded g.A.Zero.zero (length ys - 1) w.cells)) c.view.ensures.same) in
-    padded-sums v g.met.A.LinalgScalar.absorbs g.A.Zero.zero g.met.A.SumElem.zero_meaning xs ys (omega (arith, c.len.ensures.cells, c.if-len-eq0.false)) (omega (arith, c.len-m.ensures.cells, c.if-m-eq0.false)) c.in_ok-padded.padded c.args.y.now is_padded
-    (one_axis-is c.args.y.now c.raw_dim-whole.ensures.axes c.raw_dim-whole.ensures.whole) c.requires.sums
+    subst (λ w. HasFullSumsInRange v w.cells c.view-x.result.cells) (sym c.view-y.ensures.same)
+    (subst (λ w. HasFullSumsInRange v c.args.y.now.cells w.cells) (sym c.view-x.ensures.same)
+    (sums-exchanged v c.args.x.now.cells c.args.y.now.cells c.requires.sums))
 
-pub returns : goal.returns
-returns g c =
+pub returns-then-len : goal.returns-then-len
+returns-then-len g c =
     let v = g.A.Valued in
-    let xs = c.args.x.now.cells in
-    let ys = c.args.y.now.cells in
-    let is_padded : c.in_ok-padded.padded ≡ one_axis (padded g.A.Zero.zero (length ys - 1) xs) = c.in_ok-padded.ensures ∙ (ap (λ k. one_axis (padded g.A.Zero.zero (k - 1) c.view.result.cells)) c.len-m.ensures.cells ∙ ap (λ w. one_axis (padded g.A.Zero.zero (length ys - 1) w.cells)) c.view.ensures.same) in
-    padded-made v g.met.A.LinalgScalar.absorbs g.A.Zero.zero g.met.A.SumElem.zero_meaning xs ys (omega (arith, c.len.ensures.cells, c.if-len-eq0.false)) (omega (arith, c.len-m.ensures.cells, c.if-m-eq0.false)) c.in_ok-padded.padded c.args.y.now is_padded
-    (one_axis-is c.args.y.now c.raw_dim-whole.ensures.axes c.raw_dim-whole.ensures.whole) c.conv_valid.result c.conv_valid.ensures
-
-pub returns-then-len-eq0 : goal.returns-then-len-eq0
-returns-then-len-eq0 g c =
-    none-made g.A.Valued c.args.x.now.cells c.args.y.now.cells _
-    (elim c.then-len-eq0.either [ inl x ↦ inl (sym c.len.ensures.cells ∙ x) | inr y ↦ inr (sym c.len-m.ensures.cells ∙ y.1) ])
-    c.zeros.ensures.lengths c.zeros.ensures.whole (c.zeros.ensures.empty refl)
+    let r = c.convolution_of_longer.result in
+    made-exchanged v c.args.x.now.cells c.args.y.now.cells r
+    (subst (λ w. MakesFullConvolution v w.cells c.args.x.now.cells r) c.view-y.ensures.same
+    (subst (λ w. MakesFullConvolution v c.view-y.result.cells w.cells r) c.view-x.ensures.same c.convolution_of_longer.ensures))
