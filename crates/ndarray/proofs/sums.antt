@@ -5,6 +5,7 @@ pub mod IntegerSelections
 pub mod MagnitudeSums
 pub mod NonzeroProducts
 pub mod Rearrangements
+pub mod RowPairs
 pub mod RowSums
 pub mod RunningRuns
 pub mod RunningSum

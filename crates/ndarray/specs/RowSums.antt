@@ -31,3 +31,13 @@ module _ {A : Type 0} (e : ValuedGhosts A) where
   pub record AddsScaledRow (x : A) (ys old new : List A) : Type 0 where
     pub same : length new ≡ length old
     pub each : (j : ℕ) (d : A) → j < length ys → AddsProduct e x (slice_index_or old j d) (slice_index_or ys j d) (slice_index_or new j d)
+
+  -- the same, and then y times the element of ys may be added to what the sum became
+  pub record CanAddTwoRows (x y : A) (sums xs ys : List A) : Type 0 where
+    pub first : CanAddScaledRow x sums xs
+    pub same : length sums ≡ length ys
+    pub second : (j : ℕ) (d m : A) → j < length ys → AddsProduct e x (slice_index_or sums j d) (slice_index_or xs j d) m → CanAddProduct e y m (slice_index_or ys j d)
+
+  -- both were added, the one after the other
+  abbrev pub AddsTwoRows : A → A → List A → List A → List A → List A → Type 0
+  AddsTwoRows x y xs ys old new = (between : List A) × AddsScaledRow x xs old between × AddsScaledRow y ys between new

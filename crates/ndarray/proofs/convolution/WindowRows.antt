@@ -159,7 +159,7 @@ module _ {A : Type 0} (e : ValuedGhosts A) where
 
         pub can-add : CanAddScaledRow e x sums ys
         can-add =
-            row-can_add e x (length row) (length (row_order h.lengths)) so_far.count (product_in row) _ sums ys so_far.values met products at.0
+            row-can_add e x (length row) so_far.count (product_in row) _ sums ys so_far.values met products (length (row_order h.lengths)) at.0
             (λ i lt.
             let b = within i [] lt in
             subst (IsSummable e.addition e.InRange) (products-are can.whole can.shapes.as_many whole_h (get_or row i []) b ∙ map-below (product_at (get_or row i [])) (row_order h.lengths) []) (can.sums (get_or row i []) b))
@@ -169,7 +169,7 @@ module _ {A : Type 0} (e : ValuedGhosts A) where
           count = so_far.count + 1;
           most = omega (arith, at.0);
           left_is = sym at.2;
-          values = row-added e x (length row) (length (row_order h.lengths)) so_far.count (product_in row) _ sums ys so_far.values met products new added;
+          values = row-added e x (length row) so_far.count (product_in row) _ sums ys so_far.values met products new added;
         }
 
       -- with none left

@@ -91,37 +91,46 @@ first-left (x ∷ xs) (suc i) y rest e = let (lt, here, left) = first-left xs i 
 -- ---- one row more
 
 module _ {A : Type 0} (e : ValuedGhosts A) (x : A) where
+  -- a sum of the first i values, and the next one as a product of x
+  module _ (i : ℕ) (f : ℕ → e.Carrier) (sum y : A) (so_far : e.meaning sum ≡ total e.addition (values_below i f)) (product : e.multiplication.op (e.meaning x) (e.meaning y) ≡ f i) where
+    pub next-can_add : (k : ℕ) → i < k → IsSummable e.addition e.InRange (values_below k f) → CanAddProduct e x sum y
+    next-can_add k lt can = (
+      subst e.InRange (sym product) (below-in_range e.addition e.InRange i k f lt can),
+      subst e.InRange (sym (ap (λ s. e.addition.op s (e.multiplication.op (e.meaning x) (e.meaning y))) so_far ∙ ap (e.addition.op (total e.addition (values_below i f))) product))
+          (below-added e.addition e.InRange i k f lt can),
+    )
+
+    pub next-added : (z : A) → AddsProduct e x sum y z → e.meaning z ≡ total e.addition (values_below (i + 1) f)
+    next-added z added =
+        let all : total e.addition (values_below (i + 1) f) ≡ e.addition.op (total e.addition (values_below i f)) (f i) = rw add-one (ap (total e.addition) (below-more i f) ∙ total-more e.addition (values_below i f) (f i)) in
+        added
+        ∙ (ap (λ s. e.addition.op s (e.multiplication.op (e.meaning x) (e.meaning y))) so_far
+        ∙ (ap (e.addition.op (total e.addition (values_below i f))) product ∙ sym all))
+
   -- the sums of n columns over the first i rows, where x and row i have their products there
-  module _ (n k i : ℕ) (f : ℕ → ℕ → e.Carrier) (h : ℕ → e.Carrier) (sums ys : List A)
+  module _ (n i : ℕ) (f : ℕ → ℕ → e.Carrier) (h : ℕ → e.Carrier) (sums ys : List A)
       (so_far : map e.meaning sums ≡ values_below n (λ j. total e.addition (values_below i (f j))))
       (row : map e.meaning ys ≡ values_below n h)
       (products : (j : ℕ) → j < n → e.multiplication.op (e.meaning x) (h j) ≡ f j i) where
-    pub row-can_add : i < k → ((j : ℕ) → j < n → IsSummable e.addition e.InRange (values_below k (f j))) → CanAddScaledRow e x sums ys
-    row-can_add lt can =
+    pub sum-at : (j : ℕ) (d : A) → j < n → e.meaning (get_or sums j d) ≡ total e.addition (values_below i (f j))
+    sum-at j d b = value-at e.meaning sums n (λ m. total e.addition (values_below i (f m))) j d so_far b
+
+    pub product-at : (j : ℕ) (d : A) → j < n → e.multiplication.op (e.meaning x) (e.meaning (get_or ys j d)) ≡ f j i
+    product-at j d b = ap (e.multiplication.op (e.meaning x)) (value-at e.meaning ys n h j d row b) ∙ products j b
+
+    pub row-can_add : (k : ℕ) → i < k → ((j : ℕ) → j < n → IsSummable e.addition e.InRange (values_below k (f j))) → CanAddScaledRow e x sums ys
+    row-can_add k lt can =
         let long = values-length e.meaning ys n h row in
         record {
           same = values-length e.meaning sums n _ so_far ∙ sym long;
-          each = λ j d below.
-              let b : j < n = subst (λ m. j < m) long below in
-              let product : e.multiplication.op (e.meaning x) (e.meaning (get_or ys j d)) ≡ f j i = ap (e.multiplication.op (e.meaning x)) (value-at e.meaning ys n h j d row b) ∙ products j b in
-              let sum = value-at e.meaning sums n (λ m. total e.addition (values_below i (f m))) j d so_far b in (
-                subst e.InRange (sym product) (below-in_range e.addition e.InRange i k (f j) lt (can j b)),
-                subst e.InRange (sym (ap (λ s. e.addition.op s (e.multiplication.op (e.meaning x) (e.meaning (get_or ys j d)))) sum ∙ ap (e.addition.op (total e.addition (values_below i (f j)))) product))
-                    (below-added e.addition e.InRange i k (f j) lt (can j b)),
-              );
+          each = λ j d below. let b : j < n = subst (λ m. j < m) long below in next-can_add i (f j) (get_or sums j d) (get_or ys j d) (sum-at j d b) (product-at j d b) k lt (can j b);
         }
 
     pub row-added : (new : List A) → AddsScaledRow e x ys sums new → map e.meaning new ≡ values_below n (λ j. total e.addition (values_below (i + 1) (f j)))
     row-added new added =
         let long = values-length e.meaning ys n h row in
         values-are e.meaning new n _ (added.same ∙ values-length e.meaning sums n _ so_far)
-        (λ j d b.
-        let product : e.multiplication.op (e.meaning x) (e.meaning (get_or ys j d)) ≡ f j i = ap (e.multiplication.op (e.meaning x)) (value-at e.meaning ys n h j d row b) ∙ products j b in
-        let sum = value-at e.meaning sums n (λ m. total e.addition (values_below i (f m))) j d so_far b in
-        let all : total e.addition (values_below (i + 1) (f j)) ≡ e.addition.op (total e.addition (values_below i (f j))) (f j i) = rw add-one (ap (total e.addition) (below-more i (f j)) ∙ total-more e.addition (values_below i (f j)) (f j i)) in
-        added.each j d (subst (λ m. j < m) (sym long) b)
-        ∙ (ap (λ s. e.addition.op s (e.multiplication.op (e.meaning x) (e.meaning (get_or ys j d)))) sum
-        ∙ (ap (e.addition.op (total e.addition (values_below i (f j)))) product ∙ sym all)))
+        (λ j d b. next-added i (f j) (get_or sums j d) (get_or ys j d) (sum-at j d b) (product-at j d b) (get_or new j d) (added.each j d (subst (λ m. j < m) (sym long) b)))
 
   -- ---- one place more of a row
 

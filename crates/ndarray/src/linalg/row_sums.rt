@@ -2,7 +2,7 @@
 
 ghost use Rattle.std.specs.Prelude.{◌≡◌, ◌+◌, ◌++◌, ◌<◌, ◌≤◌, length, map, replicate, slice_index};
 ghost use Rattle.std.specs.Vec.{vec_capacity};
-ghost use Rattle.ndarray.specs.RowSums.{AddsScaledRow, CanAddScaledRow, CanSumRow, row_sums, row_sums_to};
+ghost use Rattle.ndarray.specs.RowSums.{AddsScaledRow, AddsTwoRows, CanAddScaledRow, CanAddTwoRows, CanSumRow, row_sums, row_sums_to};
 
 use crate::base::array::ArrayView;
 use crate::base::axis::Axis;
@@ -64,7 +64,7 @@ pub(crate) fn push_zeros<A: LinalgScalar>(sums: &mut Vec<A>, many: usize)
     }
 }
 
-/// Adds to sums that are zero the products of a vector with each column of a matrix, row by row of the matrix.
+/// Adds to sums that are zero the products of a vector with each column of a matrix, two rows of the matrix at a time.
 pub(crate) fn add_rows<A: LinalgScalar>(
     sums: &mut [A],
     x: &ArrayView<'_, A, Ix1>,
@@ -76,11 +76,57 @@ pub(crate) fn add_rows<A: LinalgScalar>(
 {
     let (rows, _) = right.raw_dim().into_pattern();
     let mut numbers = cells_of(x.view());
-    for i in 0..rows {
+    let mut i = 0;
+    'pairs: while rows - i >= 2 {
+        let Some(number) = numbers.next() else {
+            unreachable!()
+        };
+        let Some(other) = numbers.next() else {
+            unreachable!()
+        };
+        let row = cells_of(right.index_axis(Axis(0), i));
+        let next = cells_of(right.index_axis(Axis(0), i + 1));
+        add_two_scaled(sums, *number, row, *other, next);
+        i += 2;
+    }
+    if i < rows {
         let Some(number) = numbers.next() else {
             unreachable!()
         };
         add_scaled(sums, *number, cells_of(right.index_axis(Axis(0), i)));
+    }
+}
+
+/// Adds to the sum at each place a number times the cell of a row, and another number times that of another row.
+fn add_two_scaled<A: LinalgScalar>(
+    sums: &mut [A],
+    x: A,
+    row: Strided<'_, A>,
+    y: A,
+    other: Strided<'_, A>,
+)
+    requires { CanAddTwoRows A.Valued x y sums.old row other }
+    ensures { AddsTwoRows A.Valued x y row.entry other.entry sums.old sums.new }
+{
+    if let Some(cells) = row.side_by_side() {
+        if let Some(others) = other.side_by_side() {
+            return add_two_slices(sums, x, cells, y, others);
+        }
+    }
+    add_scaled(sums, x, row);
+    add_scaled(sums, y, other);
+}
+
+/// The same of cells that lie side by side. So each sum is read and written once.
+fn add_two_slices<A: LinalgScalar>(sums: &mut [A], x: A, cells: &[A], y: A, others: &[A])
+    requires { CanAddTwoRows A.Valued x y sums.old cells.now others.now }
+    ensures { AddsTwoRows A.Valued x y cells.now others.now sums.old sums.new }
+{
+    let mut j = 0;
+    'cells: while j < cells.len() {
+        let sum = add_product(sums[j], x, cells[j]);
+        sums[j] = add_product(sum, y, others[j]);
+        j += 1;
     }
 }
 
