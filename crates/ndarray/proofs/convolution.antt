@@ -7,6 +7,7 @@ pub mod Full
 pub mod KernelSums
 pub mod Magnitudes
 pub mod Mapped
+pub mod MirroredKernels
 pub mod MirroredViews
 pub mod Mirrors
 pub mod NeutralValues

@@ -1,6 +1,7 @@
 -- What is true of lists of any elements.
 pub mod CellLookup
 pub mod Collections
+pub mod Counters
 pub mod Decisions
 pub mod Elements
 pub mod FlatMaps

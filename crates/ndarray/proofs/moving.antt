@@ -6,3 +6,4 @@ pub mod MovedOut
 pub mod PartlyMoved
 pub mod SomePlaces
 pub mod RowPlaces
+pub mod TakenRows

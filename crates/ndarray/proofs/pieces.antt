@@ -7,3 +7,4 @@ pub mod Pieces
 pub mod SomePieces
 pub mod Windows
 pub mod PieceRows
+pub mod TakenPieces

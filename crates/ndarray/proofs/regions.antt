@@ -6,4 +6,5 @@ pub mod ReborrowedViews
 pub mod Reborrows
 pub mod SharedRegions
 pub mod Sharing
+pub mod Shown
 pub mod Slots

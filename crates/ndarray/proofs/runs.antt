@@ -6,4 +6,5 @@ pub mod OneAxisProducers
 pub mod Producers
 pub mod Rows
 pub mod RunsThrough
+pub mod SameRows
 pub mod Turns

@@ -11,11 +11,13 @@ pub mod NestedLifts
 pub mod NestedMoves
 pub mod NestedPlaces
 pub mod Nesting
+pub mod NoPlaces
 pub mod OneAxisSlices
 pub mod OtherElements
 pub mod PlacesInOrder
 pub mod Reach
 pub mod Rows
+pub mod SeenCells
 pub mod SideBySide
 pub mod Strides
 pub mod SumsOverAxes

@@ -1,10 +1,11 @@
 -- The sums of a valid convolution at some positions of a window, as they are made: for `conv`.
-use Rattle.std.specs.Prelude.{ℕ, List, map}
+use Rattle.std.specs.Prelude.{ℕ, ◌<◌, List, All, map}
 use Rattle.ndarray.specs.Convolution.{valid_counts, window_products}
 use Rattle.ndarray.specs.Grid.{Grid, IsGrid}
 use Rattle.ndarray.specs.Index.{InBox}
 use Rattle.ndarray.specs.Subviews.{ArePositive}
 use Rattle.ndarray.specs.Sums.{IsSummable, total}
+use Rattle.ndarray.specs.base.Ranks.{row_from}
 use Rattle.ndarray.specs.declared.elements.Valued.{Ghosts as ValuedGhosts}
 
 module _ {A : Type 0} (e : ValuedGhosts A) where
@@ -21,3 +22,8 @@ module _ {A : Type 0} (e : ValuedGhosts A) where
   -- the sums at some positions
   abbrev pub window_sums : Grid A → Grid A → List (List ℕ) → List e.Carrier
   window_sums g h pss = map (window_sum g h) pss
+
+-- positions of a window in a row: so many from one on along an axis, some and all of them within
+pub record AreInRow (ns ms first : List ℕ) (axis count : ℕ) : Type 0 where
+  pub some : 0 < count
+  pub within : All (InBox (valid_counts ns ms)) (row_from first axis count)

@@ -1,5 +1,7 @@
 -- Places and strides: what contracts inside the library speak of.
 pub mod Chunks
+pub mod Clones
+pub mod Differences
 pub mod FixedAxes
 pub mod Follows
 pub mod IndexLists
@@ -17,6 +19,7 @@ pub mod RunningProducts
 pub mod Masks
 pub mod Builder
 pub mod Slots
+pub mod Splits
 pub mod CellLayouts
 pub mod Strided
 pub mod Storage

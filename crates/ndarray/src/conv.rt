@@ -120,21 +120,22 @@ fn over_windows<A: LinalgScalar, D: Dimension>(
 {
     match a.fast_order() {
         Order::RowMajor => over_rows(alloc, a, mirrored),
-        Order::ColumnMajor => over_columns(alloc, a, mirrored),
+        Order::ColumnMajor => over_columns(alloc, a.again(), mirrored.again()),
     }
 }
 
 /// The same of both arrays with their axes reversed, and reversed back.
 fn over_columns<A: LinalgScalar, D: Dimension>(
     alloc: Global,
-    a: &ArrayView<'_, A, D>,
-    mirrored: &ArrayView<'_, A, D>,
+    a: ArrayView<'_, A, D>,
+    mirrored: ArrayView<'_, A, D>,
 ) -> Result<Array<A, D>, AllocError>
-    requires can { CanSumWindows A.Valued a.now mirrored.now }
-    ensures { MakesValues A.Valued (valid_counts a.now.lengths mirrored.now.lengths) (window_sum A.Valued a.now mirrored.now) result }
+    requires can { CanSumWindows A.Valued a mirrored }
+    ensures { MakesValues A.Valued (valid_counts a.entry.lengths mirrored.entry.lengths) (window_sum A.Valued a.entry mirrored.entry) result }
 {
-    let reversed = a.again().reversed_axes();
-    let mirrored_reversed = mirrored.again().reversed_axes();
+    let _whole = mirrored.raw_dim();
+    let reversed = a.reversed_axes();
+    let mirrored_reversed = mirrored.reversed_axes();
     let sums = over_rows(alloc, &reversed, &mirrored_reversed)?;
     Ok(sums.reversed_axes())
 }
@@ -148,48 +149,27 @@ fn over_rows<A: LinalgScalar, D: Dimension>(
     requires can { CanSumWindows A.Valued a.now mirrored.now }
     ensures { MakesValues A.Valued (valid_counts a.now.lengths mirrored.now.lengths) (window_sum A.Valued a.now mirrored.now) result }
 {
-    let positions = a.windows(mirrored.raw_dim()).raw_dim();
-    if has_long_rows(&positions, &mirrored.raw_dim()) {
-        sums_by_rows(alloc, a, mirrored, positions)
-    } else {
-        over_each_window(alloc, a, mirrored)
-    }
-}
-
-/// The same window by window.
-fn over_each_window<A: LinalgScalar, D: Dimension>(
-    alloc: Global,
-    a: &ArrayView<'_, A, D>,
-    mirrored: &ArrayView<'_, A, D>,
-) -> Result<Array<A, D>, AllocError>
-    requires can { CanSumWindows A.Valued a.now mirrored.now }
-    ensures { MakesValues A.Valued (valid_counts a.now.lengths mirrored.now.lengths) (window_sum A.Valued a.now mirrored.now) result }
-{
     let windows = a.windows(mirrored.raw_dim());
-    collect_in_either_order(
-        alloc,
-        windows,
-        WindowSum {
-            kernel: mirrored.view(),
-        },
-    )
+    let positions = windows.raw_dim();
+    if has_long_rows(&positions, &mirrored.raw_dim()) {
+        return sums_by_rows(alloc, a, mirrored, positions);
+    }
+    collect_in_either_order(alloc, windows, WindowSum(mirrored.view()))
 }
 
 /// The sum of the products of a window's cells with those of an array of its lengths, as a call.
 #[derive(Drop)]
-struct WindowSum<'k, A, D: Lengths> {
-    kernel: ArrayView<'k, A, D>,
-}
+struct WindowSum<'k, A, D: Lengths>(ArrayView<'k, A, D>);
 
 impl<'a, 'k, A: LinalgScalar, D: Lengths> ItemCall<ArrayView<'a, A, D>> for WindowSum<'k, A, D> {
     type Out = A;
 
-    ghost can_call = { λ c w. (w.lengths ≡ c.kernel.lengths) × IsSummable A.addition A.InRange (products_of A.multiplication A.meaning w.cells c.kernel.cells) };
+    ghost can_call = { λ c w. (w.lengths ≡ c.0.lengths) × IsSummable A.addition A.InRange (products_of A.multiplication A.meaning w.cells c.0.cells) };
 
-    ghost call_gives = { λ c w r d. (A.meaning r ≡ total A.addition (products_of A.multiplication A.meaning w.cells c.kernel.cells)) × (d ≡ c) };
+    ghost call_gives = { λ c w r d. (A.meaning r ≡ total A.addition (products_of A.multiplication A.meaning w.cells c.0.cells)) × (d ≡ c) };
 
     fn call(&mut self, window: ArrayView<'a, A, D>) -> A {
-        sum_of_products(&window, &self.kernel)
+        sum_of_products(&window, &self.0)
     }
 }
 
@@ -224,30 +204,23 @@ fn windows_fit<A: IntegerElem, D: Dimension>(
     ensures selections { IsTrue result → (ps : List ℕ) → InBox (valid_counts a.now.lengths mirrored.now.lengths) ps → IsSummable int_sums A.fits (window_products int_products A.value a.now mirrored.now ps) }
 {
     let windows = a.windows(mirrored.raw_dim());
-    all_in_either_order(
-        windows,
-        WindowTest {
-            kernel: mirrored.view(),
-        },
-    )
+    all_in_either_order(windows, WindowTest(mirrored.view()))
 }
 
 /// Whether the absolute values of the products of a window's cells with those of an array of its lengths add up to at most the type's greatest
 /// number, as a call.
 #[derive(Drop)]
-struct WindowTest<'k, A, D: Lengths> {
-    kernel: ArrayView<'k, A, D>,
-}
+struct WindowTest<'k, A, D: Lengths>(ArrayView<'k, A, D>);
 
 impl<'a, 'k, A: IntegerElem, D: Lengths> ItemCall<ArrayView<'a, A, D>> for WindowTest<'k, A, D> {
     type Out = bool;
 
-    ghost can_call = { λ c w. w.lengths ≡ c.kernel.lengths };
+    ghost can_call = { λ c w. w.lengths ≡ c.0.lengths };
 
-    ghost call_gives = { λ c w r d. TestsProducts A.value A.fits w.cells c.kernel.cells r × (d ≡ c) };
+    ghost call_gives = { λ c w r d. TestsProducts A.value A.fits w.cells c.0.cells r × (d ≡ c) };
 
     fn call(&mut self, window: ArrayView<'a, A, D>) -> bool {
-        products_stay_in_range(&window, &self.kernel)
+        products_stay_in_range(&window, &self.0)
     }
 }
 

@@ -4,6 +4,7 @@ ghost use Rattle.std.specs.Prelude.{◌≡◌, ◌⊎◌, IfOk, IsOk, length, �
 ghost use Rattle.std.specs.List.{AllZip};
 ghost use Rattle.ndarray.specs.Grid.{IsGrid};
 ghost use Rattle.ndarray.specs.Index.{size};
+ghost use Rattle.ndarray.specs.base.Clones.{MakesClones};
 
 use crate::base::array::{Array, ArrayBase, ArrayView};
 use crate::base::dimension::Lengths;
@@ -66,12 +67,7 @@ fn clone_of<A: Clone, D: Lengths>(
     alloc: Global,
     array: &ArrayView<'_, A, D>,
 ) -> Result<Array<A, D>, AllocError>
-    ensures lengths { IfOk result (λ a. a.lengths ≡ array.now.lengths) }
-    ensures axes { IfOk result (λ a. D.has_axes (length a.lengths)) }
-    ensures cells { IfOk result (λ a. AllZip A.is_clone array.now.cells a.cells) }
-    ensures whole { IfOk result IsGrid }
-    ensures same { IfOk result (λ a. ((x y : A) → A.is_clone x y → y ≡ x) → a ≡ array.now) }
-    ensures empty { size array.now.lengths ≡ 0 → IsOk result }
+    ensures { MakesClones D.has_axes A.is_clone array.now result }
 {
     try_collect_items(alloc, array.view(), order_in_memory(array), Clones)
 }

@@ -57,51 +57,6 @@ impl<A: Drop, D: Lengths> ArrayBuilder<A, D> {
         self.items.push_reserved(cell);
     }
 
-    /// Pushes clones of cells, up to the first error.
-    pub(crate) fn push_clones(&mut self, cells: Strided<'_, A>) -> Result<(), AllocError>
-    where
-        A: Clone,
-        requires clones { ClonesAreEqual A.is_clone }
-        requires room { length self.old.cells + length cells ≤ size self.old.lengths }
-        ensures pushed { IfOk result (λ _. self.new ≡ pushed_all self.old cells.entry) }
-        ensures none { length cells.entry ≡ 0 → IsOk result }
-    {
-        match cells.side_by_side() {
-            Some(slice) => self.push_slice(slice),
-            None => self.push_steps(cells),
-        }
-    }
-
-    /// The same of cells that lie side by side.
-    fn push_slice(&mut self, cells: &[A]) -> Result<(), AllocError>
-    where
-        A: Clone,
-        requires clones { ClonesAreEqual A.is_clone }
-        requires room { length self.old.cells + length cells.now ≤ size self.old.lengths }
-        ensures pushed { IfOk result (λ _. self.new ≡ pushed_all self.old cells.now) }
-        ensures none { length cells.now ≡ 0 → IsOk result }
-    {
-        for cell in cells {
-            self.push(cell.clone()?);
-        }
-        Ok(())
-    }
-
-    /// The same of cells that lie a step apart.
-    fn push_steps(&mut self, cells: Strided<'_, A>) -> Result<(), AllocError>
-    where
-        A: Clone,
-        requires clones { ClonesAreEqual A.is_clone }
-        requires room { length self.old.cells + length cells ≤ size self.old.lengths }
-        ensures pushed { IfOk result (λ _. self.new ≡ pushed_all self.old cells.entry) }
-        ensures none { length cells.entry ≡ 0 → IsOk result }
-    {
-        for cell in cells {
-            self.push(cell.clone()?);
-        }
-        Ok(())
-    }
-
     /// The cell that was pushed so many pushes ago, 1 for the last.
     pub(crate) fn back(&self, pushes: usize) -> &A
         requires some { 1 ≤ pushes }
@@ -123,5 +78,46 @@ impl<A: Drop, D: Lengths> ArrayBuilder<A, D> {
     {
         let ArrayBuilder { items, dim, order } = self;
         ArrayBase::from_elements(dim, order, items)
+    }
+}
+
+impl<A: Clone, D: Lengths> ArrayBuilder<A, D> {
+    /// Pushes clones of cells, up to the first error.
+    pub(crate) fn push_clones(&mut self, cells: Strided<'_, A>) -> Result<(), AllocError>
+        requires clones { ClonesAreEqual A.is_clone }
+        requires room { length self.old.cells + length cells ≤ size self.old.lengths }
+        ensures pushed { IfOk result (λ _. self.new ≡ pushed_all self.old cells.entry) }
+        ensures none { length cells.entry ≡ 0 → IsOk result }
+    {
+        match cells.side_by_side() {
+            Some(slice) => self.push_slice(slice),
+            None => self.push_steps(cells),
+        }
+    }
+
+    /// The same of cells that lie side by side.
+    fn push_slice(&mut self, cells: &[A]) -> Result<(), AllocError>
+        requires clones { ClonesAreEqual A.is_clone }
+        requires room { length self.old.cells + length cells.now ≤ size self.old.lengths }
+        ensures pushed { IfOk result (λ _. self.new ≡ pushed_all self.old cells.now) }
+        ensures none { length cells.now ≡ 0 → IsOk result }
+    {
+        for cell in cells {
+            self.push(cell.clone()?);
+        }
+        Ok(())
+    }
+
+    /// The same of cells that lie a step apart.
+    fn push_steps(&mut self, cells: Strided<'_, A>) -> Result<(), AllocError>
+        requires clones { ClonesAreEqual A.is_clone }
+        requires room { length self.old.cells + length cells ≤ size self.old.lengths }
+        ensures pushed { IfOk result (λ _. self.new ≡ pushed_all self.old cells.entry) }
+        ensures none { length cells.entry ≡ 0 → IsOk result }
+    {
+        for cell in cells {
+            self.push(cell.clone()?);
+        }
+        Ok(())
     }
 }

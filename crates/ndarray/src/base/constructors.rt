@@ -260,11 +260,8 @@ impl<'a, A: Drop, D: Lengths> From<ArrayView<'a, A, D>> for CowArray<'a, A, D> {
         ensures whole { IsGrid result }
     {
         let _axes = view.ndim();
-        let ArrayBase { storage, layout } = view;
-        ArrayBase {
-            storage: CowRepr::View(storage),
-            layout,
-        }
+        let (storage, layout) = (CowRepr::View(view.storage), view.layout);
+        ArrayBase { storage, layout }
     }
 }
 
@@ -276,10 +273,7 @@ impl<'a, A: Drop, D: Lengths> From<Array<A, D>> for CowArray<'a, A, D> {
         ensures whole { IsGrid result }
     {
         let _axes = array.ndim();
-        let ArrayBase { storage, layout } = array;
-        ArrayBase {
-            storage: CowRepr::Owned(storage),
-            layout,
-        }
+        let (storage, layout) = (CowRepr::Owned(array.storage), array.layout);
+        ArrayBase { storage, layout }
     }
 }

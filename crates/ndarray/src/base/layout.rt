@@ -223,15 +223,10 @@ impl<D: Lengths> Layout<D> {
         ensures dim { E.numbers result.dim ≡ D.numbers self.dim }
         ensures strides { E.numbers result.strides ≡ D.numbers self.strides }
     {
-        let Layout {
-            start,
-            dim,
-            strides,
-        } = self;
         Layout {
-            start,
-            dim: same_numbers(&dim),
-            strides: same_numbers(&strides),
+            start: self.start,
+            dim: same_numbers(&self.dim),
+            strides: same_numbers(&self.strides),
         }
     }
 }

@@ -1,13 +1,13 @@
 //! Valid convolutions row by row of the result: the sums of a row are made all at once, each cell of the kernel in turn times a run of
 //! the array's cells.
 
-ghost use Rattle.std.specs.Prelude.{◌≡◌, ◌+◌, ◌++◌, ◌<◌, ◌≤◌, [], All, length, map, replicate};
+ghost use Rattle.std.specs.Prelude.{◌≡◌, ◌+◌, ◌++◌, ◌≤◌, [], length, map, replicate};
 ghost use Rattle.std.specs.Vec.{vec_capacity};
 ghost use Rattle.ndarray.specs.Convolution.{valid_counts};
-ghost use Rattle.ndarray.specs.Index.{InBox, row_order, size};
+ghost use Rattle.ndarray.specs.Index.{row_order, size};
 ghost use Rattle.ndarray.specs.Limits.{IsWithinLimit};
 ghost use Rattle.ndarray.specs.Products.{MakesValues};
-ghost use Rattle.ndarray.specs.WindowSums.{CanSumWindows, window_sum, window_sums};
+ghost use Rattle.ndarray.specs.WindowSums.{AreInRow, CanSumWindows, window_sum, window_sums};
 ghost use Rattle.ndarray.specs.base.Ranks.{row_from};
 
 use crate::base::array::{Array, ArrayBase, ArrayView};
@@ -75,8 +75,7 @@ fn push_tile<A: LinalgScalar, D: Lengths>(
     tile: &Row<D>,
 )
     requires can { CanSumWindows A.Valued a.now mirrored.now }
-    requires some { 0 < tile.now.count }
-    requires within { All (InBox (valid_counts a.now.lengths mirrored.now.lengths)) (row_from (D.numbers tile.now.first) tile.now.axis tile.now.count) }
+    requires row { AreInRow a.now.lengths mirrored.now.lengths (D.numbers tile.now.first) tile.now.axis tile.now.count }
     requires room { length sums.old.items + tile.now.count ≤ vec_capacity sums.old }
     ensures values { map A.meaning sums.new.items ≡ map A.meaning sums.old.items ++ window_sums A.Valued a.now mirrored.now (row_from (D.numbers tile.now.first) tile.now.axis tile.now.count) }
     ensures capacity { vec_capacity sums.old ≤ vec_capacity sums.new }
@@ -94,8 +93,7 @@ fn add_products<A: LinalgScalar, D: Lengths>(
     tile: &Row<D>,
 )
     requires can { CanSumWindows A.Valued a.now mirrored.now }
-    requires some { 0 < tile.now.count }
-    requires within { All (InBox (valid_counts a.now.lengths mirrored.now.lengths)) (row_from (D.numbers tile.now.first) tile.now.axis tile.now.count) }
+    requires row { AreInRow a.now.lengths mirrored.now.lengths (D.numbers tile.now.first) tile.now.axis tile.now.count }
     requires zeros { sums.old ≡ replicate tile.now.count A.zero }
     ensures { map A.meaning sums.new ≡ window_sums A.Valued a.now mirrored.now (row_from (D.numbers tile.now.first) tile.now.axis tile.now.count) }
 {

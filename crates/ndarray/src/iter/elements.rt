@@ -100,17 +100,7 @@ impl<'a, A, D: Lengths> Iterator for ElementsBase<'a, A, D> {
         ensures upper { IfSome result.1 (UpTo (item_count (λ rest. rest) self.now)) }
         ensures exact { IsExactHint result (length self.now) }
     {
-        let len = self.len();
-        (len, Some(len))
-    }
-}
-
-impl<'a, A, D: Lengths> ExactSizeIterator for ElementsBase<'a, A, D> {
-    fn len(&self) -> usize {
-        match &self.source {
-            CellSource::Slice(cells) => cells.len(),
-            CellSource::Rows(cells) => cells.len(),
-        }
+        (self.len(), Some(self.len()))
     }
 }
 
@@ -121,6 +111,15 @@ impl<'a, A> DoubleEndedIterator for ElementsBase<'a, A, Ix1> {
         match &mut self.source {
             CellSource::Slice(cells) => cells.next_back(),
             CellSource::Rows(cells) => cells.next_back(),
+        }
+    }
+}
+
+impl<'a, A, D: Lengths> ExactSizeIterator for ElementsBase<'a, A, D> {
+    fn len(&self) -> usize {
+        match &self.source {
+            CellSource::Slice(cells) => cells.len(),
+            CellSource::Rows(cells) => cells.len(),
         }
     }
 }

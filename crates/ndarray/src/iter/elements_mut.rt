@@ -122,14 +122,7 @@ impl<'a, A, D: Lengths> Iterator for ElementsBaseMut<'a, A, D> {
         ensures upper { IfSome result.1 (UpTo (item_count (λ s. s.items) self.now)) }
         ensures exact { IsExactHint result (length self.now.items) }
     {
-        let len = self.len();
-        (len, Some(len))
-    }
-}
-
-impl<'a, A, D: Lengths> ExactSizeIterator for ElementsBaseMut<'a, A, D> {
-    fn len(&self) -> usize {
-        self.places.len()
+        (self.len(), Some(self.len()))
     }
 }
 
@@ -141,6 +134,12 @@ impl<'a, A> DoubleEndedIterator for ElementsBaseMut<'a, A, Ix1> {
             return None;
         };
         Some(self.region.take(place))
+    }
+}
+
+impl<'a, A, D: Lengths> ExactSizeIterator for ElementsBaseMut<'a, A, D> {
+    fn len(&self) -> usize {
+        self.places.len()
     }
 }
 

@@ -93,8 +93,7 @@ impl<'a, A, D: Dimension> Iterator for IndexedIter<'a, A, D> {
         ensures upper { IfSome result.1 (UpTo (item_count (λ rest. rest) self.now)) }
         ensures exact { IsExactHint result (length self.now) }
     {
-        let len = self.len();
-        (len, Some(len))
+        (self.len(), Some(self.len()))
     }
 }
 

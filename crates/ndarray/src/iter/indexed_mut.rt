@@ -77,8 +77,7 @@ impl<'a, A, D: Dimension> Iterator for IndexedIterMut<'a, A, D> {
         ensures upper { IfSome result.1 (UpTo (item_count (λ s. s.items) self.now)) }
         ensures exact { IsExactHint result (length self.now.items) }
     {
-        let len = self.len();
-        (len, Some(len))
+        (self.len(), Some(self.len()))
     }
 }
 

@@ -111,8 +111,7 @@ impl<A: Drop, D: Lengths> Iterator for IntoIter<A, D> {
         ensures upper { IfSome result.1 (UpTo (item_count (λ rest. rest) self.now)) }
         ensures exact { IsExactHint result (length self.now) }
     {
-        let len = self.len();
-        (len, Some(len))
+        (self.len(), Some(self.len()))
     }
 }
 

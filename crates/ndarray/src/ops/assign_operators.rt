@@ -34,13 +34,11 @@ where
 }
 
 /// Leaves in each cell what an operation gives on it and a scalar.
-pub(crate) fn assign_scalar<O, A, B, S, D>(array: &mut ArrayBase<S, D>, scalar: B)
+pub(crate) fn assign_scalar<O, A, B: Copy, S, D: Lengths>(array: &mut ArrayBase<S, D>, scalar: B)
 where
     O: Operation<A, B, Output = A>,
     A: Copy,
-    B: Copy,
     S: DataMut<Elem = A>,
-    D: Lengths,
     requires { CanMap (λ x. O.can_apply x scalar) array.old }
     ensures { Maps (λ x z. O.apply_gives x scalar z) array.old array.new }
 {

@@ -17,13 +17,11 @@ use crate::ops::operations::{Conjunction, ConjunctionAssign};
 use std::alloc::AllocError;
 use std::ops::{BitAnd, BitAndAssign};
 
-impl<'a, 'b, A, B, S2, D, E> BitAnd<&'b ArrayBase<S2, E>> for &'a Array<A, D>
+impl<'a, 'b, A, B, S2, D: DimMax<E>, E: Lengths> BitAnd<&'b ArrayBase<S2, E>> for &'a Array<A, D>
 where
     A: Clone + BitAnd<B, Output = A>,
     B: Clone,
     S2: Data<Elem = B>,
-    D: DimMax<E>,
-    E: Lengths,
 {
     type Output = Result<Array<A, <D as DimMax<E>>::Output>, AllocError>;
 
@@ -36,13 +34,11 @@ where
     }
 }
 
-impl<'b, A, B, S2, D, E> BitAnd<&'b ArrayBase<S2, E>> for Array<A, D>
+impl<'b, A, B, S2, D: DimMax<E>, E: Lengths> BitAnd<&'b ArrayBase<S2, E>> for Array<A, D>
 where
     A: Clone + BitAnd<B, Output = A>,
     B: Clone,
     S2: Data<Elem = B>,
-    D: DimMax<E>,
-    E: Lengths,
 {
     type Output = Result<Array<A, <D as DimMax<E>>::Output>, AllocError>;
 
@@ -55,13 +51,11 @@ where
     }
 }
 
-impl<A, B, S2, D, E> BitAnd<ArrayBase<S2, E>> for Array<A, D>
+impl<A, B, S2, D: DimMax<E>, E: Lengths> BitAnd<ArrayBase<S2, E>> for Array<A, D>
 where
     A: Clone + BitAnd<B, Output = A>,
     B: Clone,
     S2: Data<Elem = B>,
-    D: DimMax<E>,
-    E: Lengths,
 {
     type Output = Result<Array<A, <D as DimMax<E>>::Output>, AllocError>;
 
@@ -74,13 +68,11 @@ where
     }
 }
 
-impl<'a, A, B, S, D, E> BitAnd<Array<B, E>> for &'a ArrayBase<S, D>
+impl<'a, A, B, S, D: Lengths, E: DimMax<D>> BitAnd<Array<B, E>> for &'a ArrayBase<S, D>
 where
     A: Clone + BitAnd<B, Output = B>,
     B: Clone,
     S: Data<Elem = A>,
-    D: Lengths,
-    E: DimMax<D>,
 {
     type Output = Result<Array<B, <E as DimMax<D>>::Output>, AllocError>;
 

@@ -17,13 +17,11 @@ use crate::ops::operations::{Subtraction, SubtractionAssign};
 use std::alloc::AllocError;
 use std::ops::{Sub, SubAssign};
 
-impl<'a, 'b, A, B, S2, D, E> Sub<&'b ArrayBase<S2, E>> for &'a Array<A, D>
+impl<'a, 'b, A, B, S2, D: DimMax<E>, E: Lengths> Sub<&'b ArrayBase<S2, E>> for &'a Array<A, D>
 where
     A: Clone + Sub<B, Output = A>,
     B: Clone,
     S2: Data<Elem = B>,
-    D: DimMax<E>,
-    E: Lengths,
 {
     type Output = Result<Array<A, <D as DimMax<E>>::Output>, AllocError>;
 
@@ -36,13 +34,11 @@ where
     }
 }
 
-impl<'b, A, B, S2, D, E> Sub<&'b ArrayBase<S2, E>> for Array<A, D>
+impl<'b, A, B, S2, D: DimMax<E>, E: Lengths> Sub<&'b ArrayBase<S2, E>> for Array<A, D>
 where
     A: Clone + Sub<B, Output = A>,
     B: Clone,
     S2: Data<Elem = B>,
-    D: DimMax<E>,
-    E: Lengths,
 {
     type Output = Result<Array<A, <D as DimMax<E>>::Output>, AllocError>;
 
@@ -55,13 +51,11 @@ where
     }
 }
 
-impl<A, B, S2, D, E> Sub<ArrayBase<S2, E>> for Array<A, D>
+impl<A, B, S2, D: DimMax<E>, E: Lengths> Sub<ArrayBase<S2, E>> for Array<A, D>
 where
     A: Clone + Sub<B, Output = A>,
     B: Clone,
     S2: Data<Elem = B>,
-    D: DimMax<E>,
-    E: Lengths,
 {
     type Output = Result<Array<A, <D as DimMax<E>>::Output>, AllocError>;
 
@@ -74,13 +68,11 @@ where
     }
 }
 
-impl<'a, A, B, S, D, E> Sub<Array<B, E>> for &'a ArrayBase<S, D>
+impl<'a, A, B, S, D: Lengths, E: DimMax<D>> Sub<Array<B, E>> for &'a ArrayBase<S, D>
 where
     A: Clone + Sub<B, Output = B>,
     B: Clone,
     S: Data<Elem = A>,
-    D: Lengths,
-    E: DimMax<D>,
 {
     type Output = Result<Array<B, <E as DimMax<D>>::Output>, AllocError>;
 

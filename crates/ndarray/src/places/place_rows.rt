@@ -129,11 +129,12 @@ impl PlaceRun {
     fn next_back(&mut self) -> Option<usize>
         ensures { YieldsLast (λ rest. rest) self.old result self.new }
     {
-        if self.left == 0 {
-            return None;
+        if self.left > 0 {
+            self.left -= 1;
+            Some(self.place.wrapping_add(self.left))
+        } else {
+            None
         }
-        self.left -= 1;
-        Some(self.place.wrapping_add(self.left))
     }
 }
 

@@ -21,8 +21,8 @@ use std::marker::{Model, PhantomData};
 /// each with its cell, and the name of the borrow of the array.
 #[derive(Drop)]
 pub struct Places<'a, A, D: Lengths> {
-    region: RegionRepr<Life<'a>, A>,
     indexed: IndexedPlaces<D>,
+    region: RegionRepr<Life<'a>, A>,
     // the lifetime of what it yields, so that `A: 'a` follows from the type
     lifetime: PhantomData<&'a mut A>,
 }

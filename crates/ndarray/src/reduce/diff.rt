@@ -4,6 +4,7 @@ ghost use Rattle.std.specs.Prelude.{◌≡◌, ◌⊎◌, ◌<◌, ◌↔◌, le
 ghost use Rattle.ndarray.specs.AlongAxis.{CanDiffer, IsDifference, IsDifferenceOf, one_further};
 ghost use Rattle.ndarray.specs.Grid.{cell};
 ghost use Rattle.ndarray.specs.Index.{size};
+ghost use Rattle.ndarray.specs.base.Differences.{MakesDifferences};
 
 use crate::base::array::{Array, ArrayBase, ArrayView};
 use crate::base::axis::Axis;
@@ -64,9 +65,7 @@ fn differences<A: Copy + Sub<A, Output = A>, D: Lengths>(
     requires axis { axis.0 < length array.now.lengths }
     requires order { (n ≡ 0) ⊎ (n < slice_index array.now.lengths axis.0) }
     requires defined { CanDiffer A.sub_gives axis.0 A.can_sub n array.now }
-    ensures differences { IfOk result (IsDifferenceOf A.sub_gives axis.0 n array.now) }
-    ensures axes { IfOk result (λ r. D.has_axes (length r.lengths)) }
-    ensures empty { size array.now.lengths ≡ 0 → IsOk result }
+    ensures { MakesDifferences D.has_axes A.sub_gives axis.0 n array.now result }
 {
     if n == 0 {
         return copy_of(alloc, array);
@@ -101,8 +100,8 @@ fn difference<A: Copy + Sub<A, Output = A>, S: Data<Elem = A>, D: Lengths>(
     array: &ArrayBase<S, D>,
     axis: Axis,
 ) -> Result<Array<A, D>, AllocError>
-    requires axis { axis.0 < length array.now.lengths }
     requires some { 0 < slice_index array.now.lengths axis.0 }
+    requires axis { axis.0 < length array.now.lengths }
     requires defined { (is : List ℕ) (y x : A) → cell array.now (one_further axis.0 is) ≡ Some y → cell array.now is ≡ Some x → A.can_sub y x }
     ensures made { IfOk result (IsDifference A.sub_gives axis.0 array.now) }
     ensures axes { IfOk result (λ r. D.has_axes (length r.lengths)) }

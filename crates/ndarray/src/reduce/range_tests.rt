@@ -91,10 +91,7 @@ fn signed_sums<A: Zero + CheckedAdd, D: Lengths>(
     };
     let mut runs = CellRuns::of(array.view());
     while let Some(run) = runs.next() {
-        let Some(more) = add_run(sums, run) else {
-            return None;
-        };
-        sums = more;
+        sums = add_run(sums, run)?;
     }
     Some(sums)
 }
@@ -330,7 +327,13 @@ fn add_products<A: IntegerElem>(
             return add_slice_products(sums, xs, ys);
         }
     }
-    add_stepped_products(sums, left, right)
+    add_stepped_products(
+        sums,
+        PairRun {
+            first: left,
+            second: right,
+        },
+    )
 }
 
 /// The same of slices.
@@ -357,17 +360,13 @@ fn add_slice_products<A: IntegerElem>(
 /// The same of cells that lie a step apart.
 fn add_stepped_products<A: IntegerElem>(
     sums: SignedSums<A>,
-    left: Strided<'_, A>,
-    right: Strided<'_, A>,
+    pairs: PairRun<Strided<'_, A>, Strided<'_, A>>,
 ) -> Option<SignedSums<A>>
-    ensures { (whole rest : List ℤ) → ProductsApart A.fits whole (products_of int_products A.value left.entry right.entry ++ rest) (A.value sums.up) (A.value sums.down)
+    ensures { (whole rest : List ℤ) → ProductsApart A.fits whole (products_of int_products A.value pairs.entry.first pairs.entry.second ++ rest) (A.value sums.up) (A.value sums.down)
         → MatchOption result (A.fits (pos (magnitude_sum whole)) → ⊥) (λ more. ProductsApart A.fits whole rest (A.value more.up) (A.value more.down)) }
 {
     let mut sums = sums;
-    let mut pairs = PairRun {
-        first: left,
-        second: right,
-    };
+    let mut pairs = pairs;
     while let Some((x, y)) = pairs.next() {
         let Some(more) = add_product(sums, *x, *y) else {
             return None;

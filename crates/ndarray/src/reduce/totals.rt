@@ -157,8 +157,7 @@ pub(crate) fn totals_along<T: TotalOperation<A>, A: Copy, D: Dimension>(
 ) -> Result<Array<A, D::Smaller>, AllocError>
     requires axis { axis.0 < length array.now.lengths }
     requires lanes { CanMap (IsSummableArray T.operation T.InRange T.meaning) (lanes_of array.now axis.0) }
-    ensures made { MakesMapped D.Smaller.has_axes (IsTotalOf T.operation T.meaning) (lanes_of array.now axis.0) result }
-    ensures axes { IfOk result (λ r. D.Smaller.has_axes (length r.lengths)) }
+    ensures { MakesMapped D.Smaller.has_axes (IsTotalOf T.operation T.meaning) (lanes_of array.now axis.0) result }
 {
     if array.has_smallest_steps(axis) {
         totals_by_lanes::<T, A, D>(alloc, array, axis)
@@ -175,8 +174,7 @@ fn totals_by_lanes<T: TotalOperation<A>, A: Copy, D: Dimension>(
 ) -> Result<Array<A, D::Smaller>, AllocError>
     requires axis { axis.0 < length array.now.lengths }
     requires lanes { CanMap (IsSummableArray T.operation T.InRange T.meaning) (lanes_of array.now axis.0) }
-    ensures made { MakesMapped D.Smaller.has_axes (IsTotalOf T.operation T.meaning) (lanes_of array.now axis.0) result }
-    ensures axes { IfOk result (λ r. D.Smaller.has_axes (length r.lengths)) }
+    ensures { MakesMapped D.Smaller.has_axes (IsTotalOf T.operation T.meaning) (lanes_of array.now axis.0) result }
 {
     let call: LaneTotal<T> = LaneTotal(PhantomData);
     collect_items(alloc, array.lanes(axis), Order::RowMajor, call)
@@ -206,8 +204,7 @@ fn totals_by_items<T: TotalOperation<A>, A: Copy, D: Dimension>(
 ) -> Result<Array<A, D::Smaller>, AllocError>
     requires axis { axis.0 < length array.now.lengths }
     requires lanes { CanMap (IsSummableArray T.operation T.InRange T.meaning) (lanes_of array.now axis.0) }
-    ensures made { MakesMapped D.Smaller.has_axes (IsTotalOf T.operation T.meaning) (lanes_of array.now axis.0) result }
-    ensures axes { IfOk result (λ r. D.Smaller.has_axes (length r.lengths)) }
+    ensures { MakesMapped D.Smaller.has_axes (IsTotalOf T.operation T.meaning) (lanes_of array.now axis.0) result }
 {
     let dim = array.raw_dim().try_remove_axis(axis);
     let mut totals = filled(alloc, dim, T::of_none())?;

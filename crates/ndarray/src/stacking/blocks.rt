@@ -68,7 +68,7 @@ fn push_all_blocks<A: Clone, D: Lengths, E: Lengths>(
             return push_pairs(builder, axis, left, right, outer);
         }
     }
-    push_each_block(builder, axis, arrays, outer)
+    push_each_block(builder, axis, arrays, &outer)
 }
 
 /// The same block by block.
@@ -76,15 +76,15 @@ fn push_each_block<A: Clone, D: Lengths, E: Lengths>(
     builder: &mut ArrayBuilder<A, E>,
     axis: usize,
     arrays: &[ArrayView<'_, A, D>],
-    outer: D,
+    outer: &D,
 ) -> Result<(), AllocError>
     requires clones { ClonesAreEqual A.is_clone }
-    requires limit { IsWithinLimit (D.numbers outer) }
-    requires blocks { (is : List ℕ) → InBox (D.numbers outer) is → All (HasBlockAt axis is) arrays.now }
-    requires room { length builder.old.cells + length (all_blocks axis (D.numbers outer) arrays.now) ≤ size builder.old.lengths }
-    ensures { IfOk result (λ _. builder.new ≡ pushed_all builder.old (all_blocks axis (D.numbers outer) arrays.now)) }
+    requires limit { IsWithinLimit (D.numbers outer.now) }
+    requires blocks { (is : List ℕ) → InBox (D.numbers outer.now) is → All (HasBlockAt axis is) arrays.now }
+    requires room { length builder.old.cells + length (all_blocks axis (D.numbers outer.now) arrays.now) ≤ size builder.old.lengths }
+    ensures { IfOk result (λ _. builder.new ≡ pushed_all builder.old (all_blocks axis (D.numbers outer.now) arrays.now)) }
 {
-    for index in Walk::new(outer, Order::RowMajor) {
+    for index in Walk::new(outer.copied(), Order::RowMajor) {
         push_blocks(builder, axis, arrays, &index)?;
     }
     Ok(())
@@ -129,7 +129,13 @@ fn push_by_turns<A: Clone, E: Lengths>(
             return push_slices_by_turns(builder, xs, ys);
         }
     }
-    push_steps_by_turns(builder, left, right)
+    push_steps_by_turns(
+        builder,
+        PairRun {
+            first: left,
+            second: right,
+        },
+    )
 }
 
 /// The same of slices.
@@ -154,17 +160,13 @@ fn push_slices_by_turns<A: Clone, E: Lengths>(
 /// The same of cells that lie a step apart.
 fn push_steps_by_turns<A: Clone, E: Lengths>(
     builder: &mut ArrayBuilder<A, E>,
-    left: Strided<'_, A>,
-    right: Strided<'_, A>,
+    pairs: PairRun<Strided<'_, A>, Strided<'_, A>>,
 ) -> Result<(), AllocError>
     requires clones { ClonesAreEqual A.is_clone }
-    requires room { length builder.old.cells + length (by_turns left right) ≤ size builder.old.lengths }
-    ensures { IfOk result (λ _. builder.new ≡ pushed_all builder.old (by_turns left.entry right.entry)) }
+    requires room { length builder.old.cells + length (by_turns pairs.first pairs.second) ≤ size builder.old.lengths }
+    ensures { IfOk result (λ _. builder.new ≡ pushed_all builder.old (by_turns pairs.entry.first pairs.entry.second)) }
 {
-    let mut pairs = PairRun {
-        first: left,
-        second: right,
-    };
+    let mut pairs = pairs;
     while let Some((x, y)) = pairs.next() {
         builder.push(x.clone()?);
         builder.push(y.clone()?);

@@ -95,6 +95,30 @@ fn chunk<'a, A, D: Lengths>(
     view.part(axis, from, size.min(len - from))
 }
 
+impl<'a, A, D: Lengths> Iterator for AxisChunksIter<'a, A, D> {
+    type Item = ArrayView<'a, A, D>;
+
+    ghost next_gives = { YieldsFirst (λ rest. rest) };
+
+    ghost remaining = { item_count (λ rest. rest) };
+
+    #[inline(always)]
+    fn next(&mut self) -> Option<Self::Item> {
+        let Some(position) = self.walk.next() else {
+            return None;
+        };
+        Some(chunk(&self.view, self.axis, self.size, position.axis(0)))
+    }
+
+    fn size_hint(&self) -> (usize, Option<usize>)
+        ensures lower { IsWithinCount result.0 (item_count (λ rest. rest) self.now) }
+        ensures upper { IfSome result.1 (UpTo (item_count (λ rest. rest) self.now)) }
+        ensures exact { IsExactHint result (length self.now) }
+    {
+        (self.len(), Some(self.len()))
+    }
+}
+
 impl<'a, A, D: Lengths> AxisChunksIter<'a, A, D> {
     /// Takes the first `count` chunks still to come.
     fn take_first(&mut self, count: usize) -> Self
@@ -145,31 +169,6 @@ impl<'a, A, D: Lengths> AxisChunksIter<'a, A, D> {
     }
 }
 
-impl<'a, A, D: Lengths> Iterator for AxisChunksIter<'a, A, D> {
-    type Item = ArrayView<'a, A, D>;
-
-    ghost next_gives = { YieldsFirst (λ rest. rest) };
-
-    ghost remaining = { item_count (λ rest. rest) };
-
-    #[inline(always)]
-    fn next(&mut self) -> Option<ArrayView<'a, A, D>> {
-        let Some(position) = self.walk.next() else {
-            return None;
-        };
-        Some(chunk(&self.view, self.axis, self.size, position.axis(0)))
-    }
-
-    fn size_hint(&self) -> (usize, Option<usize>)
-        ensures lower { IsWithinCount result.0 (item_count (λ rest. rest) self.now) }
-        ensures upper { IfSome result.1 (UpTo (item_count (λ rest. rest) self.now)) }
-        ensures exact { IsExactHint result (length self.now) }
-    {
-        let len = self.len();
-        (len, Some(len))
-    }
-}
-
 impl<'a, A, D: Lengths> DoubleEndedIterator for AxisChunksIter<'a, A, D> {
     ghost next_back_gives = { YieldsLast (λ rest. rest) };
 
@@ -178,12 +177,6 @@ impl<'a, A, D: Lengths> DoubleEndedIterator for AxisChunksIter<'a, A, D> {
             return None;
         };
         Some(chunk(&self.view, self.axis, self.size, position.axis(0)))
-    }
-}
-
-impl<'a, A, D: Lengths> ExactSizeIterator for AxisChunksIter<'a, A, D> {
-    fn len(&self) -> usize {
-        self.walk.len()
     }
 }
 
@@ -199,5 +192,11 @@ impl<'a, A, D: Lengths> Clone for AxisChunksIter<'a, A, D> {
             size: self.size,
             walk: self.walk.clone()?,
         })
+    }
+}
+
+impl<'a, A, D: Lengths> ExactSizeIterator for AxisChunksIter<'a, A, D> {
+    fn len(&self) -> usize {
+        self.walk.len()
     }
 }

@@ -61,7 +61,7 @@ pub(super) fn scan_by_tiles<
     firsts.set_axis(axis.0, len.min(1));
     let mut rows = BoxRows::new(firsts, array.fast_order());
     while let Some(row) = rows.next() {
-        scan_row(array, axis.0, &row, len, init, &mut values, f);
+        scan_row(array, axis.0, &row, init, &mut values, f);
     }
 }
 
@@ -71,7 +71,6 @@ fn scan_row<A: Copy, S: DataMut<Elem = A>, D: Lengths, B: Copy, F: Fn(B, A) -> (
     array: &mut ArrayBase<S, D>,
     axis: usize,
     row: &Row<D>,
-    len: usize,
     init: B,
     values: &mut [B],
     f: &F,
@@ -79,16 +78,16 @@ fn scan_row<A: Copy, S: DataMut<Elem = A>, D: Lengths, B: Copy, F: Fn(B, A) -> (
     requires axis { axis < length array.old.lengths }
     requires whole { IsGrid array.old }
     requires limit { IsWithinLimit array.old.lengths }
-    requires len { len ≡ slice_index array.old.lengths axis }
     requires some { 0 < length values.old }
     requires lanes { AreOnLanes array.old.lengths axis (row_from (D.numbers row.now.first) row.now.axis row.now.count) }
     requires callable { MayScanEach (step_gives F.Fn f.now) (can_step F.Fn f.now) axis init (lanes_at axis (row_from (D.numbers row.now.first) row.now.axis row.now.count)) array.old }
     ensures { ScansEach (step_gives F.Fn f.now) axis init (lanes_at axis (row_from (D.numbers row.now.first) row.now.axis row.now.count)) array.old array.new }
 {
+    let len = array.len_of(Axis(axis));
     let mut done = 0;
     'tiles: while done < row.count {
         let tile = row.part(done, values.len());
-        scan_side_by_side(array, axis, &tile, len, init, &mut values[..tile.count], f);
+        scan_side_by_side(array, axis, len, &tile, init, &mut values[..tile.count], f);
         done += tile.count;
     }
 }
@@ -98,15 +97,15 @@ fn scan_row<A: Copy, S: DataMut<Elem = A>, D: Lengths, B: Copy, F: Fn(B, A) -> (
 fn scan_side_by_side<A: Copy, S: DataMut<Elem = A>, D: Lengths, B: Copy, F: Fn(B, A) -> (B, A)>(
     array: &mut ArrayBase<S, D>,
     axis: usize,
-    row: &Row<D>,
     len: usize,
+    row: &Row<D>,
     init: B,
     values: &mut [B],
     f: &F,
 )
+    requires len { len ≡ slice_index array.old.lengths axis }
     requires axis { axis < length array.old.lengths }
     requires whole { IsGrid array.old }
-    requires len { len ≡ slice_index array.old.lengths axis }
     requires some { 0 < row.now.count }
     requires many { length values.old ≡ row.now.count }
     requires lanes { AreOnLanes array.old.lengths axis (row_from (D.numbers row.now.first) row.now.axis row.now.count) }

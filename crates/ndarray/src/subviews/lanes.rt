@@ -1,11 +1,11 @@
 //! The lanes along an axis: views of one axis, one for each index list of the other axes.
 
-ghost use Rattle.std.specs.Prelude.{◌≡◌, ◌⊎◌, ◌-◌, ◌<◌, ◌↔◌, [], length, IsTrue};
+ghost use Rattle.std.specs.Prelude.{◌≡◌, ◌⊎◌, ◌-◌, ◌<◌, ◌↔◌, [], length, remove, slice_index, IsTrue};
 ghost use Rattle.ndarray.specs.Subviews.{lanes_of};
 
 use crate::base::array::ArrayBase;
 use crate::base::axis::Axis;
-use crate::base::dimension::{Dimension, Ix1};
+use crate::base::dimension::{Dimension, Ix1, Lengths};
 use crate::base::layout::Layout;
 use crate::base::storage::Data;
 use crate::subviews::pieces::{Pieces, PiecesIter};
@@ -47,18 +47,10 @@ impl<S: Data, D: Dimension> ArrayBase<S, D> {
         ensures { result ≡ lanes_of self.now axis.0 }
     {
         let layout = &self.layout;
-        let (len, stride) = if layout.dim.ndim() == 0 {
-            (1, 0)
-        } else {
-            (layout.dim.axis(axis.0), layout.strides.axis(axis.0))
-        };
+        let (len, stride) = len_and_stride(layout, axis);
         Pieces {
             storage: self.storage.seen(),
-            positions: Layout {
-                start: layout.start,
-                dim: layout.dim.try_remove_axis(axis),
-                strides: layout.strides.try_remove_axis(axis),
-            },
+            positions: first_cells(layout, axis),
             dim: Ix1(len),
             strides: Ix1(stride),
         }
@@ -86,5 +78,33 @@ impl<S: Data, D: Dimension> ArrayBase<S, D> {
         ensures { result ≡ lanes_of self.now 0 }
     {
         self.lanes(Axis(0))
+    }
+}
+
+/// Where the first cells of the lanes along an axis lie.
+pub(super) fn first_cells<D: Dimension>(layout: &Layout<D>, axis: Axis) -> Layout<D::Smaller>
+    requires dim { (D.numbers layout.now.dim ≡ []) ⊎ (axis.0 < length (D.numbers layout.now.dim)) }
+    requires strides { (D.numbers layout.now.strides ≡ []) ⊎ (axis.0 < length (D.numbers layout.now.strides)) }
+    ensures start { result.start ≡ layout.now.start }
+    ensures dim { D.Smaller.numbers result.dim ≡ remove (D.numbers layout.now.dim) axis.0 }
+    ensures strides { D.Smaller.numbers result.strides ≡ remove (D.numbers layout.now.strides) axis.0 }
+{
+    Layout {
+        start: layout.start,
+        dim: layout.dim.try_remove_axis(axis),
+        strides: layout.strides.try_remove_axis(axis),
+    }
+}
+
+/// The length of each lane along an axis and the stride in it: 1 and 0 where there are no axes.
+pub(super) fn len_and_stride<D: Lengths>(layout: &Layout<D>, axis: Axis) -> (usize, usize)
+    requires dim { (D.numbers layout.now.dim ≡ []) ⊎ (axis.0 < length (D.numbers layout.now.dim)) }
+    requires as_many { length (D.numbers layout.now.strides) ≡ length (D.numbers layout.now.dim) }
+    ensures { ((D.numbers layout.now.dim ≡ []) × (result.0 ≡ 1)) ⊎ ((axis.0 < length (D.numbers layout.now.dim)) × (result.0 ≡ slice_index (D.numbers layout.now.dim) axis.0) × (result.1 ≡ slice_index (D.numbers layout.now.strides) axis.0)) }
+{
+    if layout.dim.ndim() == 0 {
+        (1, 0)
+    } else {
+        (layout.dim.axis(axis.0), layout.strides.axis(axis.0))
     }
 }

@@ -6,8 +6,8 @@ ghost use Rattle.ndarray.specs.Subviews.{lanes_of};
 use crate::base::array::{ArrayBase, ArrayViewMut};
 use crate::base::axis::Axis;
 use crate::base::dimension::{Dimension, Ix1};
-use crate::base::layout::Layout;
 use crate::base::storage::DataMut;
+use crate::subviews::lanes::{first_cells, len_and_stride};
 use crate::subviews::pieces_mut::{EqualPiecesIterMut, PiecesMut};
 use std::marker::PhantomData;
 
@@ -75,18 +75,10 @@ fn pieces<'a, A, D: Dimension>(
     ensures { result ≡ lanes_of view.entry axis.0 }
 {
     let ArrayBase { storage, layout } = view;
-    let (len, stride) = if layout.dim.ndim() == 0 {
-        (1, 0)
-    } else {
-        (layout.dim.axis(axis.0), layout.strides.axis(axis.0))
-    };
+    let (len, stride) = len_and_stride(&layout, axis);
     PiecesMut {
         region: storage,
-        positions: Layout {
-            start: layout.start,
-            dim: layout.dim.try_remove_axis(axis),
-            strides: layout.strides.try_remove_axis(axis),
-        },
+        positions: first_cells(&layout, axis),
         dim: Ix1(len),
         strides: Ix1(stride),
         lifetime: PhantomData,

@@ -106,25 +106,7 @@ impl<'a, A, T: PieceLayouts> Iterator for PiecesIterMut<'a, A, T> {
         ensures upper { IfSome result.1 (UpTo (item_count (λ rest. rest) self.now)) }
         ensures exact { IsExactHint result (length self.now) }
     {
-        let len = self.len();
-        (len, Some(len))
-    }
-}
-
-impl<'a, A, T: PieceLayouts> ExactSizeIterator for PiecesIterMut<'a, A, T> {
-    fn len(&self) -> usize {
-        self.layouts.len()
-    }
-}
-
-impl<'a, A, T: PieceLayoutsFromEnds> DoubleEndedIterator for PiecesIterMut<'a, A, T> {
-    ghost next_back_gives = { YieldsLast (λ rest. rest) };
-
-    fn next_back(&mut self) -> Option<ArrayViewMut<'a, A, T::Dim>> {
-        let Some(layout) = self.layouts.next_back() else {
-            return None;
-        };
-        Some(take_array(&mut self.region, layout))
+        (self.len(), Some(self.len()))
     }
 }
 
@@ -144,6 +126,23 @@ impl<'a, A: 'a, T: PieceLayouts> PiecesIterMut<'a, A, T> {
             layouts,
             lifetime: PhantomData,
         }
+    }
+}
+
+impl<'a, A, T: PieceLayouts> ExactSizeIterator for PiecesIterMut<'a, A, T> {
+    fn len(&self) -> usize {
+        self.layouts.len()
+    }
+}
+
+impl<'a, A, T: PieceLayoutsFromEnds> DoubleEndedIterator for PiecesIterMut<'a, A, T> {
+    ghost next_back_gives = { YieldsLast (λ rest. rest) };
+
+    fn next_back(&mut self) -> Option<ArrayViewMut<'a, A, T::Dim>> {
+        let Some(layout) = self.layouts.next_back() else {
+            return None;
+        };
+        Some(take_array(&mut self.region, layout))
     }
 }
 

@@ -81,12 +81,12 @@ impl<'a, A, P: Lengths, D: Lengths> Pieces<'a, A, P, D> {
         ensures { result ≡ filter_map (cell self.now) (row_from (P.numbers first.now) axis count) }
     {
         PieceRow {
+            dim: self.dim.copied(),
+            strides: self.strides.copied(),
             storage: self.storage,
             place: self.positions.place(first),
             step: self.positions.stride(axis),
             left: count,
-            dim: self.dim.copied(),
-            strides: self.strides.copied(),
         }
     }
 }
@@ -158,21 +158,14 @@ impl<'a, A, P: Lengths, D: Lengths> PiecesMut<'a, A, P, D> {
         ensures rows { result ≡ map (filter_map (cell self.entry)) (rows_in order self.entry.lengths) }
         ensures whole { IsGrid self.entry }
     {
-        let PiecesMut {
-            region,
-            positions,
-            dim,
-            strides,
-            lifetime,
-        } = self;
-        let rows = BoxRows::new(positions.dim.copied(), order);
+        let rows = BoxRows::new(self.positions.dim.copied(), order);
         PieceRowsMut {
-            region,
-            positions,
-            dim,
-            strides,
+            region: self.region,
+            positions: self.positions,
+            dim: self.dim,
+            strides: self.strides,
             rows,
-            lifetime,
+            lifetime: self.lifetime,
         }
     }
 }

@@ -8,7 +8,7 @@ ghost use Rattle.ndarray.specs.Index.{InBox};
 ghost use Rattle.ndarray.specs.Grid.{IsGrid, cell};
 ghost use Rattle.ndarray.specs.Limits.{IsWithinLimit};
 ghost use Rattle.ndarray.specs.Orders.{cells_in};
-ghost use Rattle.ndarray.specs.Views.{axis_part};
+ghost use Rattle.ndarray.specs.base.Splits.{IsPartAlong, IsSplit};
 
 use crate::base::array::{ArrayBase, ArrayView};
 use crate::base::axis::Axis;
@@ -85,24 +85,18 @@ impl<'a, A, P: Lengths, D: Lengths> Pieces<'a, A, P, D> {
     pub(crate) fn split_at(self, axis: Axis, index: usize) -> (Self, Self)
         requires axis { axis.0 < length self.lengths }
         requires within { index ≤ slice_index self.lengths axis.0 }
-        ensures first { result.0 ≡ axis_part self.entry axis.0 0 index }
-        ensures second { result.1 ≡ axis_part self.entry axis.0 index (slice_index self.entry.lengths axis.0) }
-        ensures first_whole { IsGrid result.0 }
-        ensures second_whole { IsGrid result.1 }
+        ensures { IsSplit self.entry axis.0 index result.0 result.1 }
     {
-        let len = self.positions.dim.axis(axis.0);
-        (
-            self.part(axis.0, 0, index),
-            self.part(axis.0, index, len - index),
-        )
+        let low = self.part(axis.0, 0, index);
+        let high = self.part(axis.0, index, self.positions.dim.axis(axis.0) - index);
+        (low, high)
     }
 
     /// The pieces at the `len` positions of an axis from `from` on.
     pub(crate) fn part(&self, axis: usize, from: usize, len: usize) -> Self
         requires axis { axis < length self.now.lengths }
         requires within { from + len ≤ slice_index self.now.lengths axis }
-        ensures value { result ≡ axis_part self.now axis from (from + len) }
-        ensures whole { IsGrid result }
+        ensures { IsPartAlong self.now axis from (from + len) result }
     {
         let mut part = self.again();
         part.positions.cut(axis, from, len, 1);
@@ -190,8 +184,7 @@ impl<'a, A, P: Lengths, D: Lengths> Iterator for PiecesIter<'a, A, P, D> {
         ensures upper { IfSome result.1 (UpTo (item_count (λ rest. rest) self.now)) }
         ensures exact { IsExactHint result (length self.now) }
     {
-        let len = self.len();
-        (len, Some(len))
+        (self.len(), Some(self.len()))
     }
 }
 

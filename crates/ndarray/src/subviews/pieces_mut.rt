@@ -4,7 +4,7 @@ ghost use Rattle.std.specs.Prelude.{◌≡◌, ◌^◌, ◌<◌, ◌≤◌, leng
 ghost use Rattle.ndarray.specs.Grid.{IsGrid};
 ghost use Rattle.ndarray.specs.Limits.{IsWithinLimit};
 ghost use Rattle.ndarray.specs.Orders.{cells_in};
-ghost use Rattle.ndarray.specs.Views.{axis_part};
+ghost use Rattle.ndarray.specs.base.Splits.{IsSplit};
 
 use crate::base::array::ArrayViewMut;
 use crate::base::axis::Axis;
@@ -84,10 +84,7 @@ impl<'a, A, P: Lengths, D: Lengths> PiecesMut<'a, A, P, D> {
     pub(crate) fn split_at(self, axis: Axis, index: usize) -> (Self, Self)
         requires axis { axis.0 < length self.lengths }
         requires within { index ≤ slice_index self.lengths axis.0 }
-        ensures first { result.0 ≡ axis_part self.entry axis.0 0 index }
-        ensures second { result.1 ≡ axis_part self.entry axis.0 index (slice_index self.entry.lengths axis.0) }
-        ensures first_whole { IsGrid result.0 }
-        ensures second_whole { IsGrid result.1 }
+        ensures { IsSplit self.entry axis.0 index result.0 result.1 }
     {
         let PiecesMut {
             region,
@@ -158,11 +155,11 @@ pub type EqualPiecesIterMut<'a, A, P, D> = PiecesIterMut<'a, A, EqualPieceLayout
 impl<'a, A, P: Lengths, D: Lengths> IntoIterator for PiecesMut<'a, A, P, D> {
     type Item = ArrayViewMut<'a, A, D>;
 
-    type IntoIter = EqualPiecesIterMut<'a, A, P, D>;
+    type IntoIter = PiecesIterMut<'a, A, EqualPieceLayouts<P, D>>;
 
     ghost into_iter_gives = { λ s it. (it ≡ s.cells) × (length it < 2 ^ 63) };
 
-    fn into_iter(self) -> EqualPiecesIterMut<'a, A, P, D> {
+    fn into_iter(self) -> Self::IntoIter {
         self.run(Order::RowMajor)
     }
 }
@@ -184,9 +181,7 @@ impl<P: Lengths, D: Lengths> PieceLayouts for EqualPieceLayouts<P, D> {
 
     #[inline(always)]
     fn next(&mut self) -> Option<Layout<D>> {
-        let Some(position) = self.walk.next() else {
-            return None;
-        };
+        let position = self.walk.next()?;
         Some(Layout {
             start: self.positions.place(&position),
             dim: self.dim.copied(),

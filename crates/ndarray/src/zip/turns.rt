@@ -14,15 +14,12 @@ use std::convert::Infallible;
 use std::marker::Model;
 
 /// A closure, and the total of its calls so far.
-struct Folding<C, B> {
-    f: C,
-    total: B,
-}
+struct Folding<C, B>(C, B);
 
 impl<C, B> Model for Folding<C, B> {
     ghost Value = { C × B };
 
-    ghost view = { λ s. (s.f, s.total) };
+    ghost view = { λ s. (s.0, s.1) };
 }
 
 impl<X, B, C: FoldCall<B, X, Out = B>> Turn<X> for Folding<C, B> {
@@ -36,9 +33,9 @@ impl<X, B, C: FoldCall<B, X, Out = B>> Turn<X> for Folding<C, B> {
 
     #[inline(always)]
     fn accept(self, item: X) -> Result<Folding<C, B>, Infallible> {
-        let Folding { mut f, total } = self;
+        let Folding(mut f, total) = self;
         let total = f.call(total, item);
-        Ok(Folding { f, total })
+        Ok(Folding(f, total))
     }
 }
 
@@ -52,8 +49,8 @@ pub(crate) fn fold_items<P: NdProducer, B, C: FoldCall<B, P::Item, Out = B>>(
     requires callable { MayFold (P.yields_at p) C.call_gives C.can_call (box_in order (P.lengths p)) f init }
     ensures ran { Folds (P.yields_at p) C.call_gives (box_in order (P.lengths p)) f init result }
 {
-    match walk_items(p, order, Folding { f, total: init }) {
-        Ok(Folding { f: _f, total }) => total,
+    match walk_items(p, order, Folding(f, init)) {
+        Ok(Folding(_f, total)) => total,
         Err(_) => unreachable!(),
     }
 }
@@ -181,15 +178,12 @@ pub(crate) fn any_items<P: NdProducer, C: ItemCall<P::Item, Out = bool>>(
 }
 
 /// A closure that has gone on at each item, and the total of its calls.
-struct FoldingWhile<C, B> {
-    f: C,
-    total: B,
-}
+struct FoldingWhile<C, B>(C, B);
 
 impl<C, B> Model for FoldingWhile<C, B> {
     ghost Value = { C × B };
 
-    ghost view = { λ s. (s.f, s.total) };
+    ghost view = { λ s. (s.0, s.1) };
 }
 
 impl<X, B, C: FoldCall<B, X, Out = FoldWhile<B>>> Turn<X> for FoldingWhile<C, B> {
@@ -203,9 +197,9 @@ impl<X, B, C: FoldCall<B, X, Out = FoldWhile<B>>> Turn<X> for FoldingWhile<C, B>
 
     #[inline(always)]
     fn accept(self, item: X) -> Result<FoldingWhile<C, B>, B> {
-        let FoldingWhile { mut f, total } = self;
+        let FoldingWhile(mut f, total) = self;
         match f.call(total, item) {
-            FoldWhile::Continue(total) => Ok(FoldingWhile { f, total }),
+            FoldWhile::Continue(total) => Ok(FoldingWhile(f, total)),
             FoldWhile::Done(last) => Err(last),
         }
     }
@@ -221,9 +215,9 @@ pub(crate) fn fold_items_while<P: NdProducer, B, C: FoldCall<B, P::Item, Out = F
     requires callable { MayFoldWhile (P.yields_at p) C.call_gives C.can_call (box_in order (P.lengths p)) f init }
     ensures ran { FoldsWhile (P.yields_at p) C.call_gives (box_in order (P.lengths p)) f init result }
 {
-    match walk_items(p, order, FoldingWhile { f, total: init }) {
+    match walk_items(p, order, FoldingWhile(f, init)) {
         Ok(folded) => {
-            let FoldingWhile { f: _f, total } = folded;
+            let FoldingWhile(_f, total) = folded;
             FoldWhile::Continue(total)
         }
         Err(last) => FoldWhile::Done(last),

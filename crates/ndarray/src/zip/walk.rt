@@ -53,7 +53,7 @@ pub(crate) fn walk_items<P: NdProducer, T: Turn<P::Item>>(
 
 /// Has the items of rows accepted, one row after another.
 fn walk_rows<P: NdProducer, R: Iterator<Item = P::Row>, T: Turn<P::Item>>(
-    mut rows: R,
+    rows: R,
     turn: T,
 ) -> Result<T, T::Stop>
     requires can_next { R.can_next rows }
@@ -61,6 +61,7 @@ fn walk_rows<P: NdProducer, R: Iterator<Item = P::Row>, T: Turn<P::Item>>(
     requires can { (p : P) × ((iss : List (List (List ℕ))) × (RowsInTurn R.next_gives (P.row_form p) rows iss × MayTurnAt (TurnAt (P.yields_at p) T.goes) (TakesAt (P.yields_at p) T.can_accept) turn (joined iss))) }
     ensures ran { (p : P) (iss : List (List (List ℕ))) → RowsInTurn R.next_gives (P.row_form p) rows iss → EndsOrStops (TurnAt (P.yields_at p) T.goes) (StopsAt (P.yields_at p) T.stops) turn (joined iss) result }
 {
+    let mut rows = rows;
     let mut turn = turn;
     while let Some(row) = rows.next() {
         if P::is_flat_row(&row) {

@@ -1,4 +1,4 @@
-use Rattle.std.proofs.Common.{◌≡◌, ◌∙◌, List, ℕ, Some, true, false, ap, subst}
+use Rattle.std.proofs.Common.{◌≡◌, ◌∙◌, Bool, List, ℕ, Some, true, false, ap, subst}
 use Rattle.std.specs.Prelude.{IsTrue, pos, ◌↔◌}
 use Rattle.ndarray.specs.Convolution.{TestsProducts, single_steps, valid_counts, window_products}
 use Rattle.ndarray.specs.Grid.{Grid, array_by, cell}
@@ -23,42 +23,37 @@ module _ (g : _) (c : After-view g) where
   can_test : (i : List ℕ) (x : Grid g.row.A.Denot) → InBox c.windows-windows.result.lengths i → cell c.windows-windows.result i ≡ Some x → x.lengths ≡ c.view.result.lengths
   can_test i x b s = window-lengths c.args.a.now c.args.mirrored.now c.view.result c.view.ensures.same c.windows-windows.result windows i x s
 
+  -- what the test of one says
+  tested : (r : Bool) (i : List ℕ) (x : Grid g.row.A.Denot) → cell c.windows-windows.result i ≡ Some x → TestsProducts g.A.Number.value g.A.Number.fits x.cells c.view.result.cells r
+      → (IsTrue r ↔ g.A.Number.fits (pos (magnitude_sum (window_products int_products g.A.Number.value c.args.a.now c.args.mirrored.now i))))
+      × (IsTrue r → IsSummable int_sums g.A.Number.fits (window_products int_products g.A.Number.value c.args.a.now c.args.mirrored.now i))
+  tested r i x s test = test-at c.args.a.now c.args.mirrored.now c.view.result c.view.ensures.same c.windows-windows.result windows i x s g.A.Number.value g.A.Number.fits r test
+
 pub all_in_either_order-requires-clause-by_rows : goal.all_in_either_order-requires-clause-by_rows
-all_in_either_order-requires-clause-by_rows g c = may-test _ (λ t w r d. TestsProducts g.A.Number.value g.A.Number.fits w.cells t.kernel.cells r × (d ≡ t)) _ _ _ true (λ i x k s h. h.1) RowMajor (can_test g c)
+all_in_either_order-requires-clause-by_rows g c = may-test _ (λ t w r d. TestsProducts g.A.Number.value g.A.Number.fits w.cells t.0.cells r × (d ≡ t)) _ _ _ true (λ i x k s h. h.1) RowMajor (can_test g c)
 
 pub all_in_either_order-requires-clause-by_columns : goal.all_in_either_order-requires-clause-by_columns
-all_in_either_order-requires-clause-by_columns g c = may-test _ (λ t w r d. TestsProducts g.A.Number.value g.A.Number.fits w.cells t.kernel.cells r × (d ≡ t)) _ _ _ true (λ i x k s h. h.1) ColumnMajor (can_test g c)
+all_in_either_order-requires-clause-by_columns g c = may-test _ (λ t w r d. TestsProducts g.A.Number.value g.A.Number.fits w.cells t.0.cells r × (d ≡ t)) _ _ _ true (λ i x k s h. h.1) ColumnMajor (can_test g c)
 
 pub returns-clause-magnitudes : goal.returns-clause-magnitudes
 returns-clause-magnitudes g c =
-    let value = g.A.Number.value in
-    let fits = g.A.Number.fits in
-    let a = c.args.a.now in
-    let m = c.args.mirrored.now in
-    let ws = c.windows-windows.result in
-    let is_windows : ws ≡ array_by (valid_counts a.lengths m.lengths) (window a m.lengths (single_steps a.lengths)) = c.windows-windows.ensures ∙ ap (λ ns. windows_of a ns (single_steps a.lengths)) c.raw_dim.ensures.lengths in
-    let fit = λ (i : List ℕ). fits (pos (magnitude_sum (window_products int_products value a m i))) in
+    let fit = λ (i : List ℕ). g.A.Number.fits (pos (magnitude_sum (window_products int_products g.A.Number.value c.args.a.now c.args.mirrored.now i))) in
     let (o, ran) = c.all_in_either_order.ensures.ran in
-    subst (λ ms. IsTrue c.all_in_either_order.result ↔ ((i : List ℕ) → InBox ms i → fit i)) (ap (λ w. w.lengths) is_windows)
+    subst (λ ms. IsTrue c.all_in_either_order.result ↔ ((i : List ℕ) → InBox ms i → fit i)) (ap (λ w. w.lengths) (windows g (goal.at.returns-clause-magnitudes g c).After-view))
     (all-decides _ _ _ _ o _ fit
-    (λ i k h. (h.2.1, from_yes _ (test-at a m c.view.result c.view.ensures.same ws is_windows i h.0 h.1 value fits true h.2.0).0)) c.all_in_either_order.result
-    (λ i h. (h.2.0, not_true _ (test-at a m c.view.result c.view.ensures.same ws is_windows i h.0 h.1 value fits false h.2.1.1.0).0))
+    (λ i k h. (h.2.1, from_yes _ (tested g (goal.at.returns-clause-magnitudes g c).After-view true i h.0 h.1 h.2.0).0)) c.all_in_either_order.result
+    (λ i h. (h.2.0, not_true _ (tested g (goal.at.returns-clause-magnitudes g c).After-view false i h.0 h.1 h.2.1.1.0).0))
     (λ e. e) ran)
 
 pub returns-clause-selections : goal.returns-clause-selections
 returns-clause-selections g c =
-    let value = g.A.Number.value in
-    let fits = g.A.Number.fits in
-    let a = c.args.a.now in
-    let m = c.args.mirrored.now in
-    let ws = c.windows-windows.result in
-    let is_windows : ws ≡ array_by (valid_counts a.lengths m.lengths) (window a m.lengths (single_steps a.lengths)) = c.windows-windows.ensures ∙ ap (λ ns. windows_of a ns (single_steps a.lengths)) c.raw_dim.ensures.lengths in
-    let both = λ (i : List ℕ). fits (pos (magnitude_sum (window_products int_products value a m i))) × IsSummable int_sums fits (window_products int_products value a m i) in
+    let products = window_products int_products g.A.Number.value c.args.a.now c.args.mirrored.now in
+    let both = λ (i : List ℕ). g.A.Number.fits (pos (magnitude_sum (products i))) × IsSummable int_sums g.A.Number.fits (products i) in
     let (o, ran) = c.all_in_either_order.ensures.ran in
-    let all : IsTrue c.all_in_either_order.result ↔ ((i : List ℕ) → InBox (valid_counts a.lengths m.lengths) i → both i) =
-    subst (λ ms. IsTrue c.all_in_either_order.result ↔ ((i : List ℕ) → InBox ms i → both i)) (ap (λ w. w.lengths) is_windows)
+    let all : IsTrue c.all_in_either_order.result ↔ ((i : List ℕ) → InBox (valid_counts c.args.a.now.lengths c.args.mirrored.now.lengths) i → both i) =
+    subst (λ ms. IsTrue c.all_in_either_order.result ↔ ((i : List ℕ) → InBox ms i → both i)) (ap (λ w. w.lengths) (windows g (goal.at.returns-clause-selections g c).After-view))
     (all-decides _ _ _ _ o _ both
-    (λ i k h. let t = test-at a m c.view.result c.view.ensures.same ws is_windows i h.0 h.1 value fits true h.2.0 in let yes = from_yes _ t.0 in (h.2.1, (yes, t.1 (t.0.1 yes)))) c.all_in_either_order.result
-    (λ i h. (h.2.0, λ p. not_true _ (test-at a m c.view.result c.view.ensures.same ws is_windows i h.0 h.1 value fits false h.2.1.1.0).0 p.0))
+    (λ i k h. let t = tested g (goal.at.returns-clause-selections g c).After-view true i h.0 h.1 h.2.0 in let yes = from_yes _ t.0 in (h.2.1, (yes, t.1 (t.0.1 yes)))) c.all_in_either_order.result
+    (λ i h. (h.2.0, λ p. not_true _ (tested g (goal.at.returns-clause-selections g c).After-view false i h.0 h.1 h.2.1.1.0).0 p.0))
     (λ e. e) ran) in
     λ on ps inside. (all.0 on ps inside).1

@@ -22,19 +22,15 @@ returns-in_err-kept-clause-empty g c none =
 
 pub swap_axes-requires-2-clause-first : goal.swap_axes-requires-2-clause-first
 swap_axes-requires-2-clause-first g c =
-    let axis = c.ndim-axis.result - 1 in
-    let axes = c.requires.axes in
     let n = c.ndim-axis.ensures.value ∙ ap length c.raw_dim.ensures.lengths in
-    let lengths = ap length (c.in_ok-kept.ensures.lengths ∙ ap (λ k. k.lengths) c.swap_axes.ensures.value) ∙ (length-swap c.again-columns.result.lengths (axis - 1) axis ∙ ap (λ k. length k.lengths) c.again-columns.ensures.same) in
-    omega (arith, n, axes, lengths)
+    let lengths = ap length (c.in_ok-kept.ensures.lengths ∙ ap (λ k. k.lengths) c.swap_axes.ensures.value) ∙ (length-swap c.again-columns.result.lengths (c.ndim-axis.result - 1 - 1) (c.ndim-axis.result - 1) ∙ ap (λ k. length k.lengths) c.again-columns.ensures.same) in
+    omega (arith, n, c.requires.axes, lengths)
 
 pub swap_axes-requires-2-clause-second : goal.swap_axes-requires-2-clause-second
 swap_axes-requires-2-clause-second g c =
-    let axis = c.ndim-axis.result - 1 in
-    let axes = c.requires.axes in
     let n = c.ndim-axis.ensures.value ∙ ap length c.raw_dim.ensures.lengths in
-    let lengths = ap length (c.in_ok-kept.ensures.lengths ∙ ap (λ k. k.lengths) c.swap_axes.ensures.value) ∙ (length-swap c.again-columns.result.lengths (axis - 1) axis ∙ ap (λ k. length k.lengths) c.again-columns.ensures.same) in
-    omega (arith, n, axes, lengths)
+    let lengths = ap length (c.in_ok-kept.ensures.lengths ∙ ap (λ k. k.lengths) c.swap_axes.ensures.value) ∙ (length-swap c.again-columns.result.lengths (c.ndim-axis.result - 1 - 1) (c.ndim-axis.result - 1) ∙ ap (λ k. length k.lengths) c.again-columns.ensures.same) in
+    omega (arith, n, c.requires.axes, lengths)
 
 pub returns-clause-cells : goal.returns-clause-cells
 returns-clause-cells g c =

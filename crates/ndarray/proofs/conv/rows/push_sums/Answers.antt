@@ -29,9 +29,11 @@ loop-tile-init g c =
       capacity = omega arith;
     }
 
-pub push_tile-requires-clause-within : goal.push_tile-requires-clause-within
-push_tile-requires-clause-within g c κs lives =
-    subst (All (InBox (valid_counts c.args.a.now.lengths c.args.mirrored.now.lengths))) c.in-Some.ensures.row (All-take (InBox (valid_counts c.args.a.now.lengths c.args.mirrored.now.lengths)) c.in-Some.tile.count c.loop-tile.left c.loop-tile.invariant.within)
+pub push_tile-requires-clause-row : goal.push_tile-requires-clause-row
+push_tile-requires-clause-row g c κs lives = record {
+  some = c.in-Some.ensures.some;
+  within = subst (All (InBox (valid_counts c.args.a.now.lengths c.args.mirrored.now.lengths))) c.in-Some.ensures.row (All-take (InBox (valid_counts c.args.a.now.lengths c.args.mirrored.now.lengths)) c.in-Some.tile.count c.loop-tile.left c.loop-tile.invariant.within);
+}
 
 pub push_tile-requires-clause-room : goal.push_tile-requires-clause-room
 push_tile-requires-clause-room g c =

@@ -1,4 +1,4 @@
-use Rattle.std.proofs.Common.{◌≡◌, ◌∙◌, ◌+◌, ◌-◌, ◌<◌, ◌≤◌, ◌⊎◌, ℕ, inl, inr, refl, arith, ap, get_or, set, subst, sym}
+use Rattle.std.proofs.Common.{◌≡◌, ◌∙◌, ◌+◌, ◌-◌, ◌<◌, ◌≤◌, ◌⊎◌, ℕ, inl, inr, refl, rules, arith, ap, get_or, set, subst, sym}
 use Rattle.std.proofs.lemmas.Bool.{false≢true}
 use Rattle.std.proofs.lemmas.Result.{IfOk-weaker}
 use Rattle.ndarray.specs.AlongAxis.{IsDifferenceOf}
@@ -31,25 +31,24 @@ rest-within l n m k e f = omega arith
 rest-at_most : (l n m : ℕ) → l ≡ m → l - n ≤ m
 rest-at_most l n m e = omega arith
 
-pub returns-then-len-eq0-clause-differences : goal.returns-then-len-eq0-clause-differences
-returns-then-len-eq0-clause-differences g c =
+pub returns-then-len-eq0 : goal.returns-then-len-eq0
+returns-then-len-eq0 g c =
     let same = c.view.ensures.same in
     let axis = c.args.axis.0 in
     let rest : c.len_of.result - c.args.n ≡ get_or c.args.array.now.lengths axis 0 - c.args.n = ap (λ n. n - c.args.n) c.len_of.ensures.value in
     let whole = IsDifferenceOf g.A.Sub.sub_gives axis c.args.n c.args.array.now in
-    IfOk-weaker c.copy_of-then-len-eq0-2.result _ whole
-    (λ r copy. subst whole (sym copy)
-    (difference-without_cells g.A.Sub.sub_gives axis c.args.array.now c.args.n _ (subst IsGrid same c.view.ensures.whole) (sym c.len.ensures.size ∙ c.if-len-eq0.true) c.requires.axis (order-at_most _ _ c.requires.order)
-    c.part-then-len-eq0.ensures.whole
-    (part-lengths c.args.array.now c.view.result _ axis 0 (c.len_of.result - c.args.n) same c.part-then-len-eq0.ensures.value ∙ ap (set c.args.array.now.lengths axis) rest)))
-    c.copy_of-then-len-eq0-2.ensures.same
-
-pub returns-then-len-eq0-clause-empty : goal.returns-then-len-eq0-clause-empty
-returns-then-len-eq0-clause-empty g c = λ none.
-    let axis = c.args.axis.0 in
     let fewer = rest-at_most c.len_of.result c.args.n _ c.len_of.ensures.value in
-    c.copy_of-then-len-eq0-2.ensures.empty
-    (ap size (part-lengths c.args.array.now c.view.result _ axis 0 (c.len_of.result - c.args.n) c.view.ensures.same c.part-then-len-eq0.ensures.value) ∙ size-set_none c.args.array.now.lengths axis (c.len_of.result - c.args.n) fewer none)
+    let lengths = part-lengths c.args.array.now c.view.result _ axis 0 (c.len_of.result - c.args.n) same c.part-then-len-eq0.ensures.value in
+    record {
+      differences = IfOk-weaker c.copy_of-then-len-eq0-2.result _ whole
+          (λ r copy. subst whole (sym copy)
+          (difference-without_cells g.A.Sub.sub_gives axis c.args.array.now c.args.n _ (subst IsGrid same c.view.ensures.whole) (sym c.len.ensures.size ∙ c.if-len-eq0.true) c.requires.axis (order-at_most _ _ c.requires.order)
+          c.part-then-len-eq0.ensures.whole
+          (lengths ∙ ap (set c.args.array.now.lengths axis) rest)))
+          c.copy_of-then-len-eq0-2.ensures.same;
+      axes = c.copy_of-then-len-eq0-2.ensures.axes;
+      empty = λ none. c.copy_of-then-len-eq0-2.ensures.empty (ap size lengths ∙ size-set_none c.args.array.now.lengths axis (c.len_of.result - c.args.n) fewer none);
+    }
 
 pub difference-requires-clause-defined : goal.difference-requires-clause-defined
 difference-requires-clause-defined g c = λ is y x p q. c.requires.defined 0 c.args.array.now is y x (positive c.args.n c.if-n-eq0.false) refl p q
@@ -84,8 +83,12 @@ difference-requires-in-loop-clause-some g c =
 pub difference-requires-in-loop-clause-defined : goal.difference-requires-in-loop-clause-defined
 difference-requires-in-loop-clause-defined g c = λ is y x p q. c.requires.defined c.loop.counter c.loop.cells is y x c.loop-test.true c.loop.invariant.so_far p q
 
-pub returns-in_err-cells-2-clause-empty : goal.returns-in_err-cells-2-clause-empty
-returns-in_err-cells-2-clause-empty g c = λ none.
+pub returns-in_err-cells-2 : goal.returns-in_err-cells-2
+returns-in_err-cells-2 g c =
     let below = order-below c.args.n _ c.if-n-eq0.false c.requires.order in
     let l = difference-length g.A.Sub.sub_gives c.args.axis.0 c.args.array.now c.loop.counter c.loop.cells c.requires.axis (fewer-within c.loop.counter c.args.n _ c.loop-test.true below) c.loop.invariant.so_far in
-    absurd (false≢true (c.in_err-cells-2.ensures.empty (l.2 none)))
+    record {
+      differences = search rules;
+      axes = search rules;
+      empty = λ none. absurd (false≢true (c.in_err-cells-2.ensures.empty (l.2 none)));
+    }

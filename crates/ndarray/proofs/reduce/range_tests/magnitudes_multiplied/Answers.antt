@@ -20,17 +20,13 @@ loop-run-init g c =
 pub loop-run-preserved : goal.loop-run-preserved
 loop-run-preserved g c =
     let v = g.A.Number.value in
-    let fits = g.A.Number.fits in
-    let cells = map v c.args.array.now.cells in
     let rest = joined c.next.new.self in
-    c.in-Some-times_run.ensures cells (map v rest)
-    (subst (λ l. MultipliedSoFar fits cells l (v c.loop-run.product)) (ap (λ rs. map v (joined rs)) c.in-Some.ensures ∙ map-append v c.in-Some.run' rest) c.loop-run.invariant)
+    c.in-Some-times_run.ensures (map v c.args.array.now.cells) (map v rest)
+    (subst (λ l. MultipliedSoFar g.A.Number.fits (map v c.args.array.now.cells) l (v c.loop-run.product)) (ap (λ rs. map v (joined rs)) c.in-Some.ensures ∙ map-append v c.in-Some.run' rest) c.loop-run.invariant)
 
 pub returns-in_default-times_run : goal.returns-in_default-times_run
 returns-in_default-times_run g c =
     let v = g.A.Number.value in
-    let fits = g.A.Number.fits in
-    let cells = map v c.args.array.now.cells in
     let rest = joined c.next.new.self in
-    c.in_default-times_run.ensures cells (map v rest)
-    (subst (λ l. MultipliedSoFar fits cells l (v c.loop-run.product)) (ap (λ rs. map v (joined rs)) c.in-Some.ensures ∙ map-append v c.in-Some.run' rest) c.loop-run.invariant)
+    c.in_default-times_run.ensures (map v c.args.array.now.cells) (map v rest)
+    (subst (λ l. MultipliedSoFar g.A.Number.fits (map v c.args.array.now.cells) l (v c.loop-run.product)) (ap (λ rs. map v (joined rs)) c.in-Some.ensures ∙ map-append v c.in-Some.run' rest) c.loop-run.invariant)

@@ -1,4 +1,5 @@
-use Rattle.std.proofs.Common.{[], rules, ◌++◌, ◌∙◌, ap, arith, filter_map, map, subst, sym}
+use Rattle.std.proofs.Common.{[], rules, ◌++◌, ◌∙◌, List, ap, arith, filter_map, map, subst, sym}
+use Rattle.std.specs.Prelude.{ℤ}
 use Rattle.ndarray.specs.Grid.{cell}
 use Rattle.ndarray.specs.Integers.{int_products}
 use Rattle.ndarray.specs.SignedSums.{ProductsApart}
@@ -10,22 +11,19 @@ use Rattle.ndarray.proofs.boxes.RowProducts.{products-by_rows, row_products, row
 use Rattle.ndarray.proofs.lists.Decisions.{says_no}
 use Rattle.ndarray.proofs.runs.Rows.{HasRows-rows_in}
 use Rattle.ndarray.proofs.strides.Rows.{length-row_from}
-use Rattle.ndarray.proofs.reduce.range_tests.products_stay_in_range.Goals.{After-drop-whole-2}
+use Rattle.ndarray.proofs.reduce.range_tests.products_stay_in_range.Goals.{After-cells_along-right, After-drop-whole-2}
 use Rattle.ndarray.proofs.reduce.range_tests.products_stay_in_range.Goals as goal
 
 pub loop-row-init : goal.loop-row-init
 loop-row-init g c =
     let v = g.A.Number.value in
-    let fits = g.A.Number.fits in
-    let x = c.args.x.now in
-    let y = c.args.y.now in
-    let products = products_of int_products v x.cells y.cells in
+    let products = products_of int_products v c.args.x.now.cells c.args.y.now.cells in
     let rows = c.new-rows.ensures ∙ ap (rows_in RowMajor) c.raw_dim.ensures.lengths in (
-      subst (HasRows x) (sym rows) (HasRows-rows_in x RowMajor c.raw_dim.ensures.whole),
+      subst (HasRows c.args.x.now) (sym rows) (HasRows-rows_in c.args.x.now RowMajor c.raw_dim.ensures.whole),
       (
-        subst (HasRows y) (sym (rows ∙ ap (rows_in RowMajor) c.requires.same)) (HasRows-rows_in y RowMajor c.raw_dim-whole.ensures.whole),
-        subst (λ l. ProductsApart fits products l (v c.no_sums-sums.result.up) (v c.no_sums-sums.result.down))
-            (products-by_rows int_products v x y c.raw_dim.ensures.whole c.raw_dim-whole.ensures.whole c.requires.same ∙ ap (λ rs. joined (map (row_products int_products v x y) rs)) (sym rows))
+        subst (HasRows c.args.y.now) (sym (rows ∙ ap (rows_in RowMajor) c.requires.same)) (HasRows-rows_in c.args.y.now RowMajor c.raw_dim-whole.ensures.whole),
+        subst (λ l. ProductsApart g.A.Number.fits products l (v c.no_sums-sums.result.up) (v c.no_sums-sums.result.down))
+            (products-by_rows int_products v c.args.x.now c.args.y.now c.raw_dim.ensures.whole c.raw_dim-whole.ensures.whole c.requires.same ∙ ap (λ rs. joined (map (row_products int_products v c.args.x.now c.args.y.now) rs)) (sym rows))
             (c.no_sums-sums.ensures products),
       ),
     )
@@ -45,35 +43,37 @@ pub cells_along-right-requires-clause-within : goal.cells_along-right-requires-c
 cells_along-right-requires-clause-within g c =
     (rows-next c.args.y.now c.loop-row.rows c.next.new.self (row_from (g.D.Lengths.numbers c.in-Some.row.first) c.in-Some.row.axis c.in-Some.row.count) c.in-Some.ensures c.loop-row.invariant.1.0).0.1.within
 
+module _ (g : _) (c : After-cells_along-right g) where
+  abbrev products : List ℤ
+  products = products_of int_products g.A.Number.value c.args.x.now.cells c.args.y.now.cells
+
+  -- the products behind the row
+  abbrev rest : List ℤ
+  rest = joined (map (row_products int_products g.A.Number.value c.args.x.now c.args.y.now) c.next.new.self)
+
+  next : ProductsApart g.A.Number.fits products (products_of int_products g.A.Number.value c.cells_along-left.result c.cells_along-right.result ++ rest) (g.A.Number.value c.loop-row.sums.up) (g.A.Number.value c.loop-row.sums.down)
+  next =
+      let v = g.A.Number.value in
+      let row = row_from (g.D.Lengths.numbers c.in-Some.row.first) c.in-Some.row.axis c.in-Some.row.count in
+      subst (λ l. ProductsApart g.A.Number.fits products l (v c.loop-row.sums.up) (v c.loop-row.sums.down))
+      (ap (λ rs. joined (map (row_products int_products v c.args.x.now c.args.y.now) rs)) c.in-Some.ensures
+      ∙ (ap (λ l. products_of int_products v l (filter_map (cell c.args.y.now) row) ++ rest) (sym c.cells_along-left.ensures)
+      ∙ ap (λ l. products_of int_products v c.cells_along-left.result l ++ rest) (sym c.cells_along-right.ensures)))
+      c.loop-row.invariant.1.1
+
 pub returns-in_default-add_products-clause-magnitudes : goal.returns-in_default-add_products-clause-magnitudes
 returns-in_default-add_products-clause-magnitudes g c =
-    let v = g.A.Number.value in
-    let fits = g.A.Number.fits in
-    let x = c.args.x.now in
-    let y = c.args.y.now in
-    let products = products_of int_products v x.cells y.cells in
-    let rest = joined (map (row_products int_products v x y) c.next.new.self) in
-    let next = ap (λ rs. joined (map (row_products int_products v x y) rs)) c.in-Some.ensures
-    ∙ (ap (λ l. products_of int_products v l (filter_map (cell y) (row_from (g.D.Lengths.numbers c.in-Some.row.first) c.in-Some.row.axis c.in-Some.row.count)) ++ rest) (sym c.cells_along-left.ensures)
-    ∙ ap (λ l. products_of int_products v c.cells_along-left.result l ++ rest) (sym c.cells_along-right.ensures)) in
-    says_no _ (c.in_default-add_products.ensures products rest (subst (λ l. ProductsApart fits products l (v c.loop-row.sums.up) (v c.loop-row.sums.down)) next c.loop-row.invariant.1.1))
+    let p = (goal.at.returns-in_default-add_products-clause-magnitudes g c).After-cells_along-right in
+    says_no _ (c.in_default-add_products.ensures (products g p) (rest g p) (next g p))
 
 pub loop-row-preserved : goal.loop-row-preserved
 loop-row-preserved g c =
-    let v = g.A.Number.value in
-    let fits = g.A.Number.fits in
-    let x = c.args.x.now in
-    let y = c.args.y.now in
-    let row = row_from (g.D.Lengths.numbers c.in-Some.row.first) c.in-Some.row.axis c.in-Some.row.count in
-    let products = products_of int_products v x.cells y.cells in
-    let rest = joined (map (row_products int_products v x y) c.next.new.self) in
-    let next = ap (λ rs. joined (map (row_products int_products v x y) rs)) c.in-Some.ensures
-    ∙ (ap (λ l. products_of int_products v l (filter_map (cell y) row) ++ rest) (sym c.cells_along-left.ensures)
-    ∙ ap (λ l. products_of int_products v c.cells_along-left.result l ++ rest) (sym c.cells_along-right.ensures)) in (
-      (rows-next x c.loop-row.rows c.next.new.self row c.in-Some.ensures c.loop-row.invariant.0).1,
+    let p = (goal.at.loop-row-preserved g c).After-cells_along-right in
+    let row = row_from (g.D.Lengths.numbers c.in-Some.row.first) c.in-Some.row.axis c.in-Some.row.count in (
+      (rows-next c.args.x.now c.loop-row.rows c.next.new.self row c.in-Some.ensures c.loop-row.invariant.0).1,
       (
-        (rows-next y c.loop-row.rows c.next.new.self row c.in-Some.ensures c.loop-row.invariant.1.0).1,
-        c.in-Some-add_products.ensures products rest (subst (λ l. ProductsApart fits products l (v c.loop-row.sums.up) (v c.loop-row.sums.down)) next c.loop-row.invariant.1.1),
+        (rows-next c.args.y.now c.loop-row.rows c.next.new.self row c.in-Some.ensures c.loop-row.invariant.1.0).1,
+        c.in-Some-add_products.ensures (products g p) (rest g p) (next g p),
       ),
     )
 

@@ -21,8 +21,7 @@ loop-run-init g c =
 pub loop-run-preserved : goal.loop-run-preserved
 loop-run-preserved g c =
     let v = g.A.Number.value in
-    let fits = g.A.Number.fits in
     let cells = map v c.args.array.now.cells in
     let rest = joined c.next.new.self in
-    c.in-Some-add_run.ensures cells (map v rest)
-    (subst (λ l. AddedApart fits cells l (v c.loop-run.sums.up) (v c.loop-run.sums.down)) (ap (λ rs. map v (joined rs)) c.in-Some.ensures ∙ map-append v c.in-Some.run' rest) c.loop-run.invariant)
+    c.in_ok-sums.ensures cells (map v rest)
+    (subst (λ l. AddedApart g.A.Number.fits cells l (v c.loop-run.sums.up) (v c.loop-run.sums.down)) (ap (λ rs. map v (joined rs)) c.in-Some.ensures ∙ map-append v c.in-Some.run' rest) c.loop-run.invariant)

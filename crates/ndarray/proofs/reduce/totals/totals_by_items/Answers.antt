@@ -12,8 +12,8 @@ filled-requires g c =
     let removed = c.try_remove_axis-dim.ensures ∙ ap (λ ns. remove ns c.args.axis.0) c.raw_dim.ensures.lengths in
     subst IsWithinLimit (sym removed) (omega (arith, less, c.raw_dim.ensures.limit))
 
-pub returns-then-len-eq0-clause-made : goal.returns-then-len-eq0-clause-made
-returns-then-len-eq0-clause-made g c =
+pub returns-then-len-eq0 : goal.returns-then-len-eq0
+returns-then-len-eq0 g c =
     let v = g.T.TotalOperation in
     let removed = c.try_remove_axis-dim.ensures ∙ ap (λ ns. remove ns c.args.axis.0) c.raw_dim.ensures.lengths in
     record {
@@ -45,8 +45,8 @@ loop-k-preserved g c =
     let is_item = c.into_item-item.ensures.value ∙ ap (λ w. axis_item w c.args.axis.0 c.loop-k.k) c.view.ensures.same in
     items-next v.operation v.InRange v.meaning c.args.array.now c.args.axis.0 c.raw_dim.ensures.whole c.requires.axis c.loop-k.k below c.into_item-item.result c.into_item-item.ensures.whole is_item c.loop-k.totals c.loop-k.invariant c.assign.new.array c.assign.ensures
 
-pub returns-clause-made : goal.returns-clause-made
-returns-clause-made g c =
+pub returns : goal.returns
+returns g c =
     let v = g.T.TotalOperation in
     let r = c.loop-k.invariant in
     let removed = c.try_remove_axis-dim.ensures ∙ ap (λ ns. remove ns c.args.axis.0) c.raw_dim.ensures.lengths in

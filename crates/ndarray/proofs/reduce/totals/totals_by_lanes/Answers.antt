@@ -8,8 +8,8 @@ use Rattle.ndarray.proofs.callers.Collecting.{if_ok-both}
 use Rattle.ndarray.proofs.cells.Elementwise.{maps-of}
 use Rattle.ndarray.proofs.reduce.totals.totals_by_lanes.Goals as goal
 
-pub returns-clause-made : goal.returns-clause-made
-returns-clause-made g c =
+pub returns : goal.returns
+returns g c =
     let same : c.lanes.result ≡ lanes_of c.args.array.now c.args.axis.0 = c.lanes.ensures in
     record {
       made = if_ok-both c.collect_items.result _ _ _

@@ -18,10 +18,9 @@ push_block-requires-clause-room g c =
     let is = g.D.Lengths.numbers c.args.index.now in
     let block = block_at c.args.axis is c.array-item.result in
     let come = blocks-to_come c.args.axis is c.args.arrays.now c.loop-array.array-index c.array-item.result block c.loop-array-test.true c.array-item.is refl in
-    let i = c.loop-array.invariant in
-    let all : length c.loop-array.builder.cells + length (blocks_at c.args.axis is (drop c.loop-array.array-index c.args.arrays.now)) ≡ length c.args.builder.now.cells + length (blocks_at c.args.axis is c.args.arrays.now) = pushed-length _ _ _ _ i.pushed in
+    let all : length c.loop-array.builder.cells + length (blocks_at c.args.axis is (drop c.loop-array.array-index c.args.arrays.now)) ≡ length c.args.builder.now.cells + length (blocks_at c.args.axis is c.args.arrays.now) = pushed-length _ _ _ _ c.loop-array.invariant.pushed in
     let one = ap length come ∙ length-append block _ in
-    let same : size c.loop-array.builder.lengths ≡ size c.args.builder.now.lengths = ap (λ p. size p.lengths) i.pushed in
+    let same : size c.loop-array.builder.lengths ≡ size c.args.builder.now.lengths = ap (λ p. size p.lengths) c.loop-array.invariant.pushed in
     let room = c.requires.room in
     omega arith
 
@@ -30,10 +29,9 @@ returns-in_err-push_block-clause-none g c = λ none.
     let is = g.D.Lengths.numbers c.args.index.now in
     let block = block_at c.args.axis is c.array-item.result in
     let come = blocks-to_come c.args.axis is c.args.arrays.now c.loop-array.array-index c.array-item.result block c.loop-array-test.true c.array-item.is refl in
-    let i = c.loop-array.invariant in
-    let all : length c.loop-array.builder.cells + length (blocks_at c.args.axis is (drop c.loop-array.array-index c.args.arrays.now)) ≡ length c.args.builder.now.cells + length (blocks_at c.args.axis is c.args.arrays.now) = pushed-length _ _ _ _ i.pushed in
+    let all : length c.loop-array.builder.cells + length (blocks_at c.args.axis is (drop c.loop-array.array-index c.args.arrays.now)) ≡ length c.args.builder.now.cells + length (blocks_at c.args.axis is c.args.arrays.now) = pushed-length _ _ _ _ c.loop-array.invariant.pushed in
     let one = ap length come ∙ length-append block _ in
-    let grown = i.grown in
+    let grown = c.loop-array.invariant.grown in
     absurd (false≢true (c.in_err-push_block.ensures.none (omega arith)))
 
 pub loop-array-preserved : goal.loop-array-preserved

@@ -25,9 +25,6 @@ scan_row-requires-clause-whole g c = c.loop-row.invariant.scanned.whole
 pub scan_row-requires-clause-limit : goal.scan_row-requires-clause-limit
 scan_row-requires-clause-limit g c = subst IsWithinLimit (sym c.loop-row.invariant.scanned.lengths) c.raw_dim-dim.ensures.limit
 
-pub scan_row-requires-clause-len : goal.scan_row-requires-clause-len
-scan_row-requires-clause-len g c = c.axis-len.ensures ∙ ap (λ ns. get_or ns c.args.axis.0 0) (c.raw_dim-dim.ensures.lengths ∙ sym c.loop-row.invariant.scanned.lengths)
-
 pub scan_row-requires-clause-lanes : goal.scan_row-requires-clause-lanes
 scan_row-requires-clause-lanes g c =
     let len = c.axis-len.ensures ∙ ap (λ ns. get_or ns c.args.axis.0 0) c.raw_dim-dim.ensures.lengths in

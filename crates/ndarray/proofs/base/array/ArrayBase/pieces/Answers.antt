@@ -8,12 +8,12 @@ use Rattle.ndarray.proofs.base.array.ArrayBase.pieces.Goals as goal
 images : (g : _) (c : goal.After-copied g) → AreImages (g.D.Lengths.numbers c.self.inside.layout.dim) c.self.inside.layout.start (g.D.Lengths.numbers c.self.inside.layout.strides) (g.D.Lengths.numbers c.window_positions.result.dim) (g.D.Lengths.numbers c.window_positions.result.strides) (g.D.Lengths.numbers c.args.window) (g.D.Lengths.numbers c.copied.result) (window_index (g.D.Lengths.numbers c.args.steps.now))
 images g c =
     let a = c.self.inside.layout in
+    let same = ap (λ v. v.lengths) c.self.view_is in
     let ns = g.D.Lengths.numbers a.dim in
     let bs = g.D.Lengths.numbers a.strides in
     let ws = g.D.Lengths.numbers c.args.window in
     let ss = g.D.Lengths.numbers c.args.steps.now in
     let ds = g.D.Lengths.numbers c.window_positions.result.strides in
-    let same = ap (λ v. v.lengths) c.self.view_is in
     let P = λ (xs : _). AreWindowsOf xs ws in
     let distances : AreStepsOf (window_counts ns ws ss) bs ss ds = subst (λ xs. AreStepsOf xs bs ss ds) c.window_positions.ensures.dim c.window_positions.ensures.strides in
     rw (c.window_positions.ensures.dim, c.copied.ensures.value)

@@ -1,13 +1,12 @@
 -- `region_parts` passes on what the storage's own `region_parts` gives. Assumes `Logic`.
 use mathlib.Core.Path.{◌≡◌, refl, sym, subst}
-use Prim.Native.Nat.{ℕ}
 use mathlib.Core.List.{List, [], ◌∷◌, ◌++◌}
 use seplogic.Ra.Ura.{Ura}
 use mir.Syntax.{Fn, Args, Dict, named, a_type, dnil, dcons, method}
 use mir.MapTy.{inst_fn}
 use mir.Val.{Val, vptr}
 use base.Logic.{SProp, ent, emp, id⊢}
-use base.Fml.{Lft, GName, Share, ftrue, flft, fobs, fbor}
+use base.Fml.{GName, ftrue, flft, fobs, fbor}
 use prog.Memory.{Memory}
 use prog.Routine.{Routine}
 use prog.Wp.{WpFn, Tables}
@@ -50,6 +49,7 @@ use Rattle.ndarray.specs.contracts.base.array.ArrayBase as A-type
 use Rattle.ndarray.specs.contracts.base.view_mut.RegionParts as L-type
 use Rattle.ndarray.specs.contracts.base.storage.DataMut.region_parts as F₁
 use Rattle.ndarray.proofs.base.view_mut.RegionParts.TheLaws as L-laws
+use Rattle.ndarray.proofs.regions.Shown.{Shown, shown_as}
 use Rattle.ndarray.proofs.regions.Memory.{says_both}
 use Rattle.ndarray.proofs.regions.ReborrowedViews.{Dm}
 use Rattle.ndarray.specs.contracts.base.array.ArrayBase.region_parts as F
@@ -100,23 +100,13 @@ module _ (Z : St) (P : Dm) {M : Type 1} {𝓤 : Ura M} (𝓛 : Logic 𝓤) (at_m
 
   module _ (go₁ : Triple 𝓤 (𝓣.C (method Z.dM 2 (args₁ Z P))) G₁) (z : (walk_of 𝓛 (end Z P) (stayed Z P) spec).Ghost)
       (inS : z.0.0.1.0 ⊑ Z.S.row.lives) (inD : z.0.0.1.1.0 ⊑ P.row.lives) (inX : z.0.0.1.1.1.0 ⊑ Z.X.row.lives) where
-    abbrev κ : Lft
-    κ = z.0.0.0
+    abbrev given : Shown (Grid (el_x Z.X))
+    given = shown_as z.0.0.0 z.0.1.0 z.0.3.0.ref_ptr z.0.3.0.now
 
-    abbrev q : Share
-    q = z.0.1.0
-
-    abbrev rb : ℕ
-    rb = z.0.3.0.ref_ptr.0
-
-    abbrev ro : ℕ
-    ro = z.0.3.0.ref_ptr.1
+    open given use {κ, q, rb, ro, d}
 
     abbrev γ : GName
     γ = z.0.3.0.ghost_name
-
-    abbrev d : Grid (el_x Z.X)
-    d = z.0.3.0.now
 
     abbrev forS : Item 𝓤
     forS = ‵ (flft z.0.0.1.0 z.0.1.1.0)

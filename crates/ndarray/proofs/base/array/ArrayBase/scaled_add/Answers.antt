@@ -16,8 +16,7 @@ try_update-requires-clause-callable g c =
 pub returns : goal.returns
 returns g c =
     let (o, u) = c.in-Ok.ensures.ran in
-    let whole = c.in-Ok.ensures.whole in
     let right : c.into_broadcast-rhs.result ≡ broadcast_to c.args.rhs.now c.args.self.now.lengths =
     c.into_broadcast-rhs.ensures.seen ∙ (ap (λ v. broadcast_to v (g.D.Lengths.numbers c.raw_dim.result)) c.view.ensures.same ∙ ap (broadcast_to c.args.rhs.now) c.raw_dim.ensures.lengths) in
-    assigns-of _ _ (λ f. f.alpha ≡ c.args.alpha) (λ f x z h n k. ap (λ f. f.alpha) k.1 ∙ n) o _ refl _ whole c.args.self.now c.args.rhs.now (λ x. x.1.now) (λ x. x.0) _
-    (λ i x s. (s.0, ap (λ v. cell v i) (sym right) ∙ s.1)) (λ f x z h n k. subst (λ y. AddsProduct g.A.Valued y x.0 x.1.now z) n k.0) _ refl (updates-collect _ _ o _ _ _ whole u)
+    assigns-of _ _ (λ f. f.alpha ≡ c.args.alpha) (λ f x z h n k. ap (λ f. f.alpha) k.1 ∙ n) o _ refl _ c.in-Ok.ensures.whole c.args.self.now c.args.rhs.now (λ x. x.1.now) (λ x. x.0) _
+    (λ i x s. (s.0, ap (λ v. cell v i) (sym right) ∙ s.1)) (λ f x z h n k. subst (λ y. AddsProduct g.A.Valued y x.0 x.1.now z) n k.0) _ refl (updates-collect _ _ o _ _ _ c.in-Ok.ensures.whole u)

@@ -9,8 +9,7 @@ use Rattle.ndarray.proofs.base.array.ArrayBase.triu.Goals as goal
 
 pub returns-clause-cells : goal.returns-clause-cells
 returns-clause-cells g c =
-    let same = upper-is (cast_signed w64 (cast_unsigned w64 c.args.k)) g.A.Zero.zero c.view.result c.diagonals-2.ensures.limit ∙ ap (upper_triangle (cast_signed w64 (cast_unsigned w64 c.args.k)) g.A.Zero.zero) c.view.ensures.same ∙ ap (λ k. upper_triangle k g.A.Zero.zero c.args.self.now) (to_z-of_z w64 c.args.k c.ranges.k) in
-    subst (λ h. IfOk c.diagonals-2.result (λ r. r ≡ h)) same c.diagonals-2.ensures.cells
+    subst (λ h. IfOk c.diagonals-2.result (λ r. r ≡ h)) (upper-is (cast_signed w64 (cast_unsigned w64 c.args.k)) g.A.Zero.zero c.view.result c.diagonals-2.ensures.limit ∙ ap (upper_triangle (cast_signed w64 (cast_unsigned w64 c.args.k)) g.A.Zero.zero) c.view.ensures.same ∙ ap (λ k. upper_triangle k g.A.Zero.zero c.args.self.now) (to_z-of_z w64 c.args.k c.ranges.k)) c.diagonals-2.ensures.cells
 
 pub returns-clause-lengths : goal.returns-clause-lengths
 returns-clause-lengths g c =

@@ -1,7 +1,8 @@
 -- Filled from the front: the numbers before the axis, the 1 at it, and the numbers from it on.
-use Rattle.std.proofs.Common.{◌≡◌, ◌∙◌, ◌+◌, ◌<◌, ◌≤◌, ℕ, ap, insert, length, arith, refl, subst, sym}
+use Rattle.std.proofs.Common.{◌≡◌, ◌∙◌, ◌+◌, ◌<◌, ◌≤◌, ℕ, ap, insert, length, arith, refl, subst}
 use Rattle.std.proofs.lemmas.List.{length-replicate}
 use Rattle.std.proofs.lemmas.List.Edits.{length-insert, get_or-insert_at, get_or-insert_below, get_or-insert_above}
+use Rattle.ndarray.proofs.lists.Counters.{at-end, carried}
 use Rattle.ndarray.proofs.lists.Prefixes.{IsFilledTo, IsFilledTo-none, IsFilledTo-more, IsFilledTo-all}
 use Rattle.ndarray.proofs.base.dimension.Dimension.insert_axis.Goals as goal
 
@@ -21,13 +22,6 @@ after-axis k d n l m lt axes long more = omega arith
 
 below-axis : (k a n : ℕ) → k < a → a ≤ n → k < n
 below-axis k a n lt most = omega arith
-
--- what is read at one place is what stands at the other
-carried : {x y z : ℕ} → x ≡ y → z ≡ y → x ≡ z
-carried e f = e ∙ sym f
-
-at-end : (k n : ℕ) → k ≤ n → n ≤ k → k ≡ n
-at-end k n most least = omega arith
 
 all-filled : (k d n m : ℕ) → d ≤ k → d ≡ n → m ≡ n + 1 → m ≤ k + 1
 all-filled k d n m least axes more = omega arith

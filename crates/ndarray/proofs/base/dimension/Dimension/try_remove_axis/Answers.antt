@@ -1,7 +1,8 @@
 -- Filled from the front: the numbers before the axis, and those after it.
-use Rattle.std.proofs.Common.{◌≡◌, ◌≢◌, ◌∙◌, ◌⊎◌, ◌+◌, ◌-◌, ◌<◌, ◌≤◌, ℕ, List, [], length, remove, ap, inl, inr, arith, refl, subst, sym}
+use Rattle.std.proofs.Common.{◌≡◌, ◌≢◌, ◌∙◌, ◌⊎◌, ◌+◌, ◌-◌, ◌<◌, ◌≤◌, ℕ, List, [], length, remove, ap, inl, inr, arith, refl, subst}
 use Rattle.std.proofs.lemmas.List.{length-replicate}
 use Rattle.std.proofs.lemmas.List.Edits.{length-remove, get_or-remove_below, get_or-remove_above}
+use Rattle.ndarray.proofs.lists.Counters.{at-end, carried}
 use Rattle.ndarray.proofs.lists.Prefixes.{IsFilledTo, IsFilledTo-none, IsFilledTo-more, IsFilledTo-all}
 use Rattle.ndarray.proofs.base.dimension.Dimension.try_remove_axis.Goals as goal
 
@@ -25,13 +26,6 @@ below-axis k a n lt named = omega arith
 
 next-axis : (k d n : ℕ) → k < d - 1 → d ≡ n → k + 1 < n
 next-axis k d n lt axes = omega arith
-
--- what is read at one place is what stands at the other
-carried : {x y z : ℕ} → x ≡ y → z ≡ y → x ≡ z
-carried e f = e ∙ sym f
-
-at-end : (k n : ℕ) → k ≤ n → n ≤ k → k ≡ n
-at-end k n most least = omega arith
 
 all-filled : (k d n m : ℕ) → d - 1 ≤ k → d ≡ n → m + 1 ≡ n → m ≤ k
 all-filled k d n m least axes less = omega arith

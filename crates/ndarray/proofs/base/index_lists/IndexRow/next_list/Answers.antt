@@ -9,12 +9,12 @@ use Rattle.ndarray.proofs.base.index_lists.IndexRow.next_list.Goals.{then-self-n
 
 pub returns : goal.returns
 returns g c =
+    let limit = c.self.invariant in
+    let n = c.ndim.ensures.value in
+    let l = ap length c.copied-list.ensures.value in
     let axes = g.D.Lengths.numbers in
     let r = c.self.inside in
     let is = axes r.list in
-    let n = c.ndim.ensures.value in
-    let l = ap length c.copied-list.ensures.value in
-    let limit = c.self.invariant in
     let here : set is r.axis r.next ≡ axes c.if-self-ndim.list = elim c.if-self-ndim.branch [
       | then-self-ndim w ↦ ap (λ js. set js r.axis r.next) (sym c.copied-list.ensures.value) ∙ (sym w.set_axis.ensures ∙ ap axes (sym w.list-is))
       | else-self-ndim w ↦ set_past is r.axis r.next (omega (arith, w.if-self-ndim.false)) ∙ (sym c.copied-list.ensures.value ∙ ap axes (sym w.list-is))

@@ -8,7 +8,7 @@ use mir.Syntax.{Fn, Args, named, a_type, dnil, dcons}
 use mir.MapTy.{inst_fn}
 use mir.Val.{Val, vptr}
 use base.Logic.{SProp, ent, never, id⊢}
-use base.Fml.{Lft, GName, Share, ftrue, fsep, flft, fobs, fbor, Incl-refl}
+use base.Fml.{Lft, GName, ftrue, fsep, flft, fobs, fbor, Incl-refl}
 use prog.Memory.{Memory}
 use prog.Routine.{Routine}
 use prog.Wp.{Env, Calls, Loops, WpFn, Tables}
@@ -49,6 +49,7 @@ use Rattle.core.proofs.mem.Param.{El, R, el_x}
 use Rattle.ndarray.specs.Grid.{Grid}
 use Rattle.ndarray.specs.base.Slots.{somes}
 use Rattle.ndarray.specs.base.Scattered.{ScatteredElements, region_owns}
+use Rattle.ndarray.proofs.regions.Shown.{Shown, shown_as}
 use Rattle.ndarray.proofs.regions.Memory.{lives_as, reg, pair_val, two_of, says_both, Rg, Words, shared_at_start, words_had, words_made, words_new}
 use denote.Param.{param}
 use denote.Signature.{mut_ref_to}
@@ -78,11 +79,10 @@ module _ (E : El) (P : Dm) (W : El) {M : Type 1} {𝓤 : Ura M} (𝓛 : Logic �
     (z : (walk_of 𝓛 (end E P W) (stayed E P W) (C-fn.clauses E.row P.row W.row P.g P.d P.drops 𝓛 at_mem run)).Ghost) (ind : z.0.0.0 ⊑ P.row.lives) (inm : z.0.0.0 ⊑ W.row.lives) where
   open 𝓛 use {H, A}
 
-  abbrev κ : Lft
-  κ = z.0.0.0
+  abbrev given : Shown (Grid (el_x E))
+  given = shown_as z.0.0.0 z.0.1.0 z.0.3.0.ref_ptr z.0.3.0.now
 
-  abbrev q : Share
-  q = z.0.1.0
+  open given use {κ, q, rb, ro, d}
 
   abbrev a : RattleType
   a = param 2 W.row
@@ -94,17 +94,8 @@ module _ (E : El) (P : Dm) (W : El) {M : Type 1} {𝓤 : Ura M} (𝓛 : Logic �
   life : κ ≡ a'.lives
   life = lives_as κ
 
-  abbrev rb : ℕ
-  rb = z.0.3.0.ref_ptr.0
-
-  abbrev ro : ℕ
-  ro = z.0.3.0.ref_ptr.1
-
   abbrev γ : GName
   γ = z.0.3.0.ghost_name
-
-  abbrev d : Grid (el_x E)
-  d = z.0.3.0.now
 
   abbrev spec : Clauses 𝓤 (end E P W)
   spec = C-fn.clauses E.row P.row W.row P.g P.d P.drops 𝓛 at_mem run

@@ -25,10 +25,11 @@ use Rattle.std_alloc.proofs.VecSteps.Shapes.{after as rest_after}
 use Rattle.core.proofs.ptr.Rows.{times_below, one_below}
 use Rattle.ndarray.specs.base.Slots.{IsFilled}
 use Rattle.ndarray.specs.base.Scattered.{scattered}
+use Rattle.ndarray.proofs.regions.Shown.{Shown, shown_as}
 use Rattle.ndarray.proofs.regions.Slots.{filled_within, fill_set, fill}
 use Rattle.ndarray.proofs.regions.Memory.{Again, value_out}
 use base.Logic.{SProp, ent, sep, never, id⊢}
-use base.Fml.{Lft, GName, Share, ftrue, fsep, flft, fobs, fbor}
+use base.Fml.{GName, ftrue, fsep, flft, fobs, fbor}
 use prog.Memory.{Memory}
 use prog.Routine.{Routine}
 use prog.Wp.{Env, Calls, Loops, WpFn, Tables}
@@ -93,26 +94,16 @@ module _ (E W : El) where
 module _ (E W : El) {M : Type 1} {𝓤 : Ura M} (𝓛 : Logic 𝓤) (at_mem : Memory → SProp 𝓤) (run : Routine → Fun 𝓤) (C : Calls 𝓤 𝓛.H) (Λ : Loops 𝓤 𝓛.H) (z : (walk_of 𝓛 (end E W) (stayed E W) (C-fn.clauses E.row W.row 𝓛 at_mem run)).Ghost) (inm : z.0.0.0 ⊑ W.row.lives) where
   open 𝓛 use {H, A}
 
-  abbrev κ : Lft
-  κ = z.0.0.0
-
-  abbrev q : Share
-  q = z.0.1.0
-
   abbrev a : RattleType
   a = param 1 W.row
 
-  abbrev rb : ℕ
-  rb = z.0.3.0.ref_ptr.0
+  abbrev given : Shown (Rg a E).Denot
+  given = shown_as z.0.0.0 z.0.1.0 z.0.3.0.ref_ptr z.0.3.0.now
 
-  abbrev ro : ℕ
-  ro = z.0.3.0.ref_ptr.1
+  open given use {κ, q, rb, ro, d}
 
   abbrev γ : GName
   γ = z.0.3.0.ghost_name
-
-  abbrev d : (Rg a E).Denot
-  d = z.0.3.0.now
 
   abbrev cs : List (Option (el_x E))
   cs = d.slots

@@ -1,6 +1,6 @@
 -- `shared` hands out what a `&` to the region holds of its places. Assumes `Logic`.
 use mathlib.Core.Path.{◌≡◌, refl, sym, subst}
-use Prim.Native.Nat.{ℕ, ◌+◌}
+use Prim.Native.Nat.{◌+◌}
 use mathlib.Core.List.{List, [], ◌∷◌, ◌++◌}
 use seplogic.Ra.Ura.{Ura}
 use mir.Syntax.{Fn, Args, named, a_type}
@@ -12,7 +12,7 @@ use types.ByLocal.{through}
 use denote.Exit.{yes}
 use denote.Triple.Walked.{Goes-dropped}
 use base.Logic.{SProp, ent, id⊢}
-use base.Fml.{Lft, Share, ftrue, flft}
+use base.Fml.{ftrue, flft}
 use prog.Memory.{Memory}
 use prog.Routine.{Routine}
 use prog.Wp.{Calls, Loops, WpFn, Tables}
@@ -40,6 +40,7 @@ use denote.Triple.Walked.{says, Stays, stay_dropped, walk_of, ends_at, walk_Meet
 use Rattle.std.specs.Prelude.{Option}
 use Rattle.core.proofs.mem.Param.{El, R, el_x}
 use Rattle.ndarray.specs.base.Scattered.{region_lent, shared_region_lent}
+use Rattle.ndarray.proofs.regions.Shown.{Shown, shown_as}
 use Rattle.ndarray.proofs.regions.Memory.{Sn, Rg, Words}
 use Rattle.ndarray.specs.contracts.base.region.RegionRepr.shared as C-fn
 use Rattle.ndarray.specs.contracts.base.region.RegionRepr.shared.Key.{name as #self}
@@ -63,26 +64,16 @@ module _ (E W : El) where
 module _ (E W : El) {M : Type 1} {𝓤 : Ura M} (𝓛 : Logic 𝓤) (at_mem : Memory → SProp 𝓤) (run : Routine → Fun 𝓤) (C : Calls 𝓤 𝓛.H) (Λ : Loops 𝓤 𝓛.H) (z : (walk_of 𝓛 (end E W) (stayed E W) (C-fn.clauses E.row W.row 𝓛 at_mem run)).Ghost) (inm : z.0.0.0 ⊑ W.row.lives) where
   open 𝓛 use {H, A}
 
-  abbrev κ : Lft
-  κ = z.0.0.0
-
-  abbrev q : Share
-  q = z.0.1.0
-
   abbrev a : RattleType
   a = param 1 W.row
 
+  abbrev given : Shown (Rg a E).Denot
+  given = shown_as z.0.0.0 z.0.1.0 z.0.3.0.ref_ptr z.0.3.0.now
+
+  open given use {κ, q, rb, ro, d}
+
   abbrev d' : (Sn E).Denot
   d' = record { ptr = z.0.3.0.now.shared.ptr; marker = record {}; slots = z.0.3.0.now.slots }
-
-  abbrev rb : ℕ
-  rb = z.0.3.0.ref_ptr.0
-
-  abbrev ro : ℕ
-  ro = z.0.3.0.ref_ptr.1
-
-  abbrev d : (Rg a E).Denot
-  d = z.0.3.0.now
 
   abbrev cs : List (Option (el_x E))
   cs = d.slots

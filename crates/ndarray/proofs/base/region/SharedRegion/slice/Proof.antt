@@ -30,7 +30,7 @@ use Rattle.std_alloc.proofs.VecSteps.Shapes.{after as rest_after}
 use Rattle.core.proofs.ptr.Rows.{times_below}
 use Rattle.ndarray.specs.base.Slots.{IsRun}
 use base.Logic.{SProp, ent, sep, never, id⊢, via}
-use base.Fml.{Lft, Share, ftrue, flft}
+use base.Fml.{ftrue, flft}
 use prog.Memory.{Memory}
 use prog.Routine.{Routine}
 use prog.Wp.{Env, Calls, Loops, WpFn, Tables}
@@ -50,6 +50,7 @@ use denote.Triple.Walked.{Goes-dropped}
 use base.Fml.{fhide}
 use Rattle.core.specs.contracts.marker.PhantomData as marker
 use Rattle.ndarray.specs.base.Scattered.{shared_region_lent}
+use Rattle.ndarray.proofs.regions.Shown.{Shown, shown_as}
 use Rattle.ndarray.proofs.regions.SharedRegions.{Words, told, words_open, run_seen}
 use denote.Memory.{cell_at}
 use types.Part.{look_in}
@@ -87,20 +88,10 @@ module _ (E : El) where
 module _ (E : El) {M : Type 1} {𝓤 : Ura M} (𝓛 : Logic 𝓤) (at_mem : Memory → SProp 𝓤) (run : Routine → Fun 𝓤) (C : Calls 𝓤 𝓛.H) (Λ : Loops 𝓤 𝓛.H) (z : (walk_of 𝓛 (C-fn.ended E.row) (stayed E) (C-fn.clauses E.row 𝓛 at_mem run)).Ghost) where
   open 𝓛 use {H, A}
 
-  abbrev κ : Lft
-  κ = z.0.0.0
+  abbrev given : Shown (Sn E).Denot
+  given = shown_as z.0.0.0 z.0.1.0 z.0.3.0.ref_ptr z.0.3.0.now
 
-  abbrev q : Share
-  q = z.0.1.0
-
-  abbrev rb : ℕ
-  rb = z.0.3.0.ref_ptr.0
-
-  abbrev ro : ℕ
-  ro = z.0.3.0.ref_ptr.1
-
-  abbrev d : (Sn E).Denot
-  d = z.0.3.0.now
+  open given use {κ, q, rb, ro, d}
 
   abbrev cs : List (Option (el_x E))
   cs = d.slots

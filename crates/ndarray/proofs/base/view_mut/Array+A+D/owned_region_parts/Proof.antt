@@ -9,7 +9,7 @@ use mir.MapTy.{inst_fn}
 use mir.Val.{Val, vptr}
 use base.Logic.{SProp, ent, sep, emp, id⊢, fst∗}
 use base.Stored.{coded_list}
-use base.Fml.{Lft, GName, Share, ftrue, flft, fobs, fbor}
+use base.Fml.{GName, ftrue, flft, fobs, fbor}
 use prog.Memory.{Memory}
 use prog.Routine.{Routine}
 use prog.Wp.{WpFn, Tables}
@@ -62,6 +62,7 @@ use Rattle.ndarray.specs.contracts.base.view_mut.Parts as P-type
 use Rattle.ndarray.specs.contracts.base.view_mut.RegionParts as L-type
 use Rattle.ndarray.proofs.base.view_mut.Parts.TheLaws as P-laws
 use Rattle.ndarray.proofs.base.view_mut.RegionParts.TheLaws as L-laws
+use Rattle.ndarray.proofs.regions.Shown.{Shown, shown_as}
 use Rattle.ndarray.proofs.regions.Memory.{says_both}
 use Rattle.ndarray.proofs.regions.OwnedLoans.{told, tells, told-again, cells-told_at}
 use Rattle.ndarray.proofs.regions.ReborrowedViews.{Dm}
@@ -120,23 +121,13 @@ module _ (E : El) (P : Dm) (dA : Dict) {M : Type 1} {𝓤 : Ura M} (𝓛 : Logic
 
   module _ (go₁ : Triple 𝓤 (𝓣.C (#parts_mut (args E P dA))) G₁) (go₂ : Triple 𝓤 (𝓣.C (#into_region_parts (args₂ E P dA))) G₂)
       (z : (walk_of 𝓛 (end E P dA) (stayed E P dA) spec).Ghost) (inA : z.0.0.1.0 ⊑ E.row.lives) (inD : z.0.0.1.1.0 ⊑ P.row.lives) where
-    abbrev κ : Lft
-    κ = z.0.0.0
+    abbrev given : Shown (Grid (el_x E))
+    given = shown_as z.0.0.0 z.0.1.0 z.0.3.0.ref_ptr z.0.3.0.now
 
-    abbrev q : Share
-    q = z.0.1.0
-
-    abbrev rb : ℕ
-    rb = z.0.3.0.ref_ptr.0
-
-    abbrev ro : ℕ
-    ro = z.0.3.0.ref_ptr.1
+    open given use {κ, q, rb, ro, d}
 
     abbrev γ : GName
     γ = z.0.3.0.ghost_name
-
-    abbrev d : Grid (el_x E)
-    d = z.0.3.0.now
 
     abbrev other : Item 𝓤
     other = ‵ (flft z.0.0.1.0 z.0.1.1.0) ⊛ ‵ (flft z.0.0.1.1.0 z.0.1.1.1.0) ⊛ ‵ ftrue

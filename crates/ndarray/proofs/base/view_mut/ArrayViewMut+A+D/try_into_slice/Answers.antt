@@ -1,29 +1,22 @@
-use Rattle.std.proofs.Common.{arith, ◌∙◌, ap, sym, subst, refl, length, take, drop, []}
+use Rattle.std.proofs.Common.{arith, ◌∙◌, ap, sym, subst, refl, take, drop, []}
 use Rattle.std.proofs.lemmas.List.{nil_from_length}
 use Rattle.ndarray.specs.Grid.{IsGrid}
 use Rattle.ndarray.specs.base.Slots.{IsRun}
 use Rattle.ndarray.proofs.strides.Reach.{length-cells_at}
+use Rattle.ndarray.proofs.strides.SeenCells.{size-seen}
 use Rattle.ndarray.proofs.strides.Contiguous.{IsRun-cells, run-cells}
 use Rattle.ndarray.proofs.regions.Slots.{same-run}
 use Rattle.ndarray.proofs.base.view_mut.ArrayViewMut+A+D.try_into_slice.Goals as goal
 
 pub returns-then-len-eq0-clause-cells : goal.returns-then-len-eq0-clause-cells
 returns-then-len-eq0-clause-cells g c =
-    let many = length-cells_at _ _ _ _ c.self.invariant in
-    let same = ap (λ v. length v.cells) c.self.view_is in
-    same-run _ [] (sym c.into_slice.ensures.value) ∙ sym (nil_from_length _ (sym same ∙ (many ∙ (sym c.size-len.ensures ∙ c.if-len-eq0.true))))
+    same-run _ [] (sym c.into_slice.ensures.value) ∙ sym (nil_from_length _ (sym (size-seen _ _ _ _ _ c.self.invariant c.self.view_is) ∙ (sym c.size-len.ensures ∙ c.if-len-eq0.true)))
 
 pub returns-then-not-is_row_major-clause-one : goal.returns-then-not-is_row_major-clause-one
-returns-then-not-is_row_major-clause-one g c = λ e.
-    let many = length-cells_at _ _ _ _ c.self.invariant in
-    let same = ap (λ v. length v.cells) c.self.view_is in
-    c.if-not-is_row_major.ensures.one (sym many ∙ (same ∙ e))
+returns-then-not-is_row_major-clause-one g c = λ e. c.if-not-is_row_major.ensures.one (size-seen _ _ _ _ _ c.self.invariant c.self.view_is ∙ e)
 
 pub returns-then-not-is_row_major-clause-empty : goal.returns-then-not-is_row_major-clause-empty
-returns-then-not-is_row_major-clause-empty g c = λ e.
-    let many = length-cells_at _ _ _ _ c.self.invariant in
-    let same = ap (λ v. length v.cells) c.self.view_is in
-    absurd (c.if-len-eq0.false (c.size-len.ensures ∙ (sym many ∙ (same ∙ e))))
+returns-then-not-is_row_major-clause-empty g c = λ e. absurd (c.if-len-eq0.false (c.size-len.ensures ∙ (size-seen _ _ _ _ _ c.self.invariant c.self.view_is ∙ e)))
 
 pub into_slice-requires-2 : goal.into_slice-requires-2
 into_slice-requires-2 g c =

@@ -37,10 +37,9 @@ returns-clause-described g c =
 pub returns-clause-fits : goal.returns-clause-fits
 returns-clause-fits g c =
     let v = c.args.v in
-    let o = c.args.order in
     let e = ap length (returns-clause-cells g c) in
-    let k = length-along v (returns-clause-whole g c) (box_in o v.lengths) (box_in-within o v.lengths) in
-    let n = length-box_in o v.lengths in
+    let k = length-along v (returns-clause-whole g c) (box_in c.args.order v.lengths) (box_in-within c.args.order v.lengths) in
+    let n = length-box_in c.args.order v.lengths in
     let s = size-le v.lengths in
     let l : IsWithinLimit v.lengths = subst (λ w. IsWithinLimit w.lengths) c.v.view_is c.v.invariant.limit in
     omega arith

@@ -18,14 +18,12 @@ invariant_of-result-2 g c = rw c.split-here.ensures.second (Shares-slots_outside
 
 pub returns-clause-first : goal.returns-clause-first
 returns-clause-first g c =
-    rw c.split-here.ensures.first
-    (grids-slots_in c.self.inside.region.slots _ _ (both g c)
+    rw c.split-here.ensures.first (grids-slots_in c.self.inside.region.slots _ _ (both g c)
     ∙ (ap (grids_at (held_at c.self.inside.region.slots)) c.take_first-first.ensures.first
     ∙ (sym (take-map _ c.args.index (g.T.PieceLayouts.layouts c.self.inside.layouts)) ∙ ap (take c.args.index) c.self.view_is)))
 
 pub returns-clause-second : goal.returns-clause-second
 returns-clause-second g c =
-    rw c.split-here.ensures.second
-    (grids-slots_outside c.self.inside.region.slots _ _ (both g c)
+    rw c.split-here.ensures.second (grids-slots_outside c.self.inside.region.slots _ _ (both g c)
     ∙ (ap (grids_at (held_at c.self.inside.region.slots)) c.take_first-first.ensures.rest
     ∙ (sym (drop-map _ c.args.index (g.T.PieceLayouts.layouts c.self.inside.layouts)) ∙ ap (drop c.args.index) c.self.view_is)))

@@ -18,10 +18,10 @@ kept g c =
 pub invariant_of-part : goal.invariant_of-part
 invariant_of-part g c = some-reach (kept g c) _ _ _ c.part.invariant
 
-pub returns-clause-value : goal.returns-clause-value
-returns-clause-value g c =
-    some-seen (kept g c) (seen_at c.part.inside.storage) _ _ _ _ (c.part.view_is ∙ c.again-part.ensures)
-    (c.cut.ensures.dim ∙ (ap (λ v. set v.lengths c.args.axis c.args.len) (c.part.view_is ∙ c.again-part.ensures) ∙ ap (set c.args.self.now.lengths c.args.axis) (omega arith)))
-
-pub returns-clause-whole : goal.returns-clause-whole
-returns-clause-whole g c = array_by-whole _ _
+pub returns : goal.returns
+returns g c = record {
+  value =
+      some-seen (kept g c) (seen_at c.part.inside.storage) _ _ _ _ (c.part.view_is ∙ c.again-part.ensures)
+      (c.cut.ensures.dim ∙ (ap (λ v. set v.lengths c.args.axis c.args.len) (c.part.view_is ∙ c.again-part.ensures) ∙ ap (set c.args.self.now.lengths c.args.axis) (omega arith)));
+  whole = array_by-whole _ _;
+}

@@ -6,6 +6,9 @@ use Rattle.std.proofs.lemmas.List.Elements.{All-take, All-drop}
 use Rattle.ndarray.specs.Index.{InBox}
 use Rattle.ndarray.proofs.subviews.pieces_mut.EqualPieceLayoutsIx1PieceLayoutsFromEnds.take_first.Goals as goal
 
+pub take_first-requires : goal.take_first-requires
+take_first-requires g c = subst (λ n. c.args.count ≤ n) (sym (ap length c.self.view_is) ∙ length-map c.self.inside.walk _) c.requires
+
 pub returns-clause-first : goal.returns-clause-first
 returns-clause-first g c =
     rw (c.copied.ensures.start, c.copied.ensures.strides, c.copied-2.ensures.value, c.copied-3.ensures.value, c.take_first.ensures.first)
@@ -13,9 +16,6 @@ returns-clause-first g c =
 
 pub returns-clause-rest : goal.returns-clause-rest
 returns-clause-rest g c = rw c.take_first.ensures.rest (sym (drop-map _ c.args.count _) ∙ ap (drop c.args.count) c.self.view_is)
-
-pub take_first-requires : goal.take_first-requires
-take_first-requires g c = subst (λ n. c.args.count ≤ n) (sym (ap length c.self.view_is) ∙ length-map c.self.inside.walk _) c.requires
 
 pub invariant_of-result : goal.invariant_of-result
 invariant_of-result g c =

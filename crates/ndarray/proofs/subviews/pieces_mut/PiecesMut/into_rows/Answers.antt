@@ -15,19 +15,19 @@ rows-are g c = c.new-rows.ensures ∙ ap (rows_in c.args.order) c.copied.ensures
 pub invariant_of-result : goal.invariant_of-result
 invariant_of-result g c =
     let t = c.self.inside in
-    let ps = g.P.Lengths.numbers t.positions.dim in
-    let steps = g.P.Lengths.numbers t.positions.strides in
     let ns = g.D.Lengths.numbers t.dim in
     let bs = g.D.Lengths.numbers t.strides in
+    let ps = g.P.Lengths.numbers t.positions.dim in
+    let steps = g.P.Lengths.numbers t.positions.strides in
     subst (ShareRows (held_at t.region.slots) ps t.positions.start steps ns bs) (sym (rows-are g c)) (ShareRows-all t.positions.start steps ns bs (held_at t.region.slots) ps c.args.order c.self.invariant)
 
 pub returns-clause-rows : goal.returns-clause-rows
 returns-clause-rows g c =
     let t = c.self.inside in
-    let ps = g.P.Lengths.numbers t.positions.dim in
-    let steps = g.P.Lengths.numbers t.positions.strides in
     let ns = g.D.Lengths.numbers t.dim in
     let bs = g.D.Lengths.numbers t.strides in
+    let ps = g.P.Lengths.numbers t.positions.dim in
+    let steps = g.P.Lengths.numbers t.positions.strides in
     ap (map (λ row. grids_at (held_at t.region.slots) (piece_layouts t.positions.start steps ns bs row))) (rows-are g c)
     ∙ (piece-rows-found t.positions.start steps ns bs (held_at t.region.slots) ps c.args.order ∙ ap (λ v. map (filter_map (cell v)) (rows_in c.args.order v.lengths)) c.self.view_is)
 

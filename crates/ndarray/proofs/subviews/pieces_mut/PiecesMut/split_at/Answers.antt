@@ -78,25 +78,21 @@ invariant_of-result-2 g c =
     rw (c.split-here.ensures.second, c.copied.ensures.value, c.copied-2.ensures.value)
     (record { as_many = (rest-kept g c).as_many; limit = (rest-kept g c).limit; shares = Shares-slots_outside c.self.inside.region.slots (here g c) (rest g c) (both g c) })
 
-pub returns-clause-first : goal.returns-clause-first
-returns-clause-first g c =
-    rw (c.split-here.ensures.first, c.copied.ensures.value, c.copied-2.ensures.value)
-    (pieces-same _ _ (ns g c) (bs g c) (held_at c.self.inside.region.slots) _ _ (grids-slots_in c.self.inside.region.slots (here g c) (rest g c) (both g c))
-    ∙ some-seen (here-kept g c) (held_at c.self.inside.region.slots) (ns g c) (bs g c) c.args.self _ c.self.view_is
-    (c.cut.ensures.dim ∙ (ap (λ ms. set ms c.args.axis.0 c.args.index) c.copied-low.ensures.dim ∙ (ap (λ v. set v.lengths c.args.axis.0 c.args.index) c.self.view_is ∙ ap (set c.args.self.lengths c.args.axis.0) (omega arith)))))
-
-pub returns-clause-second : goal.returns-clause-second
-returns-clause-second g c =
-    rw (c.split-here.ensures.second, c.copied.ensures.value, c.copied-2.ensures.value)
-    (pieces-same _ _ (ns g c) (bs g c) (held_at c.self.inside.region.slots) _ _ (grids-slots_outside c.self.inside.region.slots (here g c) (rest g c) (both g c))
-    ∙ some-seen (rest-kept g c) (held_at c.self.inside.region.slots) (ns g c) (bs g c) c.args.self _ c.self.view_is
-    (c.cut-2.ensures.dim ∙ (ap (λ n. set (ps g c) c.args.axis.0 (n - c.args.index)) c.axis-len.ensures ∙ ap (λ v. set v.lengths c.args.axis.0 (get_or v.lengths c.args.axis.0 0 - c.args.index)) c.self.view_is)))
-
-pub returns-clause-first_whole : goal.returns-clause-first_whole
-returns-clause-first_whole g c = array_by-whole _ _
-
-pub returns-clause-second_whole : goal.returns-clause-second_whole
-returns-clause-second_whole g c = array_by-whole _ _
+pub returns : goal.returns
+returns g c = record {
+  first =
+      rw (c.split-here.ensures.first, c.copied.ensures.value, c.copied-2.ensures.value)
+      (pieces-same _ _ (ns g c) (bs g c) (held_at c.self.inside.region.slots) _ _ (grids-slots_in c.self.inside.region.slots (here g c) (rest g c) (both g c))
+      ∙ some-seen (here-kept g c) (held_at c.self.inside.region.slots) (ns g c) (bs g c) c.args.self _ c.self.view_is
+      (c.cut.ensures.dim ∙ (ap (λ ms. set ms c.args.axis.0 c.args.index) c.copied-low.ensures.dim ∙ (ap (λ v. set v.lengths c.args.axis.0 c.args.index) c.self.view_is ∙ ap (set c.args.self.lengths c.args.axis.0) (omega arith)))));
+  second =
+      rw (c.split-here.ensures.second, c.copied.ensures.value, c.copied-2.ensures.value)
+      (pieces-same _ _ (ns g c) (bs g c) (held_at c.self.inside.region.slots) _ _ (grids-slots_outside c.self.inside.region.slots (here g c) (rest g c) (both g c))
+      ∙ some-seen (rest-kept g c) (held_at c.self.inside.region.slots) (ns g c) (bs g c) c.args.self _ c.self.view_is
+      (c.cut-2.ensures.dim ∙ (ap (λ n. set (ps g c) c.args.axis.0 (n - c.args.index)) c.axis-len.ensures ∙ ap (λ v. set v.lengths c.args.axis.0 (get_or v.lengths c.args.axis.0 0 - c.args.index)) c.self.view_is)));
+  first_whole = array_by-whole _ _;
+  second_whole = array_by-whole _ _;
+}
 
 -- what names the places outlives the call
 pub split-here-requires : goal.split-here-requires

@@ -10,8 +10,8 @@ use Rattle.ndarray.proofs.callers.Collecting.{array_by-at, if_ok-both, may-gathe
 use Rattle.ndarray.proofs.cells.Cells.{cell-inside}
 use Rattle.ndarray.proofs.cells.CollectedCells.{Collects-at}
 use Rattle.ndarray.proofs.convolution.WindowSums.{window-summable}
-use Rattle.ndarray.proofs.conv.over_each_window.Goals as goal
-use Rattle.ndarray.proofs.conv.over_each_window.Goals.{After-view}
+use Rattle.ndarray.proofs.conv.over_rows.Goals as goal
+use Rattle.ndarray.proofs.conv.over_rows.Goals.{After-view}
 
 module _ (g : _) (c : After-view g) where
   abbrev a : Grid g.row.A.Denot
@@ -55,7 +55,7 @@ returns g c =
             whole = whole;
             cells = λ is z e.
                 let b = subst (λ ms. InBox ms is) ran.lengths (cell-inside r is z e) in
-                let k = Collects-at _ _ (λ f. f.kernel ≡ m) (λ f x z h n k. ap (λ f. f.kernel) k.1 ∙ n) o _ _ r c.view.ensures.same ran is b z e in
+                let k = Collects-at _ _ (λ f. f.0 ≡ m) (λ f x z h n k. ap (λ f. f.0) k.1 ∙ n) o _ _ r c.view.ensures.same ran is b z e in
                 let at = array_by-at _ at_window c.windows-windows.result is k.item is_windows b k.yielded in
                 k.given.0
                 ∙ (ap (λ w. total v.addition (products_of v.multiplication v.meaning k.item.cells w.cells)) k.known
