@@ -4,7 +4,7 @@ use Rattle.ndarray.specs.Index.{InBox, size}
 use Rattle.ndarray.specs.base.Builder.{pushed_all, pushed_to}
 use Rattle.ndarray.specs.base.Ranks.{rank}
 use Rattle.ndarray.specs.stacking.Blocks.{HasBlockAt, block_at}
-use Rattle.ndarray.proofs.joining.Blocks.{block-is, block-one, block-whole}
+use Rattle.ndarray.proofs.joining.Blocks.{block-one, block-whole}
 use Rattle.ndarray.proofs.stacking.blocks.push_block.Goals as goal
 
 pub item-requires : goal.item-requires
