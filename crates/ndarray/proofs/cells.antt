@@ -34,6 +34,7 @@ pub mod RowScans
 pub mod RunProducts
 pub mod RunningProducts
 pub mod Scans
+pub mod SmallProducts
 pub mod TestedCells
 pub mod UpdatedCells
 pub mod Updates

@@ -11,3 +11,4 @@ pub mod RunningRuns
 pub mod RunningSum
 pub mod Selections
 pub mod SignedSums
+pub mod SmallProducts

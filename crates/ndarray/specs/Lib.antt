@@ -40,6 +40,7 @@ pub mod Runs
 pub mod Scans
 pub mod SignedSums
 pub mod Slices
+pub mod SmallProducts
 pub mod Subviews
 pub mod Sums
 pub mod Triangles

@@ -10,6 +10,7 @@ ghost use Rattle.ndarray.specs.Sums.{IsSummableBy, total_by};
 mod cumprod;
 mod diff;
 pub(crate) mod range_tests;
+pub(crate) mod small_products;
 pub(crate) mod totals;
 
 use crate::base::array::{Array, ArrayBase};

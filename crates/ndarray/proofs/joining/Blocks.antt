@@ -1,7 +1,7 @@
 -- Lists of blocks, and what stands at each place of them.
 use Rattle.std.proofs.Common.{◌≡◌, ℕ, ◌+◌, ◌*◌, ◌<◌, ◌≤◌, suc, zero, List, [], ◌∷◌, ◌++◌, length, take, drop, get_or, Some, refl, sym, ◌∙◌, ap, arith, append_assoc}
 use Rattle.std.specs.Prelude.{flat_map, slice_get, sum_by, All}
-use Rattle.std.proofs.Math.Seq.{drop-cons}
+use Rattle.std.proofs.Math.Seq.{drop-cons, take-length}
 use Rattle.std.proofs.lemmas.List.{length-append, length-drop, length-take-le}
 use Rattle.std.proofs.lemmas.List.Elements.{All-head, All-tail}
 use Rattle.std.proofs.lemmas.List.Sums.{sum_by-cons}
@@ -9,7 +9,7 @@ use Rattle.ndarray.specs.Grid.{Grid, IsGrid, cell}
 use Rattle.ndarray.specs.Index.{InBox, size}
 use Rattle.ndarray.specs.base.Builder.{BuilderState, pushed_all, pushed_to}
 use Rattle.ndarray.specs.base.Ranks.{rank}
-use Rattle.ndarray.specs.stacking.Blocks.{block_at, blocks_at}
+use Rattle.ndarray.specs.stacking.Blocks.{HasBlockAt, block_at, blocks_at}
 use Rattle.ndarray.proofs.cells.Cells.{cell-within}
 
 module _ {X : Type 0} where
@@ -69,6 +69,16 @@ module _ {A : Type 0} where
       e
       ∙ part-same count (size (drop a g.lengths)) (rank view.lengths js) (rank g.lengths is) view.cells g.cells (many ∙ ap (λ ms. size (drop a ms)) lengths)
       (ap (λ h. rank h.lengths js) seen ∙ ap (rank g.lengths) index) (ap (λ h. h.cells) seen)
+
+  part-all : (xs : List A) (n r : ℕ) → length xs ≡ n → (0 < n → r + n ≤ n) → take n (drop r xs) ≡ xs
+  part-all [] n r e within = let none : n ≡ 0 = omega (arith, e) in ap (λ k. take k (drop r [])) none
+  part-all (x ∷ xs) n r e within =
+      let first : r ≡ 0 = let le = within (omega (arith, e)) in omega (arith, le) in
+      ap (λ k. take k (drop r (x ∷ xs))) (sym e) ∙ (ap (λ k. take (length (x ∷ xs)) (drop k (x ∷ xs))) first ∙ take-length (x ∷ xs))
+
+  -- that of the first axis on is the whole array
+  pub block-whole : (is : List ℕ) (g : Grid A) → IsGrid g → HasBlockAt 0 is g → block_at 0 is g ≡ g.cells
+  block-whole is g whole has = part-all g.cells (size g.lengths) (rank g.lengths is) whole has.fits
 
   one-at : (xs : List A) (n : ℕ) (x : A) → slice_get xs n ≡ Some x → take 1 (drop n xs) ≡ x ∷ []
   one-at [] zero x e = cc

@@ -15,6 +15,7 @@ use crate::linalg::inner::cells_of;
 use crate::linalg::products::{Dot, dot_ok};
 use crate::reduce::dot_fits;
 use crate::reduce::range_tests::inner_stays_in_range;
+use crate::reduce::small_products::have_small_products;
 
 /// What has a product with `Rhs` whose range can be tested: vectors and matrices of integers, with vectors and matrices, and arrays
 /// of integers of `IxDyn`.
@@ -99,6 +100,9 @@ fn columns_fit<A: IntegerElem>(x: &ArrayView<'_, A, Ix1>, b: &ArrayView<'_, A, I
     if k == 0 {
         return true;
     }
+    if have_small_products(x, b, k) {
+        return true;
+    }
     let numbers = cells_of(x.view());
     for j in 0..n {
         let column = cells_of(b.index_axis(Axis(1), j));
@@ -119,6 +123,9 @@ fn rows_fit<A: IntegerElem>(a: &ArrayView<'_, A, Ix2>, x: &ArrayView<'_, A, Ix1>
     let (m, k) = a.raw_dim().into_pattern();
     // Without cells there may be more rows than could be walked.
     if k == 0 {
+        return true;
+    }
+    if have_small_products(a, x, k) {
         return true;
     }
     let numbers = cells_of(x.view());
@@ -144,6 +151,9 @@ fn rows_and_columns_fit<A: IntegerElem>(
     let (_, n) = b.raw_dim().into_pattern();
     // Without cells there may be more rows than could be walked.
     if k == 0 || n == 0 {
+        return true;
+    }
+    if have_small_products(a, b, k) {
         return true;
     }
     for i in 0..m {

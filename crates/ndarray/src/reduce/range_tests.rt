@@ -391,7 +391,7 @@ fn add_product<A: IntegerElem>(sums: SignedSums<A>, x: A, y: A) -> Option<Signed
 }
 
 /// The absolute value, where the type has it.
-fn magnitude<A: IntegerElem>(x: A) -> Option<A>
+pub(crate) fn magnitude<A: IntegerElem>(x: A) -> Option<A>
     ensures { Checks A.value A.fits (pos (unsigned_abs (A.value x))) result }
 {
     if x < A::zero() {

@@ -211,6 +211,12 @@ fn push_block<A: Clone, D: Lengths, E: Lengths>(
         builder.push(array.item(index).clone()?);
         return Ok(());
     }
+    if axis == 0 {
+        // The block is the whole array.
+        if let Some(cells) = array.to_slice() {
+            return builder.push_clones(Strided::over(cells));
+        }
+    }
     push_clones(
         builder,
         RowElements::starting_at(array.again(), index.copied(), count),

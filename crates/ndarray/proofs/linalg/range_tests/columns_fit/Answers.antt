@@ -1,10 +1,30 @@
-use Rattle.std.proofs.Common.{◌≡◌, ◌∙◌, ◌<◌, ap, arith, get_or, length, lit<, subst}
+use Rattle.std.proofs.Common.{◌≡◌, ◌∙◌, ◌∷◌, [], ◌<◌, ap, arith, get_or, length, lit<, refl, subst, sym}
 use Rattle.ndarray.specs.Integers.{int_products}
 use Rattle.ndarray.specs.Products.{matrix_of, products_of, row_of}
 use Rattle.ndarray.specs.WholeValues.{whole_numbers}
-use Rattle.ndarray.proofs.cells.EntryTests.{EntryFits, below-next, entries-yes, tested-no, tested-yes, vector-by-column}
+use Rattle.ndarray.proofs.cells.EntryTests.{EntriesFit, EntryFits, below-next, entries-yes, tested-no, tested-yes, vector-by-column}
+use Rattle.ndarray.proofs.cells.SmallProducts.{small-products}
 use Rattle.ndarray.proofs.lists.Decisions.{says_no}
 use Rattle.ndarray.proofs.linalg.range_tests.columns_fit.Goals as goal
+
+small-each : (g : _) (c : goal.Then-have_small_products g) → EntriesFit g.A.Number.fits (row_of (whole_numbers g.A.Number.value g.A.Number.fits) c.args.x.now) (matrix_of (whole_numbers g.A.Number.value g.A.Number.fits) c.args.b.now)
+small-each g c =
+    let v = g.A.Number.value in
+    let e = whole_numbers v g.A.Number.fits in
+    let exact = g.met.A.Integral.exact_law in
+    let x = c.args.x.now in
+    let b = c.args.b.now in
+    let columns = ap (λ l. get_or l 0 0) (c.into_pattern-k.ensures ∙ c.raw_dim.ensures.lengths) ∙ sym c.requires.inner in
+    small-products v g.A.Number.fits (λ y z t. g.A.Number.between_law y z t exact) (g.met.A.Zero.zero_fits_law exact) g.met.A.IntegerElem.negated_fits x b c.requires.vector.0 c.raw_dim.ensures.whole c.into_pattern-k.result.0 (c.have_small_products.ensures c.if-have_small_products.true)
+    (row_of e x) (matrix_of e b) (λ _ k. k ∷ []) (λ k j. k ∷ j ∷ []) (λ _ _. refl) (λ _ _. refl) columns
+
+pub returns-then-have_small_products-clause-magnitudes : goal.returns-then-have_small_products-clause-magnitudes
+returns-then-have_small_products-clause-magnitudes g c =
+    let e = whole_numbers g.A.Number.value g.A.Number.fits in
+    entries-yes g.A.Number.fits (row_of e c.args.x.now) (matrix_of e c.args.b.now) (small-each g c)
+
+pub returns-then-have_small_products-clause-sums : goal.returns-then-have_small_products-clause-sums
+returns-then-have_small_products-clause-sums g c = λ _ i j row column. (small-each g c i j row column).1
 
 pub returns-then-not-inner_stays_in_range-clause-magnitudes : goal.returns-then-not-inner_stays_in_range-clause-magnitudes
 returns-then-not-inner_stays_in_range-clause-magnitudes g c =

@@ -1,8 +1,10 @@
 use Rattle.std.proofs.Common.{◌≡◌, ◌+◌, ◌<◌, ◌≤◌, ◌∙◌, ap, arith, drop, length, subst, sym}
+use Rattle.std.specs.Prelude.{IfOk}
 use Rattle.ndarray.specs.Index.{InBox, size}
 use Rattle.ndarray.specs.base.Builder.{pushed_all, pushed_to}
 use Rattle.ndarray.specs.base.Ranks.{rank}
-use Rattle.ndarray.proofs.joining.Blocks.{block-is, block-one}
+use Rattle.ndarray.specs.stacking.Blocks.{HasBlockAt, block_at}
+use Rattle.ndarray.proofs.joining.Blocks.{block-one, block-whole}
 use Rattle.ndarray.proofs.stacking.blocks.push_block.Goals as goal
 
 pub item-requires : goal.item-requires
@@ -43,6 +45,17 @@ starting_at-requires-clause-fits g c = λ some.
 
 pub push_clones-requires-clause-room : goal.push_clones-requires-clause-room
 push_clones-requires-clause-room g c =
-    let block = block-is c.args.axis _ _ _ c.args.array.now _ _ c.starting_at.result c.starting_at.ensures c.block_len-count.ensures c.raw_dim.ensures.lengths c.again.ensures.same c.copied.ensures.value in
-    let long = ap length block in
+    let is = g.D.Lengths.numbers c.args.index.now in
+    let array = c.args.array.now in
+    let block = block-whole is array c.raw_dim.ensures.whole (subst (λ a. HasBlockAt a is array) c.if-axis-eq0.true c.requires.block) in
+    let first = ap (λ a. block_at a is array) c.if-axis-eq0.true in
+    let long = ap length (c.over.ensures ∙ (c.in-Some.ensures.cells ∙ (sym block ∙ sym first))) in
     omega (arith, long, c.requires.room)
+
+pub returns-in-Some-clause-pushed : goal.returns-in-Some-clause-pushed
+returns-in-Some-clause-pushed g c =
+    let is = g.D.Lengths.numbers c.args.index.now in
+    let array = c.args.array.now in
+    let block = block-whole is array c.raw_dim.ensures.whole (subst (λ a. HasBlockAt a is array) c.if-axis-eq0.true c.requires.block) in
+    let first = ap (λ a. block_at a is array) c.if-axis-eq0.true in
+    subst (λ cells. IfOk c.push_clones.result (λ _. c.push_clones.new.self ≡ pushed_all c.args.builder.now cells)) (c.over.ensures ∙ (c.in-Some.ensures.cells ∙ (sym block ∙ sym first))) c.push_clones.ensures.pushed
