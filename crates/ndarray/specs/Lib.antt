@@ -15,6 +15,7 @@ pub mod Entries
 pub mod Errors
 pub mod FixedAxes
 pub mod FoldWhiles
+pub mod GeneralProducts
 pub mod Grid
 pub mod Index
 pub mod IndexedUpdates

@@ -12,11 +12,12 @@ pub record AddedApart (fits : ℤ → Type 0) (whole rest : List ℤ) (up down :
   pub down_negative : down ≤ℤ pos 0
   pub down_fits : fits down
 
--- a number that is negative shows that some negative number fits
+-- where z is negative, some negative number fits
 unfoldable pub NegativeFits : (ℤ → Type 0) → ℤ → Type 0
 NegativeFits fits z = (n : ℕ) → z ≡ negsuc n → (m : ℕ) × fits (negsuc m)
 
--- products of numbers that fit are added apart: a type that has a negative number where one of rest is negative has one where one of whole is
+-- The same of products of numbers that fit. A product may not fit; but a negative one has a negative factor, which does: so where a negative
+-- number fits for the sake of rest, one does for the sake of whole.
 pub record ProductsApart (fits : ℤ → Type 0) (whole rest : List ℤ) (up down : ℤ) : Type 0 where
   pub apart : AddedApart fits whole rest up down
   pub signs : AllByRecursion (NegativeFits fits) rest → AllByRecursion (NegativeFits fits) whole

@@ -15,8 +15,9 @@ ghost use Rattle.ndarray.specs.WindowSums.{CanSumWindows, window_sum};
 
 mod rows;
 
+use crate::base::strided::cells_of;
 use crate::conv::rows::{has_long_rows, sums_by_rows};
-use crate::linalg::inner::{cells_of, inner_of};
+use crate::linalg::inner::inner_of;
 use crate::linalg::row_sums::push_zeros;
 use crate::order::Order;
 use crate::order::rows::BoxRows;

@@ -330,7 +330,7 @@ fn filter(name: &str, n: usize, a: &mut [i64], b: &[i64]) -> i64 {
 /// Products in the best order of loops for the layouts.
 #[inline(never)]
 fn product(name: &str, n: usize, a: &[i64], b: &[i64]) -> i64 {
-    let mut made = vec![0i64; n * n];
+    let mut made = vec![0i64; if PRODUCTS.contains(&name) { n * n } else { n }];
     match name {
         "product" | "product_both_transposed" => {
             // Of two sides by columns the product by columns is that of the sides exchanged, by rows.

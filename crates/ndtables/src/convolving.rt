@@ -6,19 +6,16 @@ ghost use Rattle.ndtables.specs.Convolving.{AreVectors, CanConvolve, CanConvolve
 ghost use Rattle.ndtables.specs.Reducing.{ForbidsMaking};
 
 use crate::fault::Fault;
+use crate::views::{Made, View};
 use ndarray::conv::{conv_full, conv_full_ok, conv_valid, conv_valid_ok, full_fits, valid_fits};
-use ndarray::{Array, ArrayView, Ix1, IxDyn};
+use ndarray::{Array, Ix1};
 use std::alloc::Global;
 
 /// The valid convolution of a table with a kernel.
 ///
 /// The fault is `shape` where they have not as many axes or a length of the kernel is 0, else `range` where at some position the
 /// absolute values of the products add up to no `i64`, else `memory`.
-pub fn valid_convolution(
-    alloc: Global,
-    table: &ArrayView<'_, i64, IxDyn>,
-    kernel: &ArrayView<'_, i64, IxDyn>,
-) -> Result<Array<i64, IxDyn>, Fault>
+pub fn valid_convolution(alloc: Global, table: &View<'_>, kernel: &View<'_>) -> Made
     ensures sums { IfOk result (IsValidConvolution table.now kernel.now) }
     ensures err { IfErr result (ForbidsMaking (ArePositive table.now.lengths kernel.now.lengths) (CanConvolve table.now kernel.now)) }
 {
@@ -38,8 +35,8 @@ pub fn valid_convolution(
 /// place the absolute values of the products add up to no `i64`, else `memory`.
 pub fn full_convolution(
     alloc: Global,
-    left: &ArrayView<'_, i64, IxDyn>,
-    right: &ArrayView<'_, i64, IxDyn>,
+    left: &View<'_>,
+    right: &View<'_>,
 ) -> Result<Array<i64, Ix1>, Fault>
     ensures sums { IfOk result (IsFullConvolution left.now right.now) }
     ensures err { IfErr result (ForbidsMaking (AreVectors left.now right.now) (CanConvolveInFull left.now right.now)) }

@@ -11,6 +11,7 @@ mod program;
 mod reducing;
 mod spelling;
 mod table;
+mod views;
 mod words;
 
 use crate::fault::Fault;

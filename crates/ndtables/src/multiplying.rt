@@ -4,8 +4,8 @@ ghost use Rattle.std.specs.Prelude.{IfOk, IfErr};
 ghost use Rattle.ndtables.specs.Multiplying.{ForbidsProduct, IsProduct};
 
 use crate::fault::Fault;
+use crate::views::{Made, View};
 use ndarray::linalg::{Dot, dot_ok, entries_fit};
-use ndarray::{Array, ArrayView, IxDyn};
 use std::alloc::Global;
 
 /// The product of two arrays: at each index list the sum of the products of the lane of the left along its last axis and the lane
@@ -13,11 +13,7 @@ use std::alloc::Global;
 ///
 /// The fault is `shape` where their shapes do not multiply, else `range` where the absolute values of the products of two lanes
 /// add up to more than the greatest `i64`, else `memory`.
-pub fn dot_in_range(
-    alloc: Global,
-    left: &ArrayView<'_, i64, IxDyn>,
-    right: &ArrayView<'_, i64, IxDyn>,
-) -> Result<Array<i64, IxDyn>, Fault>
+pub fn dot_in_range(alloc: Global, left: &View<'_>, right: &View<'_>) -> Made
     ensures product { IfOk result (IsProduct left.now right.now) }
     ensures err { IfErr result (ForbidsProduct left.now right.now) }
 {

@@ -11,7 +11,8 @@ ghost use Rattle.ndarray.specs.Integers.{int_products, int_sums};
 ghost use Rattle.ndtables.specs.Reducing.{AreDifferences, AreRunningProducts, AreTotalsAlong, CanCumulateAlong, CanCumulateList, CanMultiplyAlong, CanSubtractAlong, CanSumAlong, ForbidsDifferences, ForbidsMaking, HasAxis, ProductsFit, SumsFit};
 
 use crate::fault::Fault;
-use ndarray::{Array, ArrayView, Axis, Ix1, IxDyn, Lengths, Zip};
+use crate::views::{Made, View};
+use ndarray::{ArrayView, Axis, Ix1, Lengths, Zip};
 use std::alloc::Global;
 
 /// The sum of all cells, or `None` where some selection of them has a sum that does not fit `i64`.
@@ -43,11 +44,7 @@ pub fn product_in_range<D: Lengths>(table: &ArrayView<'_, i64, D>) -> Option<i64
 ///
 /// The fault is `shape` where there is no such axis, else `range` where some selection of a lane's
 /// cells has a sum that does not fit `i64`, else `memory`.
-pub fn sums_along(
-    alloc: Global,
-    table: &ArrayView<'_, i64, IxDyn>,
-    axis: Axis,
-) -> Result<Array<i64, IxDyn>, Fault>
+pub fn sums_along(alloc: Global, table: &View<'_>, axis: Axis) -> Made
     ensures sums { IfOk result (AreTotalsAlong int_sums SumsFit table.now axis.0) }
     ensures err { IfErr result (ForbidsMaking (HasAxis table.now axis.0) (CanSumAlong table.now axis.0)) }
 {
@@ -61,7 +58,7 @@ pub fn sums_along(
 }
 
 /// Whether on each lane along an axis every selection of the cells has a sum that fits `i64`.
-fn lane_sums_fit(table: &ArrayView<'_, i64, IxDyn>, axis: Axis) -> bool
+fn lane_sums_fit(table: &View<'_>, axis: Axis) -> bool
     requires axis { HasAxis table.now axis.0 }
     ensures { IsTrue result ↔ CanSumAlong table.now axis.0 }
 {
@@ -76,11 +73,7 @@ fn lane_sums_fit(table: &ArrayView<'_, i64, IxDyn>, axis: Axis) -> bool
 ///
 /// The fault is `shape` where there is no such axis, else `range` where the absolute values of a
 /// lane's cells that are not zero multiply to more than the greatest `i64`, else `memory`.
-pub fn products_along(
-    alloc: Global,
-    table: &ArrayView<'_, i64, IxDyn>,
-    axis: Axis,
-) -> Result<Array<i64, IxDyn>, Fault>
+pub fn products_along(alloc: Global, table: &View<'_>, axis: Axis) -> Made
     ensures products { IfOk result (AreTotalsAlong int_products ProductsFit table.now axis.0) }
     ensures err { IfErr result (ForbidsMaking (HasAxis table.now axis.0) (CanMultiplyAlong table.now axis.0)) }
 {
@@ -95,7 +88,7 @@ pub fn products_along(
 
 /// Whether on each lane along an axis the absolute values of the cells that are not zero multiply to
 /// at most the greatest `i64`.
-fn lane_products_fit(table: &ArrayView<'_, i64, IxDyn>, axis: Axis) -> bool
+fn lane_products_fit(table: &View<'_>, axis: Axis) -> bool
     requires axis { HasAxis table.now axis.0 }
     ensures magnitudes { IsTrue result ↔ CanMultiplyAlong table.now axis.0 }
     ensures selections { IsTrue result → CanMap (λ lane. IsSummable int_products (FitsSigned w64) lane.cells) (lanes_of table.now axis.0) }
@@ -111,12 +104,7 @@ fn lane_products_fit(table: &ArrayView<'_, i64, IxDyn>, axis: Axis) -> bool
 ///
 /// The fault is `shape` where there is no such axis or it is too short, `range` where a difference on
 /// the way is no `i64`, and `memory` where an allocation fails before that.
-pub fn differences(
-    alloc: Global,
-    table: &ArrayView<'_, i64, IxDyn>,
-    n: usize,
-    axis: Axis,
-) -> Result<Array<i64, IxDyn>, Fault>
+pub fn differences(alloc: Global, table: &View<'_>, n: usize, axis: Axis) -> Made
     ensures differences { IfOk result (AreDifferences table.now n axis.0) }
     ensures err { IfErr result (ForbidsDifferences table.now n axis.0) }
 {
@@ -138,7 +126,7 @@ pub fn differences(
 }
 
 /// Whether each cell that is one further along an axis, minus the cell, is an `i64`.
-fn neighbours_subtract(table: &ArrayView<'_, i64, IxDyn>, axis: Axis) -> bool
+fn neighbours_subtract(table: &View<'_>, axis: Axis) -> bool
     requires axis { HasAxis table.now axis.0 }
     requires some { 0 < slice_index table.now.lengths axis.0 }
     ensures { IsTrue result ↔ CanSubtractAlong table.now axis.0 }
@@ -150,7 +138,7 @@ fn neighbours_subtract(table: &ArrayView<'_, i64, IxDyn>, axis: Axis) -> bool
 }
 
 /// Whether the cell minus the other array's is an `i64` at each index list. Requires equal lengths.
-fn differences_fit(left: &ArrayView<'_, i64, IxDyn>, right: &ArrayView<'_, i64, IxDyn>) -> bool
+fn differences_fit(left: &View<'_>, right: &View<'_>) -> bool
     requires same { left.now.lengths ≡ right.now.lengths }
     ensures { IsTrue result ↔ ((is : List ℕ) (x y : ℤ) → cell left.now is ≡ Some x → cell right.now is ≡ Some y → FitsSigned w64 (x -ℤ y)) }
 {
@@ -162,11 +150,7 @@ fn differences_fit(left: &ArrayView<'_, i64, IxDyn>, right: &ArrayView<'_, i64, 
 ///
 /// The fault is `shape` where there is no such axis, else `range` where a product on the way is no
 /// `i64`, else `memory`.
-pub fn running_products(
-    alloc: Global,
-    table: &ArrayView<'_, i64, IxDyn>,
-    axis: Axis,
-) -> Result<Array<i64, IxDyn>, Fault>
+pub fn running_products(alloc: Global, table: &View<'_>, axis: Axis) -> Made
     ensures products { IfOk result (AreRunningProducts table.now axis.0) }
     ensures err { IfErr result (ForbidsMaking (HasAxis table.now axis.0) (CanCumulateAlong table.now axis.0)) }
 {
@@ -180,7 +164,7 @@ pub fn running_products(
 }
 
 /// Whether on each lane along an axis the running products are `i64`s.
-fn running_products_fit(table: &ArrayView<'_, i64, IxDyn>, axis: Axis) -> bool
+fn running_products_fit(table: &View<'_>, axis: Axis) -> bool
     requires axis { HasAxis table.now axis.0 }
     ensures { IsTrue result ↔ CanCumulateAlong table.now axis.0 }
 {

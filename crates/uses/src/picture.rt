@@ -26,12 +26,12 @@ use ndarray::conv::{conv_valid, valid_fits};
 use ndarray::{Array, ArrayBase, ArrayView, Data, Dimension, Ix2, Zip};
 use std::alloc::{AllocError, Global};
 
+/// What a filter gives: a picture, or `None`, or allocation failure.
+pub type Filtered = Result<Option<Array<i64, Ix2>>, AllocError>;
+
 /// A picture with each pixel the mean of a square of three by three pixels, rounded towards zero. `None` where a sum of nine
 /// pixels may be no `i64`. Where the image has fewer than three rows or columns there is no error.
-pub fn blur<S: Data<Elem = i64>>(
-    alloc: Global,
-    image: &ArrayBase<S, Ix2>,
-) -> Result<Option<Array<i64, Ix2>>, AllocError>
+pub fn blur<S: Data<Elem = i64>>(alloc: Global, image: &ArrayBase<S, Ix2>) -> Filtered
     ensures when { IfOk result (λ made. IsSome made ↔ HasValidMagnitudesInRange (λ x. x) (FitsSigned w64) image.now blur_kernel) }
     ensures pixels { IfOk result (λ made. IfSome made (HasInnerPixels image.now (mean_pixel image.now))) }
     ensures small { (slice_index image.now.lengths 0 ≤ 2) ⊎ (slice_index image.now.lengths 1 ≤ 2) → IsOk result }
@@ -45,10 +45,7 @@ pub fn blur<S: Data<Elem = i64>>(
 
 /// A picture with each pixel how much the pixel in the middle of a square of three by three differs from those round it. `None`
 /// where a sum may be no `i64`. Where the image has fewer than three rows or columns there is no error.
-pub fn edges<S: Data<Elem = i64>>(
-    alloc: Global,
-    image: &ArrayBase<S, Ix2>,
-) -> Result<Option<Array<i64, Ix2>>, AllocError>
+pub fn edges<S: Data<Elem = i64>>(alloc: Global, image: &ArrayBase<S, Ix2>) -> Filtered
     ensures when { IfOk result (λ made. IsSome made ↔ HasValidMagnitudesInRange (λ x. x) (FitsSigned w64) image.now edge_kernel) }
     ensures pixels { IfOk result (λ made. IfSome made (HasInnerPixels image.now (edge_pixel image.now))) }
     ensures small { (slice_index image.now.lengths 0 ≤ 2) ⊎ (slice_index image.now.lengths 1 ≤ 2) → IsOk result }
@@ -92,7 +89,7 @@ pub fn filter<S: Data<Elem = i64>, T: Data<Elem = i64>>(
     alloc: Global,
     image: &ArrayBase<S, Ix2>,
     kernel: &ArrayBase<T, Ix2>,
-) -> Result<Option<Array<i64, Ix2>>, AllocError>
+) -> Filtered
     ensures when { IfOk result (λ made. IsSome made ↔ ((kernel.now.lengths ≡ 3 ∷ 3 ∷ []) × HasValidMagnitudesInRange (λ x. x) (FitsSigned w64) image.now kernel.now)) }
     ensures pixels { IfOk result (λ made. IfSome made (λ filtered. filtered ≡ valid_convolution_by int_sums int_products (λ x. x) image.now kernel.now)) }
     ensures formula { IfOk result (λ made. IfSome made (HasInnerPixels image.now (filtered_pixel image.now kernel.now))) }

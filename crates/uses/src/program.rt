@@ -29,6 +29,16 @@ pub fn run<W: Write, E: Write>(
     }
 }
 
+/// Prints a fault as a line of the stream, and returns the exit status.
+pub fn report<E: Write>(fault: Fault, err: &mut E) -> u8
+    ensures { result ≡ 2 }
+{
+    if writeln!(err, "uses: {fault}").is_ok() {
+        let _ = err.flush();
+    }
+    2
+}
+
 /// What the command that the words spell prints for the input, whole.
 fn answer(alloc: Global, words: &[String], input: &str) -> Result<String, Fault> {
     let command = Command::spelled(words)?;
@@ -41,14 +51,4 @@ fn print<W: Write>(text: &str, out: &mut W) -> io::Result<()>
 {
     out.write_all(text.as_bytes())?;
     out.flush()
-}
-
-/// Prints a fault as a line of the stream, and returns the exit status.
-pub fn report<E: Write>(fault: Fault, err: &mut E) -> u8
-    ensures { result ≡ 2 }
-{
-    if writeln!(err, "uses: {fault}").is_ok() {
-        let _ = err.flush();
-    }
-    2
 }

@@ -7,7 +7,7 @@ ghost use Rattle.ndarray.specs.Index.{InBox};
 ghost use Rattle.ndarray.specs.base.Ranks.{row_from};
 
 use crate::base::array::ArrayView;
-use crate::base::dimension::Lengths;
+use crate::base::dimension::{Dimension, Ix1, Lengths};
 use crate::base::storage::ViewRepr;
 use std::marker::Model;
 
@@ -146,4 +146,16 @@ impl<'a, A, D: Lengths> ArrayView<'a, A, D> {
             left: count,
         }
     }
+}
+
+/// The cells of a vector, one after another.
+#[inline(always)]
+pub(crate) fn cells_of<'a, A>(vector: ArrayView<'a, A, Ix1>) -> Strided<'a, A>
+    ensures { result ≡ vector.entry.cells }
+{
+    let len = vector.raw_dim().into_pattern();
+    if len == 0 {
+        return vector.no_cells();
+    }
+    vector.cells_along(&Ix1(0), 0, len)
 }

@@ -3,6 +3,7 @@
 ghost use Rattle.std.specs.Prelude.{◌≡◌, ◌↔◌, ◌≤◌, IsTrue, MatchResult, Some};
 ghost use Rattle.std.specs.Mem.{type_size};
 ghost use Rattle.ndarray.specs.Grid.{cell};
+ghost use Rattle.ndarray.specs.GeneralProducts.{AccumulatesColumn, AccumulatesProduct, CanAccumulateColumn, CanAccumulateProduct};
 ghost use Rattle.ndarray.specs.Products.{Accumulates, AccumulatesEntries, AddsScaled, CanAccumulate, CanAddScaled, HasSumsInRange, ShapesMultiplyInto, column_entries, column_of, matrix_entries, matrix_of, product_of};
 
 use crate::base::array::{ArrayBase, ArrayView};
@@ -128,10 +129,8 @@ fn accumulate_product<A: LinalgScalar, S: DataMut<Elem = A>>(
     beta: A,
     array: &mut ArrayBase<S, Ix2>,
 )
-    requires shapes { ShapesMultiplyInto left.now.lengths right.now.lengths array.old.lengths }
-    requires sums { HasSumsInRange A.Valued (matrix_of A.Valued left.now) (matrix_of A.Valued right.now) }
-    requires scaled { CanAccumulate A.Valued alpha beta (matrix_entries (product_of A.Valued (matrix_of A.Valued left.now) (matrix_of A.Valued right.now))) array.old }
-    ensures { Accumulates A.Valued alpha beta (matrix_entries (product_of A.Valued (matrix_of A.Valued left.now) (matrix_of A.Valued right.now))) array.old array.new }
+    requires { CanAccumulateProduct A.Valued alpha beta left.now right.now array.old }
+    ensures { AccumulatesProduct A.Valued alpha beta left.now right.now array.old array.new }
 {
     if size_of_val(&alpha) <= 64 && has_close_rows(right) {
         accumulate_by_rows(alpha, left, right, beta, array);
@@ -151,10 +150,8 @@ fn accumulate_by_rows<A: LinalgScalar, S: DataMut<Elem = A>>(
     array: &mut ArrayBase<S, Ix2>,
 )
     requires small { type_size A.row ≤ 64 }
-    requires shapes { ShapesMultiplyInto left.now.lengths right.now.lengths array.old.lengths }
-    requires sums { HasSumsInRange A.Valued (matrix_of A.Valued left.now) (matrix_of A.Valued right.now) }
-    requires scaled { CanAccumulate A.Valued alpha beta (matrix_entries (product_of A.Valued (matrix_of A.Valued left.now) (matrix_of A.Valued right.now))) array.old }
-    ensures { Accumulates A.Valued alpha beta (matrix_entries (product_of A.Valued (matrix_of A.Valued left.now) (matrix_of A.Valued right.now))) array.old array.new }
+    requires can { CanAccumulateProduct A.Valued alpha beta left.now right.now array.old }
+    ensures { AccumulatesProduct A.Valued alpha beta left.now right.now array.old array.new }
 {
     let _two = (left.raw_dim(), right.raw_dim());
     accumulate_matrix(alpha, left, right, beta, array, 1);
@@ -169,10 +166,8 @@ fn accumulate_by_columns<A: LinalgScalar, S: DataMut<Elem = A>>(
     array: &mut ArrayBase<S, Ix2>,
 )
     requires small { type_size A.row ≤ 64 }
-    requires shapes { ShapesMultiplyInto left.now.lengths right.now.lengths array.old.lengths }
-    requires sums { HasSumsInRange A.Valued (matrix_of A.Valued left.now) (matrix_of A.Valued right.now) }
-    requires scaled { CanAccumulate A.Valued alpha beta (matrix_entries (product_of A.Valued (matrix_of A.Valued left.now) (matrix_of A.Valued right.now))) array.old }
-    ensures { Accumulates A.Valued alpha beta (matrix_entries (product_of A.Valued (matrix_of A.Valued left.now) (matrix_of A.Valued right.now))) array.old array.new }
+    requires can { CanAccumulateProduct A.Valued alpha beta left.now right.now array.old }
+    ensures { AccumulatesProduct A.Valued alpha beta left.now right.now array.old array.new }
 {
     accumulate_matrix(alpha, &right.t(), &left.t(), beta, array, 0);
 }
@@ -185,10 +180,8 @@ fn accumulate_inner_sums<A: LinalgScalar, S: DataMut<Elem = A>>(
     beta: A,
     array: &mut ArrayBase<S, Ix2>,
 )
-    requires shapes { ShapesMultiplyInto left.now.lengths right.now.lengths array.old.lengths }
-    requires sums { HasSumsInRange A.Valued (matrix_of A.Valued left.now) (matrix_of A.Valued right.now) }
-    requires scaled { CanAccumulate A.Valued alpha beta (matrix_entries (product_of A.Valued (matrix_of A.Valued left.now) (matrix_of A.Valued right.now))) array.old }
-    ensures { Accumulates A.Valued alpha beta (matrix_entries (product_of A.Valued (matrix_of A.Valued left.now) (matrix_of A.Valued right.now))) array.old array.new }
+    requires { CanAccumulateProduct A.Valued alpha beta left.now right.now array.old }
+    ensures { AccumulatesProduct A.Valued alpha beta left.now right.now array.old array.new }
 {
     let sums = RowsByColumns {
         left: left.view(),
@@ -206,10 +199,8 @@ fn accumulate_column<A: LinalgScalar, S: DataMut<Elem = A>>(
     beta: A,
     array: &mut ArrayBase<S, Ix1>,
 )
-    requires shapes { ShapesMultiplyInto left.now.lengths x.now.lengths array.old.lengths }
-    requires sums { HasSumsInRange A.Valued (matrix_of A.Valued left.now) (column_of A.Valued x.now) }
-    requires scaled { CanAccumulate A.Valued alpha beta (column_entries (product_of A.Valued (matrix_of A.Valued left.now) (column_of A.Valued x.now))) array.old }
-    ensures { Accumulates A.Valued alpha beta (column_entries (product_of A.Valued (matrix_of A.Valued left.now) (column_of A.Valued x.now))) array.old array.new }
+    requires { CanAccumulateColumn A.Valued alpha beta left.now x.now array.old }
+    ensures { AccumulatesColumn A.Valued alpha beta left.now x.now array.old array.new }
 {
     if size_of_val(&alpha) <= 64 && has_close_rows(&left.t()) {
         accumulate_as_row(alpha, left, x, beta, array);
@@ -226,10 +217,8 @@ fn accumulate_column_sums<A: LinalgScalar, S: DataMut<Elem = A>>(
     beta: A,
     array: &mut ArrayBase<S, Ix1>,
 )
-    requires shapes { ShapesMultiplyInto left.now.lengths x.now.lengths array.old.lengths }
-    requires sums { HasSumsInRange A.Valued (matrix_of A.Valued left.now) (column_of A.Valued x.now) }
-    requires scaled { CanAccumulate A.Valued alpha beta (column_entries (product_of A.Valued (matrix_of A.Valued left.now) (column_of A.Valued x.now))) array.old }
-    ensures { Accumulates A.Valued alpha beta (column_entries (product_of A.Valued (matrix_of A.Valued left.now) (column_of A.Valued x.now))) array.old array.new }
+    requires { CanAccumulateColumn A.Valued alpha beta left.now x.now array.old }
+    ensures { AccumulatesColumn A.Valued alpha beta left.now x.now array.old array.new }
 {
     let sums = RowsByVector {
         left: left.view(),
@@ -247,10 +236,8 @@ fn accumulate_as_row<A: LinalgScalar, S: DataMut<Elem = A>>(
     array: &mut ArrayBase<S, Ix1>,
 )
     requires small { type_size A.row ≤ 64 }
-    requires shapes { ShapesMultiplyInto left.now.lengths x.now.lengths array.old.lengths }
-    requires sums { HasSumsInRange A.Valued (matrix_of A.Valued left.now) (column_of A.Valued x.now) }
-    requires scaled { CanAccumulate A.Valued alpha beta (column_entries (product_of A.Valued (matrix_of A.Valued left.now) (column_of A.Valued x.now))) array.old }
-    ensures { Accumulates A.Valued alpha beta (column_entries (product_of A.Valued (matrix_of A.Valued left.now) (column_of A.Valued x.now))) array.old array.new }
+    requires can { CanAccumulateColumn A.Valued alpha beta left.now x.now array.old }
+    ensures { AccumulatesColumn A.Valued alpha beta left.now x.now array.old array.new }
 {
     let _one = x.raw_dim();
     accumulate_vector(alpha, x, &left.t(), beta, array);

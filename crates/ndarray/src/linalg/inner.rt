@@ -8,7 +8,7 @@ ghost use Rattle.ndarray.specs.Sums.{IsSummable, total};
 use crate::base::array::ArrayView;
 use crate::base::axis::Axis;
 use crate::base::dimension::{Dimension, Ix1, Ix2};
-use crate::base::strided::Strided;
+use crate::base::strided::{Strided, cells_of};
 use crate::elements::LinalgScalar;
 use crate::elements::sums::add_product;
 use crate::linalg::entries::Entries;
@@ -42,18 +42,6 @@ pub(crate) fn inner_of<A: LinalgScalar>(left: Strided<'_, A>, right: Strided<'_,
         sum = add_product(sum, *x, *y);
     }
     sum
-}
-
-/// The cells of a vector, one after another.
-#[inline(always)]
-pub(crate) fn cells_of<'a, A>(vector: ArrayView<'a, A, Ix1>) -> Strided<'a, A>
-    ensures { result ≡ vector.entry.cells }
-{
-    let len = vector.raw_dim().into_pattern();
-    if len == 0 {
-        return vector.no_cells();
-    }
-    vector.cells_along(&Ix1(0), 0, len)
 }
 
 /// The inner sums of the rows of a matrix with the columns of another.

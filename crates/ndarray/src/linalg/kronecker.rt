@@ -13,10 +13,9 @@ use crate::base::array::{Array, ArrayBase, ArrayView};
 use crate::base::builder::ArrayBuilder;
 use crate::base::dimension::{Dimension, Ix1, Ix2, Lengths};
 use crate::base::storage::Data;
-use crate::base::strided::Strided;
+use crate::base::strided::{Strided, cells_of};
 use crate::elements::LinalgScalar;
 use crate::elements::sums::multiply;
-use crate::linalg::inner::cells_of;
 use crate::order::Order;
 use std::alloc::{AllocError, Global};
 

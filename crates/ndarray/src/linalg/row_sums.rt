@@ -7,10 +7,10 @@ ghost use Rattle.ndarray.specs.RowSums.{AddsScaledRow, AddsTwoRows, CanAddScaled
 use crate::base::array::ArrayView;
 use crate::base::axis::Axis;
 use crate::base::dimension::{Dimension, Ix1, Ix2};
-use crate::base::strided::Strided;
+use crate::base::strided::{Strided, cells_of};
 use crate::elements::LinalgScalar;
 use crate::elements::sums::add_product;
-use crate::linalg::inner::{cells_of, inner_of};
+use crate::linalg::inner::inner_of;
 
 /// Pushes the sums of the products of a vector with each column of a matrix.
 pub(crate) fn push_row<A: LinalgScalar>(

@@ -11,10 +11,9 @@ ghost use Rattle.ndarray.specs.Integers.{int_products, int_sums, magnitude_produ
 use crate::base::array::{ArrayBase, ArrayView};
 use crate::base::dimension::{Dimension, Ix1, Lengths};
 use crate::base::storage::Data;
-use crate::base::strided::Strided;
+use crate::base::strided::{Strided, cells_of};
 use crate::elements::IntegerElem;
 use crate::iter::runs::CellRuns;
-use crate::linalg::inner::cells_of;
 use crate::order::Order;
 use crate::order::rows::BoxRows;
 use crate::zip::pair::PairRun;

@@ -5,12 +5,8 @@ use Rattle.ndtables.proofs.FaultsPassedOn.{passed-on}
 use Rattle.ndtables.proofs.command.sum_axis.Goals as goal
 
 pub returns-in_err-axis-clause-err : goal.returns-in_err-axis-clause-err
-returns-in_err-axis-clause-err c =
-    passed-on (ForbidsTotals SumsFit c.args.words) c.from_residual.result c.in_err-axis.field-0.0 c.from_residual.ensures.1 (inl c.in_err-axis.ensures.err)
+returns-in_err-axis-clause-err c = passed-on (ForbidsTotals SumsFit c.args.words) c.from_residual.result c.in_err-axis.field-0.0 c.from_residual.ensures.1 (inl c.in_err-axis.ensures.err)
 
 pub returns-in_err-sums-clause-err : goal.returns-in_err-sums-clause-err
 returns-in_err-sums-clause-err c =
-    let axis = c.in_ok-axis.axis.0 in
-    let fault = c.in_err-sums.field-0.0 in
-    let forbids = subst (λ g. ForbidsMaking (HasAxis g axis) (CanSumAlong g axis) fault) c.view.ensures.same c.in_err-sums.ensures.err in
-    passed-on (ForbidsTotals SumsFit c.args.words) c.from_residual-in_err-sums.result c.in_err-sums.field-0.0 c.from_residual-in_err-sums.ensures.1 (inr (axis, c.in_ok-axis.table, c.in_ok-axis.ensures.read, forbids))
+    passed-on (ForbidsTotals SumsFit c.args.words) c.from_residual-in_err-sums.result c.in_err-sums.field-0.0 c.from_residual-in_err-sums.ensures.1 (inr (c.in_ok-axis.axis.0, c.in_ok-axis.table, c.in_ok-axis.ensures.read, subst (λ g. ForbidsMaking (HasAxis g c.in_ok-axis.axis.0) (CanSumAlong g c.in_ok-axis.axis.0) c.in_err-sums.field-0.0) c.view.ensures.same c.in_err-sums.ensures.err))

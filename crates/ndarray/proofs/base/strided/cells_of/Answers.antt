@@ -5,7 +5,7 @@ use Rattle.ndarray.specs.base.Ranks.{row_from}
 use Rattle.ndarray.proofs.boxes.Orders.{row_order-is}
 use Rattle.ndarray.proofs.cells.Cells.{along-row_order}
 use Rattle.ndarray.proofs.cells.Matrices.{row-one}
-use Rattle.ndarray.proofs.linalg.inner.cells_of.Goals as goal
+use Rattle.ndarray.proofs.base.strided.cells_of.Goals as goal
 
 pub cells_along-requires-clause-within : goal.cells_along-requires-clause-within
 cells_along-requires-clause-within g c =
