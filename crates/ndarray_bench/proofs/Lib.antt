@@ -1,3 +1,4 @@
 mod Grants
+mod MadeTriangles
 mod Maxima
 pub mod PairedProducts

@@ -378,13 +378,15 @@ pub fn matrix_times_vector<S: Data<Elem = i64>, T: Data<Elem = i64>>(
     Ok(Some(product))
 }
 
+/// A vector of residues modulo 5.
+pub type Vector = Array<Residue<5>, Ix1>;
+
+/// A matrix of residues modulo 5.
+pub type Matrix = Array<Residue<5>, Ix2>;
+
 /// Leaves a matrix times a vector in the cells of another vector, in residues modulo 5; or returns `false`, where the lengths do
 /// not meet, and leaves it as it is.
-pub fn multiply_into(
-    a: &Array<Residue<5>, Ix2>,
-    x: &Array<Residue<5>, Ix1>,
-    y: &mut Array<Residue<5>, Ix1>,
-) -> bool
+pub fn multiply_into(a: &Matrix, x: &Vector, y: &mut Vector) -> bool
     ensures shapes { IsTrue result ↔ ShapesMultiplyInto a.now.lengths x.now.lengths y.old.lengths }
     ensures unchanged { result ≡ false → y.new ≡ y.old }
     ensures product { IsTrue result → y.new ≡ array_by y.old.lengths (column_entries (product_of ⟦<Residue<5> as Valued>⟧ (matrix_of ⟦<Residue<5> as Valued>⟧ a.now) (column_of ⟦<Residue<5> as Valued>⟧ x.now))) }
@@ -398,11 +400,7 @@ pub fn multiply_into(
 
 /// Adds the product of two matrices to the cells of a third, in residues modulo 5; or returns `false`, where the shapes do not
 /// meet, and leaves it as it is.
-pub fn add_product(
-    a: &Array<Residue<5>, Ix2>,
-    b: &Array<Residue<5>, Ix2>,
-    c: &mut Array<Residue<5>, Ix2>,
-) -> bool
+pub fn add_product(a: &Matrix, b: &Matrix, c: &mut Matrix) -> bool
     ensures shapes { IsTrue result ↔ ShapesMultiplyInto a.now.lengths b.now.lengths c.old.lengths }
     ensures unchanged { result ≡ false → c.new ≡ c.old }
     ensures sum { IsTrue result → c.new ≡ array_by c.old.lengths (product_added (product_of ⟦<Residue<5> as Valued>⟧ (matrix_of ⟦<Residue<5> as Valued>⟧ a.now) (matrix_of ⟦<Residue<5> as Valued>⟧ b.now)) c.old) }
@@ -415,11 +413,7 @@ pub fn add_product(
 }
 
 /// Adds a multiple of a row to each row of a table, in residues modulo 5.
-pub fn add_multiple_of_row(
-    table: &mut Array<Residue<5>, Ix2>,
-    factor: Residue<5>,
-    row: &Array<Residue<5>, Ix1>,
-)
+pub fn add_multiple_of_row(table: &mut Matrix, factor: Residue<5>, row: &Vector)
     requires as_long { (n : ℕ) × (table.old.lengths ≡ n ∷ row.now.lengths) }
     ensures { table.new ≡ array_by table.old.lengths (multiple_added factor table.old row.now) }
 {

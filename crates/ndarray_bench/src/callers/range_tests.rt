@@ -21,6 +21,10 @@ use ndarray::{
 };
 use std::alloc::{AllocError, Global};
 
+/// What a call that tests its range returns: an array, `None` where a result is out of range or the shapes do not fit, or that
+/// there was no memory.
+pub type Checked<A, D> = Result<Option<Array<A, D>>, AllocError>;
+
 /// Subtracts a row from each row of a table; or returns `false`, where the row does not broadcast to the table's shape or a
 /// difference is no `i64`, and leaves the table as it is.
 pub fn subtract_row<S: DataMut<Elem = i64>, T: Data<Elem = i64>>(
@@ -43,7 +47,7 @@ pub fn sums_in_range<S: Data<Elem = i64>, T: Data<Elem = i64>, D: DimMax<E>, E: 
     alloc: Global,
     a: &ArrayBase<S, D>,
     b: &ArrayBase<T, E>,
-) -> Result<Option<Array<i64, <D as DimMax<E>>::Output>>, AllocError>
+) -> Checked<i64, <D as DimMax<E>>::Output>
     ensures when { IfOk result (λ made. IsSome made ↔ CanCombine a.now b.now (λ x y. FitsSigned w64 (x +ℤ y))) }
     ensures sums { IfOk result (λ made. IfSome made (Combines a.now b.now (λ x y z. z ≡ x +ℤ y))) }
     ensures error { IfErr result (λ _. CanCombine a.now b.now (λ x y. FitsSigned w64 (x +ℤ y))) }
@@ -61,7 +65,7 @@ pub fn sums_in_range<S: Data<Elem = i64>, T: Data<Elem = i64>, D: DimMax<E>, E: 
 pub fn what_is_left<D: Lengths + DimMax<D>>(
     whole: &Array<u64, D>,
     part: &Array<u64, D>,
-) -> Result<Option<Array<u64, <D as DimMax<D>>::Output>>, AllocError>
+) -> Checked<u64, <D as DimMax<D>>::Output>
     ensures when { IfOk result (λ made. IsSome made ↔ CanCombine whole.now part.now (λ x y. ⟦<u64 as num_traits::Number>⟧.fits (pos x -ℤ pos y))) }
     ensures rests { IfOk result (λ made. IfSome made (Combines whole.now part.now (λ x y z. z ≡ x - y))) }
     ensures error { IfErr result (λ _. CanCombine whole.now part.now (λ x y. ⟦<u64 as num_traits::Number>⟧.fits (pos x -ℤ pos y)) × (size (broadcast_lengths whole.now.lengths part.now.lengths) ≢ 0)) }
@@ -94,7 +98,7 @@ pub fn add_to_each<S: DataMut<Elem = i64>, D: Lengths>(
 pub fn products_in_range<T: Data<Elem = i64>, E: Lengths>(
     table: &Array<i64, Ix2>,
     factors: &ArrayBase<T, E>,
-) -> Result<Option<Array<i64, <Ix2 as DimMax<E>>::Output>>, AllocError>
+) -> Checked<i64, <Ix2 as DimMax<E>>::Output>
 where
     Ix2: DimMax<E>,
     ensures when { IfOk result (λ made. IsSome made ↔ CanCombine table.now factors.now (λ x y. FitsSigned w64 (x *ℤ y))) }
@@ -109,7 +113,7 @@ where
 }
 
 /// The negative of each cell, or `None` where a cell is the least `i64`.
-pub fn opposite<D: Lengths>(array: Array<i64, D>) -> Result<Option<Array<i64, D>>, AllocError>
+pub fn opposite<D: Lengths>(array: Array<i64, D>) -> Checked<i64, D>
     ensures when { IfOk result (λ made. IsSome made ↔ CanMap (λ x. FitsSigned w64 (neg_ℤ x)) array) }
     ensures negatives { IfOk result (λ made. IfSome made (Maps (λ x z. z ≡ neg_ℤ x) array)) }
     ensures ok { IsOk result }
@@ -127,7 +131,7 @@ pub fn matrix_product_in_range<S: Data<Elem = i64>, T: Data<Elem = i64>>(
     alloc: Global,
     a: &ArrayBase<S, Ix2>,
     b: &ArrayBase<T, Ix2>,
-) -> Result<Option<Array<i64, Ix2>>, AllocError>
+) -> Checked<i64, Ix2>
     ensures when { let values = ⟦<i64 as Valued>⟧ in IfOk result (λ made. IsSome made ↔ (ShapesMultiply a.now.lengths b.now.lengths × HasMagnitudesInRange (FitsSigned w64) (matrix_of values a.now) (matrix_of values b.now))) }
     ensures product { let values = ⟦<i64 as Valued>⟧ in let product = product_of values (matrix_of values a.now) (matrix_of values b.now) in IfOk result (λ made. IfSome made (HasValues values (product.rows ∷ product.columns ∷ []) (matrix_entries product))) }
     ensures error { let values = ⟦<i64 as Valued>⟧ in IfErr result (λ _. ShapesMultiply a.now.lengths b.now.lengths × HasMagnitudesInRange (FitsSigned w64) (matrix_of values a.now) (matrix_of values b.now) × (slice_index a.now.lengths 0 * slice_index b.now.lengths 1 ≢ 0)) }
@@ -188,7 +192,7 @@ pub fn checked_matrix_times_vector<A: IntegerScalar, S: Data<Elem = A>, T: Data<
     alloc: Global,
     a: &ArrayBase<S, Ix2>,
     x: &ArrayBase<T, Ix1>,
-) -> Result<Option<Array<A, Ix1>>, AllocError>
+) -> Checked<A, Ix1>
     ensures when { let values = whole_numbers A.value A.fits in IfOk result (λ made. IsSome made ↔ (ShapesMultiply a.now.lengths x.now.lengths × HasMagnitudesInRange A.fits (matrix_of values a.now) (column_of values x.now))) }
     ensures product { let product = product_of A.Valued (matrix_of A.Valued a.now) (column_of A.Valued x.now) in IfOk result (λ made. IfSome made (HasValues A.Valued (product.rows ∷ []) (column_entries product))) }
     ensures error { let values = whole_numbers A.value A.fits in IfErr result (λ _. ShapesMultiply a.now.lengths x.now.lengths × HasMagnitudesInRange A.fits (matrix_of values a.now) (column_of values x.now) × (slice_index a.now.lengths 0 ≢ 0)) }
@@ -207,7 +211,7 @@ pub fn apply_twice(
     alloc: Global,
     a: &ArrayView<'_, i64, Ix2>,
     x: &ArrayView<'_, i64, Ix1>,
-) -> Result<Option<Array<i64, Ix1>>, AllocError>
+) -> Checked<i64, Ix1>
     ensures when { IfOk result (λ made. IsSome made ↔ MayApplyTwice a.now x.now) }
     ensures product { IfOk result (λ made. IfSome made (HasColumn whole_i64 (applied_twice a.now x.now))) }
     ensures error { IfErr result (λ _. slice_index a.now.lengths 0 ≢ 0) }
@@ -251,7 +255,7 @@ pub fn amplify<S: Data<Elem = i64>>(
     signal: &ArrayBase<S, Ix1>,
     gain: i64,
     bits: u32,
-) -> Result<Option<Array<i64, Ix1>>, AllocError>
+) -> Checked<i64, Ix1>
     requires { bits < 64 }
     ensures when { IfOk result (λ made. IsSome made ↔ CanMap (λ x. FitsSigned w64 (x *ℤ gain)) signal.now) }
     ensures samples { IfOk result (λ made. IfSome made (λ s. s ≡ array_by signal.now.lengths (amplified_at gain bits signal.now))) }

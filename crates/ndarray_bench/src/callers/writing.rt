@@ -5,7 +5,7 @@ ghost use Rattle.std.specs.Prelude.{◌≡◌, ◌≢◌, ◌↔◌, ◌∷◌, 
 ghost use Rattle.ndarray.specs.Grid.{IsGrid, cell};
 ghost use Rattle.ndarray.specs.Index.{InBox};
 
-use ndarray::iter::{AxisChunksIterMut, AxisIterMut, LanesMut};
+use ndarray::iter::LanesMut;
 use ndarray::zip::{One, Parts};
 use ndarray::{
     Array, ArrayBase, ArrayViewMut, ArrayViewMut1, Axis, Data, DataMut, Dimension, Ix1, Ix2,
@@ -68,27 +68,15 @@ fn fill<A: Copy, D: Lengths>(view: &mut ArrayViewMut<'_, A, D>, value: A) {
     }
 }
 
-/// Writes a value into each cell of each item along an axis.
-fn fill_each<A: Copy, D: Lengths>(items: AxisIterMut<'_, A, D>, value: A) {
-    for mut item in items {
-        fill(&mut item, value);
-    }
-}
-
 /// Writes a value into each cell of each item along axis 0.
 pub fn fill_items<A: Copy, S: DataMut<Elem = A>, D: RemoveAxis>(
     array: &mut ArrayBase<S, D>,
     value: A,
 ) {
     if array.axis_ok(Axis(0)) {
-        fill_each(array.axis_iter_mut(Axis(0)), value);
-    }
-}
-
-/// Writes a value into each cell of each chunk along an axis.
-fn fill_each_chunk<A: Copy, D: Lengths>(chunks: AxisChunksIterMut<'_, A, D>, value: A) {
-    for mut chunk in chunks {
-        fill(&mut chunk, value);
+        for mut item in array.axis_iter_mut(Axis(0)) {
+            fill(&mut item, value);
+        }
     }
 }
 
@@ -98,7 +86,9 @@ pub fn fill_chunks<A: Copy, S: DataMut<Elem = A>, D: Lengths>(
     value: A,
 ) {
     if array.chunk_ok(Axis(0), 2) {
-        fill_each_chunk(array.axis_chunks_iter_mut(Axis(0), 2), value);
+        for mut chunk in array.axis_chunks_iter_mut(Axis(0), 2) {
+            fill(&mut chunk, value);
+        }
     }
 }
 

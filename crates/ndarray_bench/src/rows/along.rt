@@ -1,23 +1,16 @@
 //! Running products and differences along an axis of a table.
 
-use crate::rows::calls::ViewCall;
-use crate::rows::layouts::Table;
 use crate::rows::operators::{View, push_answer};
-use crate::rows::reading::{apply_all, kind};
+use crate::rows::reading::Asked;
 use crate::rows::spelling::numbers;
 use crate::rows::wrapping::wrap_all;
 use ndarray::Axis;
 use std::alloc::{AllocError, Global};
 
 /// What a call gives on a table, after calls that view it; `None` where the words spell none of these.
-pub fn answer(
-    alloc: Global,
-    table: &Table,
-    views: &[ViewCall],
-    words: &[&str],
-) -> Result<Option<String>, AllocError> {
-    match AlongCall::parse(words) {
-        Some(call) => compute(alloc, table, views, call).map(Some),
+pub fn answer(alloc: Global, asked: &Asked<'_>) -> Result<Option<String>, AllocError> {
+    match AlongCall::parse(asked.words) {
+        Some(call) => compute(alloc, asked, call).map(Some),
         None => Ok(None),
     }
 }
@@ -43,20 +36,11 @@ impl AlongCall {
 }
 
 /// What a call gives on a table, after calls that view it; `refused` where a test of the library says no.
-fn compute(
-    alloc: Global,
-    table: &Table,
-    views: &[ViewCall],
-    call: AlongCall,
-) -> Result<String, AllocError> {
-    let cells = wrap_all(alloc, table.cells.as_slice())?;
-    let view = match table.view_of(cells.as_slice()) {
-        Ok(view) => view,
-        Err(error) => return kind(alloc, &error),
-    };
-    match apply_all(view, views) {
-        Some(view) => along(alloc, &view, call),
-        None => "refused".to_string(alloc),
+fn compute(alloc: Global, asked: &Asked<'_>, call: AlongCall) -> Result<String, AllocError> {
+    let cells = wrap_all(alloc, asked.table.cells.as_slice())?;
+    match asked.view_of(alloc, cells.as_slice())? {
+        Ok(view) => along(alloc, &view, call),
+        Err(refusal) => Ok(refusal),
     }
 }
 

@@ -2,6 +2,7 @@
 
 use crate::rows::calls::ViewCall;
 use crate::rows::layouts::{Layout, Table};
+use crate::rows::reading::Asked;
 use crate::rows::writing::parse_views;
 use crate::rows::{along, arrays, joining, operators, products, reading, spelling, writing};
 use std::alloc::{AllocError, Global};
@@ -15,28 +16,25 @@ pub fn answer(alloc: Global, row: &str, layout: Layout) -> Result<String, AllocE
         return "no table".to_string(alloc);
     };
     let words: Vec<&str> = table.split_whitespace().collect(alloc)?;
-    match words.as_slice() {
-        ["i8", words @ ..] => of_i8(alloc, words, calls, layout),
-        words => carry_out(alloc, words, calls, layout),
+    let (is_i8, words) = match words.as_slice() {
+        ["i8", words @ ..] => (true, words),
+        words => (false, words),
+    };
+    match parse_table(alloc, words, layout)? {
+        Some(table) if is_i8 => of_i8(alloc, &table, calls),
+        Some(table) => carry_out(alloc, table, calls),
+        None => "no table".to_string(alloc),
     }
 }
 
 /// What a call gives on a layout of a table of `i8`, which has two calls: `sums_fit` and `products_fit`.
-fn of_i8(
-    alloc: Global,
-    table: &[&str],
-    calls: &[&str],
-    layout: Layout,
-) -> Result<String, AllocError> {
-    let Some(table) = parse_table(alloc, table, layout)? else {
-        return "no table".to_string(alloc);
-    };
+fn of_i8(alloc: Global, table: &Table, calls: &[&str]) -> Result<String, AllocError> {
     let Some(cells) = as_i8(alloc, table.cells.as_slice())? else {
         return "no table".to_string(alloc);
     };
     match calls {
-        [call] if call.trim() == "sums_fit" => sums_fit(alloc, &table, cells.as_slice()),
-        [call] if call.trim() == "products_fit" => products_fit(alloc, &table, cells.as_slice()),
+        [call] if call.trim() == "sums_fit" => sums_fit(alloc, table, cells.as_slice()),
+        [call] if call.trim() == "products_fit" => products_fit(alloc, table, cells.as_slice()),
         _ => "not understood".to_string(alloc),
     }
 }
@@ -70,15 +68,7 @@ fn as_i8(alloc: Global, cells: &[i64]) -> Result<Option<Vec<i8>>, AllocError> {
 }
 
 /// What calls give on a layout of a table.
-fn carry_out(
-    alloc: Global,
-    table: &[&str],
-    calls: &[&str],
-    layout: Layout,
-) -> Result<String, AllocError> {
-    let Some(table) = parse_table(alloc, table, layout)? else {
-        return "no table".to_string(alloc);
-    };
+fn carry_out(alloc: Global, table: Table, calls: &[&str]) -> Result<String, AllocError> {
     match calls.split_first() {
         Some((first, rest)) => carry_out_on(alloc, table, first.trim(), rest, calls),
         None => read(alloc, &table, calls),
@@ -141,13 +131,18 @@ fn make(
     call: &str,
 ) -> Result<Option<String>, AllocError> {
     let words: Vec<&str> = call.split_whitespace().collect(alloc)?;
-    if let Some(text) = operators::answer(alloc, table, views, words.as_slice())? {
+    let asked = Asked {
+        table,
+        views,
+        words: words.as_slice(),
+    };
+    if let Some(text) = operators::answer(alloc, &asked)? {
         return Ok(Some(text));
     }
-    if let Some(text) = along::answer(alloc, table, views, words.as_slice())? {
+    if let Some(text) = along::answer(alloc, &asked)? {
         return Ok(Some(text));
     }
-    if let Some(text) = products::answer(alloc, table, views, words.as_slice())? {
+    if let Some(text) = products::answer(alloc, &asked)? {
         return Ok(Some(text));
     }
     joining::answer(alloc, table, views, call)

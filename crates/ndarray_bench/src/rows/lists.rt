@@ -2,19 +2,14 @@
 
 use crate::rows::calls::{Cells, Pieces};
 use crate::rows::reading::View;
-use crate::rows::stepping::{Ending, read_both_ends, step_with_clones};
+use crate::rows::stepping::{Ending, Stepped, read_both_ends, step_with_clones};
 use crate::rows::steps::Step;
 use ndarray::iter::ElementsBase;
 use ndarray::{ArrayView1, Axis, IxDyn, Lengths};
 use std::alloc::{AllocError, Global};
 
 /// What the steps of an iterator over cells give.
-pub fn cells(
-    alloc: Global,
-    view: &View<'_>,
-    call: Cells,
-    steps: &[Step],
-) -> Result<Ending, AllocError> {
+pub fn cells(alloc: Global, view: &View<'_>, call: Cells, steps: &[Step]) -> Stepped {
     match call {
         Cells::Iter => step_with_clones(alloc, view.iter(), steps),
         Cells::IndexedIter => step_with_clones(alloc, view.indexed_iter(), steps),
@@ -25,12 +20,7 @@ pub fn cells(
 }
 
 /// What the steps of an iterator over subviews give; `refused` where the test of the call says no.
-pub fn pieces(
-    alloc: Global,
-    view: &View<'_>,
-    pieces: &Pieces,
-    steps: &[Step],
-) -> Result<Ending, AllocError> {
+pub fn pieces(alloc: Global, view: &View<'_>, pieces: &Pieces, steps: &[Step]) -> Stepped {
     match pieces {
         Pieces::AxisIter(_) | Pieces::OuterIter | Pieces::AxisChunksIter(_, _) => {
             along_axis(alloc, view, pieces, steps)
@@ -43,12 +33,7 @@ pub fn pieces(
 }
 
 /// What the steps of an iterator over the items or the chunks along an axis give.
-fn along_axis(
-    alloc: Global,
-    view: &View<'_>,
-    pieces: &Pieces,
-    steps: &[Step],
-) -> Result<Ending, AllocError> {
+fn along_axis(alloc: Global, view: &View<'_>, pieces: &Pieces, steps: &[Step]) -> Stepped {
     match pieces {
         Pieces::AxisIter(axis) if view.axis_ok(*axis) => {
             read_both_ends(alloc, view.axis_iter(*axis), steps)
@@ -66,12 +51,7 @@ fn along_axis(
 }
 
 /// What the steps of an iterator over lanes or whole chunks give.
-fn lanes(
-    alloc: Global,
-    view: &View<'_>,
-    pieces: &Pieces,
-    steps: &[Step],
-) -> Result<Ending, AllocError> {
+fn lanes(alloc: Global, view: &View<'_>, pieces: &Pieces, steps: &[Step]) -> Stepped {
     match pieces {
         Pieces::Lanes(axis) if view.lanes_ok(*axis) => {
             step_with_clones(alloc, view.lanes(*axis).into_iter(), steps)
@@ -86,12 +66,7 @@ fn lanes(
 }
 
 /// What the steps of an iterator over windows give.
-fn windows(
-    alloc: Global,
-    view: &View<'_>,
-    pieces: &Pieces,
-    steps: &[Step],
-) -> Result<Ending, AllocError> {
+fn windows(alloc: Global, view: &View<'_>, pieces: &Pieces, steps: &[Step]) -> Stepped {
     match pieces {
         Pieces::Windows(window) if view.chunks_ok(window) => {
             step_with_clones(alloc, view.windows(window.copied()).into_iter(), steps)

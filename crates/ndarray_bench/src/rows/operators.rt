@@ -3,9 +3,8 @@
 ghost use Rattle.ndarray.specs.Broadcast.{BroadcastTogether};
 
 use crate::rows::answer::parse_table;
-use crate::rows::calls::ViewCall;
-use crate::rows::layouts::{LAYOUTS, Table};
-use crate::rows::reading::{apply_all, kind};
+use crate::rows::layouts::LAYOUTS;
+use crate::rows::reading::{Asked, kind};
 use crate::rows::spelling::cell;
 use crate::rows::text::push_lengths;
 use crate::rows::wrapping::{Wrapped, wrap_all};
@@ -20,17 +19,12 @@ pub type View<'a> = ArrayView<'a, Wrapped, IxDyn>;
 /// What an operator gives on a table, after calls that view it; `None` where the words spell no operator.
 ///
 /// It is carried out with each layout of the right table. Answers that differ are joined by `or`.
-pub fn answer(
-    alloc: Global,
-    table: &Table,
-    views: &[ViewCall],
-    words: &[&str],
-) -> Result<Option<String>, AllocError> {
-    let Some((name, arguments)) = words.split_first() else {
+pub fn answer(alloc: Global, asked: &Asked<'_>) -> Result<Option<String>, AllocError> {
+    let Some((name, arguments)) = asked.words.split_first() else {
         return Ok(None);
     };
     match Operator::by_name(*name) {
-        Some(operator) => compute(alloc, table, views, operator, arguments).map(Some),
+        Some(operator) => compute(alloc, asked, operator, arguments).map(Some),
         None => Ok(None),
     }
 }
@@ -119,18 +113,14 @@ impl Bits {
 /// What an operator gives on a table, after calls that view it, and the words of its right side.
 fn compute(
     alloc: Global,
-    table: &Table,
-    views: &[ViewCall],
+    asked: &Asked<'_>,
     operator: Operator,
     words: &[&str],
 ) -> Result<String, AllocError> {
-    let cells = wrap_all(alloc, table.cells.as_slice())?;
-    let view = match table.view_of(cells.as_slice()) {
+    let cells = wrap_all(alloc, asked.table.cells.as_slice())?;
+    let view = match asked.view_of(alloc, cells.as_slice())? {
         Ok(view) => view,
-        Err(error) => return kind(alloc, &error),
-    };
-    let Some(view) = apply_all(view, views) else {
-        return "refused".to_string(alloc);
+        Err(refusal) => return Ok(refusal),
     };
     match words {
         [] => of_each_cell(alloc, &view, operator),

@@ -1,10 +1,9 @@
 //! Products of a table with another, of residues modulo 2^32, so that no sum leaves the range.
 
 use crate::rows::answer::parse_table;
-use crate::rows::calls::ViewCall;
-use crate::rows::layouts::{LAYOUTS, Table};
+use crate::rows::layouts::LAYOUTS;
 use crate::rows::operators::push_text;
-use crate::rows::reading::{apply_all, kind};
+use crate::rows::reading::{Asked, kind};
 use crate::rows::text::push_lengths;
 use ndarray::linalg::{Dot, dot_ok, kron, kron_ok};
 use ndarray::{Array, ArrayView, Ix2, IxDyn, Lengths};
@@ -17,18 +16,10 @@ type View<'a> = ArrayView<'a, Residue<0>, IxDyn>;
 /// What a product gives on a table, after calls that view it; `None` where the words spell none.
 ///
 /// It is carried out with each layout of the right table. Answers that differ are joined by `or`.
-pub fn answer(
-    alloc: Global,
-    table: &Table,
-    views: &[ViewCall],
-    words: &[&str],
-) -> Result<Option<String>, AllocError> {
-    let Some((name, words)) = words.split_first() else {
-        return Ok(None);
-    };
-    match *name {
-        "dot" => compute(alloc, table, views, Product::Dot, words).map(Some),
-        "kron" => compute(alloc, table, views, Product::Kron, words).map(Some),
+pub fn answer(alloc: Global, asked: &Asked<'_>) -> Result<Option<String>, AllocError> {
+    match asked.words {
+        ["dot", words @ ..] => compute(alloc, asked, Product::Dot, words).map(Some),
+        ["kron", words @ ..] => compute(alloc, asked, Product::Kron, words).map(Some),
         _ => Ok(None),
     }
 }
@@ -52,54 +43,46 @@ fn residues(alloc: Global, numbers: &[i64]) -> Result<Vec<Residue<0>>, AllocErro
 /// What a product gives on a table, after calls that view it, and the words of its right side.
 fn compute(
     alloc: Global,
-    table: &Table,
-    views: &[ViewCall],
+    asked: &Asked<'_>,
     product: Product,
     words: &[&str],
 ) -> Result<String, AllocError> {
-    let cells = residues(alloc, table.cells.as_slice())?;
-    let view = match table.view_of(cells.as_slice()) {
-        Ok(view) => view,
-        Err(error) => return kind(alloc, &error),
-    };
-    match apply_all(view, views) {
-        Some(view) => with_tables(alloc, &view, product, words),
-        None => "refused".to_string(alloc),
+    let cells = residues(alloc, asked.table.cells.as_slice())?;
+    match asked.view_of(alloc, cells.as_slice())? {
+        Ok(view) => product.with(alloc, &view, words),
+        Err(refusal) => Ok(refusal),
     }
 }
 
-/// What a product gives with a table, which these words spell, in each layout of it.
-fn with_tables(
-    alloc: Global,
-    left: &View<'_>,
-    product: Product,
-    words: &[&str],
-) -> Result<String, AllocError> {
-    let mut text = String::new(alloc);
-    for layout in LAYOUTS {
-        let Some(table) = parse_table(alloc, words, *layout)? else {
-            return "not understood".to_string(alloc);
-        };
-        let cells = residues(alloc, table.cells.as_slice())?;
-        let answer = match table.view_of(cells.as_slice()) {
-            Ok(right) => between(alloc, left, product, &right)?,
-            Err(error) => kind(alloc, &error)?,
-        };
-        push_text(&mut text, answer.as_str())?;
+impl Product {
+    /// What it gives with a table, which these words spell, in each layout of it.
+    fn with(self, alloc: Global, left: &View<'_>, words: &[&str]) -> Result<String, AllocError> {
+        let mut text = String::new(alloc);
+        for layout in LAYOUTS {
+            let Some(table) = parse_table(alloc, words, *layout)? else {
+                return "not understood".to_string(alloc);
+            };
+            let cells = residues(alloc, table.cells.as_slice())?;
+            let answer = match table.view_of(cells.as_slice()) {
+                Ok(right) => self.between(alloc, left, &right)?,
+                Err(error) => kind(alloc, &error)?,
+            };
+            push_text(&mut text, answer.as_str())?;
+        }
+        Ok(text)
     }
-    Ok(text)
-}
 
-/// What a product gives between two tables; `refused` where its test says no.
-fn between(
-    alloc: Global,
-    left: &View<'_>,
-    product: Product,
-    right: &View<'_>,
-) -> Result<String, AllocError> {
-    match product {
-        Product::Dot => dot(alloc, left, right),
-        Product::Kron => kronecker(alloc, left, right),
+    /// What it gives between two tables; `refused` where its test says no.
+    fn between(
+        self,
+        alloc: Global,
+        left: &View<'_>,
+        right: &View<'_>,
+    ) -> Result<String, AllocError> {
+        match self {
+            Product::Dot => dot(alloc, left, right),
+            Product::Kron => kronecker(alloc, left, right),
+        }
     }
 }
 

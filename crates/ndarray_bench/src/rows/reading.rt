@@ -1,7 +1,8 @@
 //! Calls that read.
 
 use crate::rows::calls::{Cells, PartCall, Pieces, ViewCall};
-use crate::rows::stepping::Ending;
+use crate::rows::layouts::Table;
+use crate::rows::stepping::{Ending, Stepped};
 use crate::rows::steps::Step;
 use crate::rows::text::as_text;
 use crate::rows::{lists, spelling, values};
@@ -48,6 +49,33 @@ pub fn answer(alloc: Global, view: View<'_>, calls: &[&str]) -> Result<String, A
 /// The kind of an error of the library.
 pub fn kind(alloc: Global, error: &ShapeError) -> Result<String, AllocError> {
     format!(in alloc; "{:?}", error.kind())
+}
+
+/// A call that computes with a table: the table, the calls that view it before, and the words of this one.
+#[derive(Clone, Copy)]
+pub struct Asked<'a> {
+    pub table: &'a Table,
+    pub views: &'a [ViewCall],
+    pub words: &'a [&'a str],
+}
+
+impl Asked<'_> {
+    /// A view of cells that lie as those of the table, after the calls that view it; what the row says where there is none
+    /// is the error.
+    pub fn view_of<'c, A>(
+        &self,
+        alloc: Global,
+        cells: &'c [A],
+    ) -> Result<Result<ArrayView<'c, A, IxDyn>, String>, AllocError> {
+        let view = match self.table.view_of(cells) {
+            Ok(view) => view,
+            Err(error) => return Ok(Err(kind(alloc, &error)?)),
+        };
+        match apply_all(view, self.views) {
+            Some(view) => Ok(Ok(view)),
+            None => Ok(Err("refused".to_string(alloc)?)),
+        }
+    }
 }
 
 /// The next call of a row.
@@ -158,12 +186,7 @@ fn answer_last(
 }
 
 /// What the steps of a list give.
-fn step_through(
-    alloc: Global,
-    view: &View<'_>,
-    words: &[&str],
-    calls: &[&str],
-) -> Result<Ending, AllocError> {
+fn step_through(alloc: Global, view: &View<'_>, words: &[&str], calls: &[&str]) -> Stepped {
     let (Some((name, arguments)), Some(steps)) = (
         words.split_first(),
         Step::parse_all(alloc, calls)?,

@@ -20,6 +20,9 @@ pub enum Ending {
     Unknown,
 }
 
+/// How the steps of an iterator ended, or allocation failure.
+pub type Stepped = Result<Ending, AllocError>;
+
 impl Ending {
     /// The returns, or the word for why there are none.
     pub fn into_text(self, alloc: Global) -> Result<String, AllocError> {
@@ -146,7 +149,7 @@ impl Answers {
     }
 
     /// Carries out a step that takes all items.
-    fn last_step<I: Iterator>(self, items: I, step: Step) -> Result<Ending, AllocError>
+    fn last_step<I: Iterator>(self, items: I, step: Step) -> Stepped
     where
         I::Item: Item,
         requires can { I.can_next items }
@@ -174,11 +177,7 @@ impl Answers {
 }
 
 /// Carries out the steps of an iterator, each of which any iterator has.
-pub fn step_forward<I: Iterator>(
-    alloc: Global,
-    given: I,
-    steps: &[Step],
-) -> Result<Ending, AllocError>
+pub fn step_forward<I: Iterator>(alloc: Global, given: I, steps: &[Step]) -> Stepped
 where
     I::Item: Item,
     requires can { (it : I) → I.can_next it }
@@ -195,11 +194,7 @@ where
 }
 
 /// Carries out the steps of an iterator that has clones.
-pub fn step_with_clones<I: Iterator + Clone>(
-    alloc: Global,
-    given: I,
-    steps: &[Step],
-) -> Result<Ending, AllocError>
+pub fn step_with_clones<I: Iterator + Clone>(alloc: Global, given: I, steps: &[Step]) -> Stepped
 where
     I::Item: Item,
     requires can { (it : I) → I.can_next it }
@@ -230,11 +225,7 @@ pub trait BothEndsRead: BothEnds + Clone {
 }
 
 /// Carries out the steps of an iterator that goes from both ends, and is split.
-pub fn step_both_ends<I: BothEnds>(
-    alloc: Global,
-    given: I,
-    steps: &[Step],
-) -> Result<Ending, AllocError>
+pub fn step_both_ends<I: BothEnds>(alloc: Global, given: I, steps: &[Step]) -> Stepped
 where
     I::Item: Item,
     requires can { (it : I) → I.can_next it }
@@ -257,11 +248,7 @@ where
 }
 
 /// Carries out the steps of an iterator that goes from both ends and is split, whose items are read.
-pub fn read_both_ends<I: BothEndsRead>(
-    alloc: Global,
-    given: I,
-    steps: &[Step],
-) -> Result<Ending, AllocError>
+pub fn read_both_ends<I: BothEndsRead>(alloc: Global, given: I, steps: &[Step]) -> Stepped
 where
     I::Item: Item,
     requires can { (it : I) → I.can_next it }

@@ -1,7 +1,5 @@
 //! Calls that answer a number, a cell, or yes or no.
 
-ghost use Rattle.std.specs.Prelude.{◌<◌, length};
-
 use crate::rows::reading::View;
 use crate::rows::spelling::{index, numbers, shape, slice_of_axis, two_shapes};
 use crate::rows::text::{as_text, push_lengths, push_view};
@@ -78,9 +76,8 @@ fn along(
         "axis_ok" => view.axis_ok(axis).to_string(alloc).map(Some),
         "lanes_ok" => view.lanes_ok(axis).to_string(alloc).map(Some),
         "len_of" if view.axis_ok(axis) => view.len_of(axis).to_string(alloc).map(Some),
-        "sum_axis" if view.axis_ok(axis) => sum_axis(alloc, view, axis).map(Some),
-        "product_axis" if view.axis_ok(axis) => product_axis(alloc, view, axis).map(Some),
-        "sum_axis" | "product_axis" => "refused".to_string(alloc).map(Some),
+        "sum_axis" => sum_axis(alloc, view, axis).map(Some),
+        "product_axis" => product_axis(alloc, view, axis).map(Some),
         _ => Ok(None),
     }
 }
@@ -183,25 +180,19 @@ fn product(alloc: Global, view: &View<'_>) -> Result<String, AllocError> {
 }
 
 /// The sum of each lane; `refused` where a sum of some cells may be out of range.
-fn sum_axis(alloc: Global, view: &View<'_>, axis: Axis) -> Result<String, AllocError>
-    requires { axis.0 < length view.now.lengths }
-{
+fn sum_axis(alloc: Global, view: &View<'_>, axis: Axis) -> Result<String, AllocError> {
     let table = view.view();
-    if !table.sums_fit() {
+    if !table.axis_ok(axis) || !table.sums_fit() {
         return "refused".to_string(alloc);
     }
-    let sums = table.sum_axis(alloc, axis)?;
-    as_text(alloc, &sums.view())
+    as_text(alloc, &table.sum_axis(alloc, axis)?.view())
 }
 
 /// The product of each lane; `refused` where a product of some cells may be out of range.
-fn product_axis(alloc: Global, view: &View<'_>, axis: Axis) -> Result<String, AllocError>
-    requires { axis.0 < length view.now.lengths }
-{
+fn product_axis(alloc: Global, view: &View<'_>, axis: Axis) -> Result<String, AllocError> {
     let table = view.view();
-    if !table.products_fit() {
+    if !table.axis_ok(axis) || !table.products_fit() {
         return "refused".to_string(alloc);
     }
-    let products = table.product_axis(alloc, axis)?;
-    as_text(alloc, &products.view())
+    as_text(alloc, &table.product_axis(alloc, axis)?.view())
 }

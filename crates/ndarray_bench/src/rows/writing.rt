@@ -4,7 +4,7 @@ use crate::rows::calls::{CellsMut, PartCall, Pieces, ViewCall, WriteCall};
 use crate::rows::items::fill;
 use crate::rows::layouts::{HIDDEN, Layout, Table, cut};
 use crate::rows::reading::{View, apply_all, kind};
-use crate::rows::stepping::{Ending, step_both_ends, step_forward};
+use crate::rows::stepping::{Ending, Stepped, step_both_ends, step_forward};
 use crate::rows::steps::Step;
 use crate::rows::text::push_view;
 use crate::rows::updating::update;
@@ -167,7 +167,7 @@ fn count_hidden(array: &View<'_>) -> usize {
 }
 
 /// Carries out calls on a view, or on the part of it that the first of them borrows.
-fn write_part(alloc: Global, given: ViewMut<'_>, calls: Calls) -> Result<Ending, AllocError> {
+fn write_part(alloc: Global, given: ViewMut<'_>, calls: Calls) -> Stepped {
     let mut view = given;
     match calls.part {
         Some(part) => match part_of(&mut view, part) {
@@ -207,7 +207,7 @@ fn item_of<'b>(view: &'b mut ViewMut<'_>, axis: Axis, index: usize) -> Option<Vi
 }
 
 /// Makes the views that the calls name, one of another, and writes to the last.
-fn view_written(alloc: Global, view: ViewMut<'_>, calls: Calls) -> Result<Ending, AllocError> {
+fn view_written(alloc: Global, view: ViewMut<'_>, calls: Calls) -> Stepped {
     match apply_all(view, calls.views.as_slice()) {
         Some(view) => last_written(alloc, view, calls.last, calls.steps.as_slice()),
         None => Ok(Ending::Refused),
@@ -215,12 +215,7 @@ fn view_written(alloc: Global, view: ViewMut<'_>, calls: Calls) -> Result<Ending
 }
 
 /// Writes to the items of a call, which may take the view itself.
-fn last_written(
-    alloc: Global,
-    given: ViewMut<'_>,
-    call: WriteCall,
-    steps: &[Step],
-) -> Result<Ending, AllocError> {
+fn last_written(alloc: Global, given: ViewMut<'_>, call: WriteCall, steps: &[Step]) -> Stepped {
     match call {
         WriteCall::IntoIter => step_forward(alloc, given.into_iter(), steps),
         WriteCall::ElementsBaseMut => step_forward(alloc, ElementsBaseMut::new(given), steps),
@@ -237,7 +232,7 @@ pub fn write_call(
     view: &mut ViewMut<'_>,
     call: WriteCall,
     steps: &[Step],
-) -> Result<Ending, AllocError> {
+) -> Stepped {
     match call {
         WriteCall::GetMut(at, value) => set(alloc, view, at, value),
         WriteCall::SplitAt(axis, index) => Ok(write_both(alloc, view.view_mut(), axis, index)),
@@ -249,12 +244,7 @@ pub fn write_call(
 }
 
 /// Writes to each cell of an iterator over cells.
-fn write_cells(
-    alloc: Global,
-    view: &mut ViewMut<'_>,
-    call: CellsMut,
-    steps: &[Step],
-) -> Result<Ending, AllocError> {
+fn write_cells(alloc: Global, view: &mut ViewMut<'_>, call: CellsMut, steps: &[Step]) -> Stepped {
     match call {
         CellsMut::IterMut => step_forward(alloc, view.iter_mut(), steps),
         CellsMut::IndexedIterMut => step_forward(alloc, view.indexed_iter_mut(), steps),
@@ -263,11 +253,7 @@ fn write_cells(
 }
 
 /// Writes to the items of an iterator that is made of a reference to a view.
-fn by_reference(
-    alloc: Global,
-    view: &mut ViewMut<'_>,
-    steps: &[Step],
-) -> Result<Ending, AllocError> {
+fn by_reference(alloc: Global, view: &mut ViewMut<'_>, steps: &[Step]) -> Stepped {
     step_forward(alloc, view.into_iter(), steps)
 }
 
@@ -277,7 +263,7 @@ pub fn set<S: DataMut<Elem = i64>>(
     array: &mut ArrayBase<S, IxDyn>,
     index: IxDyn,
     value: i64,
-) -> Result<Ending, AllocError> {
+) -> Stepped {
     match array.get_mut(index) {
         Some(cell) => {
             *cell = value;
@@ -299,12 +285,7 @@ fn write_both(alloc: Global, view: ViewMut<'_>, axis: Axis, index: usize) -> End
 }
 
 /// Writes to the subviews of a call.
-fn write_pieces(
-    alloc: Global,
-    view: &mut ViewMut<'_>,
-    pieces: Pieces,
-    steps: &[Step],
-) -> Result<Ending, AllocError> {
+fn write_pieces(alloc: Global, view: &mut ViewMut<'_>, pieces: Pieces, steps: &[Step]) -> Stepped {
     match pieces {
         Pieces::AxisIter(axis) => write_items(alloc, view, axis, steps),
         Pieces::OuterIter => write_outer_items(alloc, view, steps),
@@ -318,12 +299,7 @@ fn write_pieces(
 }
 
 /// Writes to the items along an axis.
-fn write_items(
-    alloc: Global,
-    view: &mut ViewMut<'_>,
-    axis: Axis,
-    steps: &[Step],
-) -> Result<Ending, AllocError> {
+fn write_items(alloc: Global, view: &mut ViewMut<'_>, axis: Axis, steps: &[Step]) -> Stepped {
     if !view.axis_ok(axis) {
         return Ok(Ending::Refused);
     }
@@ -331,11 +307,7 @@ fn write_items(
 }
 
 /// Writes to the items along the first axis.
-fn write_outer_items(
-    alloc: Global,
-    view: &mut ViewMut<'_>,
-    steps: &[Step],
-) -> Result<Ending, AllocError> {
+fn write_outer_items(alloc: Global, view: &mut ViewMut<'_>, steps: &[Step]) -> Stepped {
     if !view.axis_ok(Axis(0)) {
         return Ok(Ending::Refused);
     }
@@ -349,7 +321,7 @@ fn write_chunks(
     axis: Axis,
     size: usize,
     steps: &[Step],
-) -> Result<Ending, AllocError> {
+) -> Stepped {
     if !view.chunk_ok(axis, size) {
         return Ok(Ending::Refused);
     }
@@ -357,12 +329,7 @@ fn write_chunks(
 }
 
 /// Writes to the lanes along an axis.
-fn write_lanes(
-    alloc: Global,
-    view: &mut ViewMut<'_>,
-    axis: Axis,
-    steps: &[Step],
-) -> Result<Ending, AllocError> {
+fn write_lanes(alloc: Global, view: &mut ViewMut<'_>, axis: Axis, steps: &[Step]) -> Stepped {
     if !view.lanes_ok(axis) {
         return Ok(Ending::Refused);
     }
@@ -375,7 +342,7 @@ fn write_exact_chunks(
     view: &mut ViewMut<'_>,
     chunk: IxDyn,
     steps: &[Step],
-) -> Result<Ending, AllocError> {
+) -> Stepped {
     if !view.chunks_ok(&chunk) {
         return Ok(Ending::Refused);
     }

@@ -1,11 +1,10 @@
-use Rattle.std.proofs.Common.{rules, ◌≡◌, ◌∙◌, ◌-ℤ◌, arith, pos, subst, sym}
+use Rattle.std.proofs.Common.{rules, ◌≡◌, ◌∙◌, arith, subst, sym}
 use Rattle.ndarray.specs.Index.{size}
-use Rattle.ndarray.specs.Laws.{ArePartsOf}
 use Rattle.ndarray.specs.Limits.{IsWithinLimit}
-use Rattle.ndarray.specs.Triangles.{lower_triangle, upper_triangle}
 use Rattle.ndarray.proofs.algebra.Totals.{op_unit}
 use Rattle.ndarray.proofs.callers.Collecting.{if_ok-both}
 use Rattle.ndarray.proofs.callers.Elementwise.{can-combine, lengths-same}
+use Rattle.ndarray_bench.proofs.MadeTriangles.{parts-made}
 use Rattle.ndarray.proofs.callers.TriangleParts.{parts-combine, parts-same}
 use Rattle.residue.specs.Residue.{modulus_pos, residue_sums}
 use Rattle.ndarray_bench.proofs.callers.laws.sum_of_triangles.Goals as goal
@@ -15,11 +14,7 @@ add-requires g c =
     let m = c.args.matrix.now in
     let zero = (residue_sums 5 (modulus_pos 5)).unit in
     let two = c.raw_dim-lengths.ensures.axes in
-    let upper : c.in_ok-upper.upper ≡ upper_triangle c.args.k zero m = search rules in
-    let lower : c.in_ok-lower.lower ≡ lower_triangle (c.args.k -ℤ pos 1) zero m = search rules in
-    let parts : ArePartsOf zero m c.in_ok-upper.upper c.in_ok-lower.lower =
-    subst (λ u. ArePartsOf zero m u c.in_ok-lower.lower) (sym upper)
-    (subst (λ l. ArePartsOf zero m (upper_triangle c.args.k zero m) l) (sym lower) (c.triangles_part.ensures.cells c.args.k zero m c.raw_dim-lengths.ensures.whole (omega (arith, two)))) in
+    let parts = parts-made zero c.args.k m c.in_ok-upper.upper c.in_ok-lower.lower (search rules) (search rules) (c.triangles_part.ensures.cells c.args.k zero m c.raw_dim-lengths.ensures.whole (omega (arith, two))) in
     let limit : IsWithinLimit c.in_ok-upper.upper.lengths = subst IsWithinLimit (sym parts.upper_lengths) c.raw_dim-lengths.ensures.limit in (
       can-combine _ _ parts.upper_whole parts.lower_whole (parts-same zero m _ _ parts) _ limit (λ is x y p q. tt),
       λ x y e. e,
@@ -31,11 +26,7 @@ returns-clause-same g c =
     let m = c.args.matrix.now in
     let zero = (residue_sums 5 (modulus_pos 5)).unit in
     let two = c.raw_dim-lengths.ensures.axes in
-    let upper : c.in_ok-upper.upper ≡ upper_triangle c.args.k zero m = search rules in
-    let lower : c.in_ok-lower.lower ≡ lower_triangle (c.args.k -ℤ pos 1) zero m = search rules in
-    let parts : ArePartsOf zero m c.in_ok-upper.upper c.in_ok-lower.lower =
-    subst (λ u. ArePartsOf zero m u c.in_ok-lower.lower) (sym upper)
-    (subst (λ l. ArePartsOf zero m (upper_triangle c.args.k zero m) l) (sym lower) (c.triangles_part.ensures.cells c.args.k zero m c.raw_dim-lengths.ensures.whole (omega (arith, two)))) in
+    let parts = parts-made zero c.args.k m c.in_ok-upper.upper c.in_ok-lower.lower (search rules) (search rules) (c.triangles_part.ensures.cells c.args.k zero m c.raw_dim-lengths.ensures.whole (omega (arith, two))) in
     if_ok-both c.add.result _ _ _
     (λ r made again.
     parts-combine zero m c.in_ok-upper.upper c.in_ok-lower.lower parts c.raw_dim-lengths.ensures.whole (λ x y z. z ≡ (residue_sums 5 (modulus_pos 5)).op x y)
@@ -47,9 +38,5 @@ returns-clause-empty g c none =
     let m = c.args.matrix.now in
     let zero = (residue_sums 5 (modulus_pos 5)).unit in
     let two = c.raw_dim-lengths.ensures.axes in
-    let upper : c.in_ok-upper.upper ≡ upper_triangle c.args.k zero m = search rules in
-    let lower : c.in_ok-lower.lower ≡ lower_triangle (c.args.k -ℤ pos 1) zero m = search rules in
-    let parts : ArePartsOf zero m c.in_ok-upper.upper c.in_ok-lower.lower =
-    subst (λ u. ArePartsOf zero m u c.in_ok-lower.lower) (sym upper)
-    (subst (λ l. ArePartsOf zero m (upper_triangle c.args.k zero m) l) (sym lower) (c.triangles_part.ensures.cells c.args.k zero m c.raw_dim-lengths.ensures.whole (omega (arith, two)))) in
+    let parts = parts-made zero c.args.k m c.in_ok-upper.upper c.in_ok-lower.lower (search rules) (search rules) (c.triangles_part.ensures.cells c.args.k zero m c.raw_dim-lengths.ensures.whole (omega (arith, two))) in
     c.add.ensures.empty (subst (λ ns. size ns ≡ 0) (sym (lengths-same _ _ parts.upper_whole parts.lower_whole (parts-same zero m _ _ parts) ∙ parts.upper_lengths)) none)

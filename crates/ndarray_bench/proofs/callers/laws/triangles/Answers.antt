@@ -3,18 +3,15 @@ use Rattle.ndarray.specs.Integers.{int_sums}
 use Rattle.ndarray.specs.Laws.{ArePartsOf}
 use Rattle.ndarray.specs.Sums.{total}
 use Rattle.ndarray.specs.Triangles.{lower_triangle, upper_triangle}
+use Rattle.ndarray_bench.proofs.MadeTriangles.{parts-made}
 use Rattle.ndarray_bench.proofs.callers.laws.triangles.Goals as goal
 
 pub returns-clause-parts : goal.returns-clause-parts
 returns-clause-parts g c =
     let v = c.view-array.result in
-    let upper : c.in_ok-upper.upper ≡ upper_triangle c.args.k (pos 0) v = search rules in
-    let lower : c.in_ok-lower.lower ≡ lower_triangle (c.args.k -ℤ pos 1) (pos 0) v = search rules in
     let axes : 2 ≤ length v.lengths = subst (λ w. 2 ≤ length w.lengths) (sym c.view-array.ensures.same) c.requires.axes in
     subst (λ w. ArePartsOf (pos 0) w c.in_ok-upper.upper c.in_ok-lower.lower) c.view-array.ensures.same
-    (subst (λ u. ArePartsOf (pos 0) v u c.in_ok-lower.lower) (sym upper)
-    (subst (λ l. ArePartsOf (pos 0) v (upper_triangle c.args.k (pos 0) v) l) (sym lower)
-    (c.triangles_part.ensures.cells c.args.k (pos 0) v c.view-array.ensures.whole axes)))
+    (parts-made (pos 0) c.args.k v c.in_ok-upper.upper c.in_ok-lower.lower (search rules) (search rules) (c.triangles_part.ensures.cells c.args.k (pos 0) v c.view-array.ensures.whole axes))
 
 pub returns-clause-totals : goal.returns-clause-totals
 returns-clause-totals g c =

@@ -10,8 +10,7 @@ unrolled_fold-requires-clause-parts g c =
     (λ a b p. let k = g.met.A.SumElem.add_in_range a b p in search rules)
     (λ a b p. let k = g.met.A.SumElem.add_answers a b p in let m = k.1 in (k.0, search rules))
     (λ a b r p k. g.met.A.SumElem.add_meaning a b r p (search rules))
-    g.met.A.Valued.same_meaning
-    c.args.xs.now c.requires
+    g.met.A.Valued.same_meaning c.args.xs.now c.requires
 
 pub returns : goal.returns
 returns g c =

@@ -1,4 +1,4 @@
-use Rattle.std.proofs.Common.{ap, arith, length, refl}
+use Rattle.std.proofs.Common.{refl}
 use Rattle.std.specs.Prelude.{FitsSigned}
 use Rattle.std.specs.Int.{w64}
 use Rattle.ndarray.specs.Integers.{int_sums}
@@ -7,6 +7,4 @@ use Rattle.ndarray_bench.proofs.rows.values.sum_axis.Goals as goal
 
 pub sum_axis-requires-clause-lanes : goal.sum_axis-requires-clause-lanes
 sum_axis-requires-clause-lanes c =
-    let same = ap (λ v. length v.lengths) c.view-table.ensures.same in
-    let axis = c.requires in
-    lanes-summable c.view-table.result c.view-table.ensures.whole c.args.axis.0 (omega (arith, same, axis)) int_sums (FitsSigned w64) (λ x. x) (c.if-not-sums_fit.ensures.selections.0 refl)
+    lanes-summable c.view-table.result c.view-table.ensures.whole c.args.axis.0 (c.if-not-axis_ok.ensures.0 refl) int_sums (FitsSigned w64) (λ x. x) (c.if-not-sums_fit.ensures.selections.0 refl)
