@@ -24,6 +24,7 @@ pub(crate) fn inner<A: LinalgScalar>(x: &ArrayView<'_, A, Ix1>, y: &ArrayView<'_
 }
 
 /// The same of two lists of cells.
+#[inline(always)]
 pub(crate) fn inner_of<A: LinalgScalar>(left: Strided<'_, A>, right: Strided<'_, A>) -> A
     requires same { length left ≡ length right }
     requires sums { IsSummable A.addition A.InRange (products_of A.multiplication A.meaning left right) }
