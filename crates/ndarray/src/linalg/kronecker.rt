@@ -139,7 +139,11 @@ fn push_multiples<A: LinalgScalar>(
 {
     match cells.side_by_side() {
         Some(slice) => push_slice(products, factor, slice),
-        None => push_steps(products, factor, cells),
+        None => {
+            for cell in cells {
+                products.push(multiply(factor, *cell));
+            }
+        }
     }
 }
 
@@ -148,21 +152,6 @@ fn push_slice<A: LinalgScalar>(products: &mut ArrayBuilder<A, Ix2>, factor: A, c
     requires can { All (CanMultiply A.Valued factor) cells.now }
     requires room { length products.old.cells + length cells.now ≤ size products.old.lengths }
     ensures { PushesValues A.meaning (multiples A.Valued factor cells.now) products.old products.new }
-{
-    for cell in cells {
-        products.push(multiply(factor, *cell));
-    }
-}
-
-/// The same of cells that lie a step apart.
-fn push_steps<A: LinalgScalar>(
-    products: &mut ArrayBuilder<A, Ix2>,
-    factor: A,
-    cells: Strided<'_, A>,
-)
-    requires can { All (CanMultiply A.Valued factor) cells }
-    requires room { length products.old.cells + length cells ≤ size products.old.lengths }
-    ensures { PushesValues A.meaning (multiples A.Valued factor cells.entry) products.old products.new }
 {
     for cell in cells {
         products.push(multiply(factor, *cell));

@@ -4,7 +4,7 @@ use Rattle.std.proofs.lemmas.List.Elements.{All-head, All-tail}
 use Rattle.ndarray.specs.BlockRows.{CanMultiply}
 use Rattle.ndarray.specs.Index.{size}
 use Rattle.ndarray.proofs.lists.Pushes.{one-pushed, one-room}
-use Rattle.ndarray.proofs.linalg.kronecker.push_steps.Goals as goal
+use Rattle.ndarray.proofs.linalg.kronecker.push_multiples.Goals as goal
 
 pub multiply-requires : goal.multiply-requires
 multiply-requires g c =

@@ -1,7 +1,7 @@
 -- The products so far, with those to come, are the whole.
 use Rattle.std.proofs.Common.{◌≡◌, ◌++◌, All, map}
 use Rattle.ndarray.specs.BlockRows.{CanMultiply, multiples}
-use Rattle.ndarray.proofs.linalg.kronecker.push_steps.Given as goal
+use Rattle.ndarray.proofs.linalg.kronecker.push_multiples.Given as goal
 
 abbrev pub invariant-loop-cell : goal.invariant-loop-cell
 invariant-loop-cell g l = record {
