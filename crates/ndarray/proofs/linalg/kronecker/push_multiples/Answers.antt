@@ -9,14 +9,14 @@ use Rattle.ndarray.proofs.linalg.kronecker.push_multiples.Goals as goal
 pub multiply-requires : goal.multiply-requires
 multiply-requires g c =
     let can = CanMultiply g.A.Valued c.args.factor in
-    (c.type_bounds.static-A, All-head can c.in-Some.cell.now c.next.new.self (subst (All can) c.in-Some.ensures.steps c.loop-cell.invariant.can))
+    (c.type_bounds.static-A, All-head can c.in-Some-cell.cell.now c.next.new.self (subst (All can) c.in-Some-cell.ensures.steps c.loop-cell.invariant.can))
 
 pub push-requires : goal.push-requires
 push-requires g c =
     let value = g.A.Valued.meaning in
     let f : g.row.A.Denot → g.A.Valued.Carrier = λ y. g.A.Valued.multiplication.op (value c.args.factor) (value y) in
     let i = c.loop-cell.invariant in
-    let room = one-room value (map value c.args.products.now.cells ++ map f c.args.cells) c.loop-cell.products.cells c.loop-cell.cell-iterator c.next.new.self c.in-Some.cell.now c.in-Some.ensures.steps f i.values in
+    let room = one-room value (map value c.args.products.now.cells ++ map f c.args.cells) c.loop-cell.products.cells c.loop-cell.cell-iterator c.next.new.self c.in-Some-cell.cell.now c.in-Some-cell.ensures.steps f i.values in
     let both = length-append (map value c.args.products.now.cells) (map f c.args.cells) in
     let old = length-map c.args.products.now.cells value in
     let more = length-map c.args.cells f in
@@ -34,6 +34,6 @@ loop-cell-preserved g c =
       order = ap (λ p. p.order) c.push.ensures ∙ i.order;
       values =
           ap (λ p. map value p.cells ++ map f c.next.new.self) c.push.ensures
-          ∙ one-pushed value (map value c.args.products.now.cells ++ map f c.args.cells) c.loop-cell.products.cells c.loop-cell.cell-iterator c.next.new.self c.in-Some.cell.now c.in-Some.ensures.steps f i.values c.multiply.result c.multiply.ensures;
-      can = All-tail can c.in-Some.cell.now c.next.new.self (subst (All can) c.in-Some.ensures.steps i.can);
+          ∙ one-pushed value (map value c.args.products.now.cells ++ map f c.args.cells) c.loop-cell.products.cells c.loop-cell.cell-iterator c.next.new.self c.in-Some-cell.cell.now c.in-Some-cell.ensures.steps f i.values c.multiply.result c.multiply.ensures;
+      can = All-tail can c.in-Some-cell.cell.now c.next.new.self (subst (All can) c.in-Some-cell.ensures.steps i.can);
     }
