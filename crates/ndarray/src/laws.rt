@@ -150,7 +150,7 @@ pub fn conv_assoc<A: LinalgScalar>()
 {}
 
 /// Along one axis, a valid convolution is the middle part of the full one; and two filters one after another are one with the full
-/// convolution of their kernels, of lists and of arrays.
+/// convolution of their kernels, of lists and of arrays. The law asks that each kernel has a cell.
 ///
 /// ```
 /// conv_filters::<i64>(); // then the law holds of `i64` in the proof of the caller
