@@ -1,2 +1,3 @@
--- Where a walk is in its box.
+-- The rows of a box, and where a walk is in it.
+pub mod Rows
 pub mod Walks

@@ -11,7 +11,7 @@ ghost use Rattle.ndarray.specs.Integers.{int_products, int_sums};
 ghost use Rattle.ndarray.specs.Products.{MakesValues, magnitude_sum, products_of};
 ghost use Rattle.ndarray.specs.Subviews.{ArePositive};
 ghost use Rattle.ndarray.specs.Sums.{IsSummable, total};
-ghost use Rattle.ndarray.specs.WindowSums.{CanSumWindows, window_sum};
+ghost use Rattle.ndarray.specs.conv.WindowSums.{CanSumWindows, window_sum};
 
 mod rows;
 

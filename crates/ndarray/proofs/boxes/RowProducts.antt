@@ -5,7 +5,7 @@ use Rattle.ndarray.specs.Algebra.{CommutativeMonoid}
 use Rattle.ndarray.specs.Grid.{Grid, HasCells, IsGrid, cell}
 use Rattle.ndarray.specs.Index.{row_order}
 use Rattle.ndarray.specs.Products.{products_of}
-use Rattle.ndarray.specs.Rows.{HasRows, joined, rows_in}
+use Rattle.ndarray.specs.order.Rows.{HasRows, joined, rows_in}
 use Rattle.ndarray.specs.declared.base.shape.Order.TheVariants.{RowMajor}
 use Rattle.ndarray.proofs.boxes.Rows.{rows-joined}
 use Rattle.ndarray.proofs.cells.Cells.{along-row_order, length-along}

@@ -11,7 +11,7 @@ use Rattle.std.proofs.Math.Nat.{mul-le-mul_left}
 use Rattle.ndarray.specs.Index.{InBox, row_order, column_order}
 use Rattle.ndarray.specs.Limits.{nonzero_size}
 use Rattle.ndarray.specs.Orders.{box_in}
-use Rattle.ndarray.specs.Rows.{fast_axis, row_size, first_lengths, rows_in, one_if_some, joined}
+use Rattle.ndarray.specs.order.Rows.{fast_axis, row_size, first_lengths, rows_in, one_if_some, joined}
 use Rattle.ndarray.specs.base.Ranks.{row_from}
 use Rattle.ndarray.specs.declared.base.shape.Order.{Order}
 use Rattle.ndarray.specs.declared.base.shape.Order.TheVariants.{RowMajor, ColumnMajor}

@@ -2,7 +2,7 @@
 use Rattle.std.proofs.Common.{◌≡◌, ◌∙◌, List, [], ◌∷◌, ◌++◌, Option, ap, filter_map, map, refl, sym}
 use Rattle.std.proofs.lemmas.List.Elements.{filter_map-append}
 use Rattle.ndarray.specs.Grid.{Grid, IsGrid, cell}
-use Rattle.ndarray.specs.Rows.{joined, rows_in}
+use Rattle.ndarray.specs.order.Rows.{joined, rows_in}
 use Rattle.ndarray.specs.declared.base.shape.Order.TheVariants.{RowMajor}
 use Rattle.ndarray.proofs.boxes.Rows.{rows-joined}
 use Rattle.ndarray.proofs.cells.Cells.{along-row_order}

@@ -4,7 +4,7 @@ use Rattle.ndarray.specs.Grid.{Grid, IsGrid, cell}
 use Rattle.ndarray.specs.Index.{InBox}
 use Rattle.ndarray.specs.Matrices.{IsSameMatrix, Matrix}
 use Rattle.ndarray.specs.Products.{HasSumsInRange, matrix_of, product_of, row_of, value_or}
-use Rattle.ndarray.specs.RowSums.{CanSumRow}
+use Rattle.ndarray.specs.linalg.RowSums.{CanSumRow}
 use Rattle.ndarray.specs.Views.{axis_part}
 use Rattle.ndarray.specs.declared.elements.Valued.{Ghosts as ValuedGhosts}
 use Rattle.ndarray.proofs.callers.SameMatrices.{product-same, same-self, sums-same}

@@ -3,9 +3,9 @@ use Rattle.std.proofs.Common.{◌≡◌, ◌∙◌, ◌-◌, ◌<◌, ℕ, List,
 use Rattle.ndarray.specs.Grid.{Grid, IsGrid}
 use Rattle.ndarray.specs.Index.{InBox}
 use Rattle.ndarray.specs.Matrices.{IsSameMatrix, Matrix, transpose}
-use Rattle.ndarray.specs.ProductTiles.{entries_along, other_index, row_along}
+use Rattle.ndarray.specs.linalg.ProductTiles.{entries_along, other_index, row_along}
 use Rattle.ndarray.specs.Products.{HasSumsInRange, ShapesMultiplyInto, column_entries, column_of, matrix_entries, matrix_of, product_of, row_of}
-use Rattle.ndarray.specs.RowSums.{CanSumRow}
+use Rattle.ndarray.specs.linalg.RowSums.{CanSumRow}
 use Rattle.ndarray.specs.Views.{transpose_of}
 use Rattle.ndarray.specs.declared.elements.Valued.{Ghosts as ValuedGhosts}
 use Rattle.ndarray.proofs.boxes.ProductShapes.{inner-two, lengths-two_one, lengths-two_two}

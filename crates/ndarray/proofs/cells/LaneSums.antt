@@ -5,7 +5,7 @@ use Rattle.std.proofs.lemmas.Bool.{cases_eq}
 use Rattle.std.proofs.lemmas.List.Edits.{length-remove}
 use Rattle.ndarray.specs.Grid.{Grid, IsGrid}
 use Rattle.ndarray.specs.Index.{InBox, row_order}
-use Rattle.ndarray.specs.LaneSums.{CanSumLanes, lane_sum}
+use Rattle.ndarray.specs.linalg.LaneSums.{CanSumLanes, lane_sum}
 use Rattle.ndarray.specs.Products.{HasLaneSumsInRange, ShapesMultiply, dot_entries, product_lengths}
 use Rattle.ndarray.specs.Subviews.{lane}
 use Rattle.ndarray.specs.declared.elements.Valued.{Ghosts as ValuedGhosts}

@@ -8,7 +8,7 @@ use Rattle.ndarray.specs.Grid.{Grid, IsGrid, cell}
 use Rattle.ndarray.specs.Index.{InBox}
 use Rattle.ndarray.specs.Matrices.{values_below}
 use Rattle.ndarray.specs.Products.{Accumulates, AddsScaled, CanAccumulate, CanAddScaled, value_or}
-use Rattle.ndarray.specs.ProductTiles.{AccumulatesIn, CanAccumulateIn, InRun, InTile, list_along, other_index}
+use Rattle.ndarray.specs.linalg.ProductTiles.{AccumulatesIn, CanAccumulateIn, InRun, InTile, list_along, other_index}
 use Rattle.ndarray.specs.Writes.{with_cell}
 use Rattle.ndarray.specs.declared.elements.Valued.{Ghosts as ValuedGhosts}
 use Rattle.ndarray.proofs.cells.Cells.{cell-inside}

@@ -1,7 +1,7 @@
 -- Arrays that have the values of products.
 use Rattle.std.proofs.Common.{◌≡◌, ◌∙◌, ℕ, zero, suc, ◌<◌, get_or, List, [], ◌∷◌, Some, ap, arith, map, subst, sym}
 use Rattle.std.specs.Prelude.{Result, IfOk, IsOk, slice_get}
-use Rattle.ndarray.specs.Entries.{HasEntries}
+use Rattle.ndarray.specs.linalg.Entries.{HasEntries}
 use Rattle.ndarray.specs.Grid.{Grid, IsGrid}
 use Rattle.ndarray.specs.Index.{row_order, size}
 use Rattle.ndarray.specs.Matrices.{Matrix}

@@ -12,7 +12,7 @@ use Rattle.ndarray.specs.Grid.{Grid, IsGrid, cell}
 use Rattle.ndarray.specs.Index.{InBox, row_order, size}
 use Rattle.ndarray.specs.Matrices.{IsSameMatrix, Matrix, inner_products, transpose, values_below}
 use Rattle.ndarray.specs.Products.{HasSumsInRange, HasValues, MakesColumn, MakesRow, ShapesMultiply, column_entries, column_of, matrix_entries, matrix_of, product_of, products_of, row_entries, row_of, value_at, value_or}
-use Rattle.ndarray.specs.RowSums.{AddsScaledRow, AddsTwoRows, CanAddScaledRow, CanAddTwoRows, CanSumRow, row_sums, row_sums_to}
+use Rattle.ndarray.specs.linalg.RowSums.{AddsScaledRow, AddsTwoRows, CanAddScaledRow, CanAddTwoRows, CanSumRow, row_sums, row_sums_to}
 use Rattle.ndarray.specs.Sums.{IsSummable, total}
 use Rattle.ndarray.specs.Views.{axis_item, transpose_of}
 use Rattle.ndarray.specs.declared.elements.Valued.{Ghosts as ValuedGhosts}

@@ -7,7 +7,7 @@ use Rattle.std.proofs.lemmas.List.Elements.{All-append, All-contains, All-map, A
 use Rattle.ndarray.specs.Grid.{Grid, IsGrid}
 use Rattle.ndarray.specs.Index.{InBox}
 use Rattle.ndarray.specs.Orders.{box_in}
-use Rattle.ndarray.specs.Rows.{joined, rows_in}
+use Rattle.ndarray.specs.order.Rows.{joined, rows_in}
 use Rattle.ndarray.specs.Scans.{MayScan, MayScanLanes, ScansLanes, ScansTo}
 use Rattle.ndarray.specs.Subviews.{lane}
 use Rattle.ndarray.specs.base.LaneScans.{AreOnLanes, MayScanEach, ScansEach, lanes_at}

@@ -7,7 +7,7 @@ use Rattle.ndarray.specs.Algebra.{CommutativeMonoid}
 use Rattle.ndarray.specs.Grid.{Grid, IsGrid, cell}
 use Rattle.ndarray.specs.Index.{InBox}
 use Rattle.ndarray.specs.Products.{products_of}
-use Rattle.ndarray.specs.Rows.{joined, rows_in}
+use Rattle.ndarray.specs.order.Rows.{joined, rows_in}
 use Rattle.ndarray.specs.Sums.{IsSummable, total}
 use Rattle.ndarray.specs.base.Ranks.{row_from}
 use Rattle.ndarray.specs.declared.base.shape.Order.TheVariants.{RowMajor}

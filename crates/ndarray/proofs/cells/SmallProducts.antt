@@ -4,7 +4,7 @@ use Rattle.std.specs.Prelude.{ℤ, pos, negsuc, neg_ℤ, ◌≤ℤ◌, unsigned_
 use Rattle.ndarray.specs.Grid.{Grid, IsGrid, cell}
 use Rattle.ndarray.specs.Matrices.{Matrix}
 use Rattle.ndarray.specs.Products.{value_at, value_or}
-use Rattle.ndarray.specs.SmallProducts.{AreUpTo, HaveSmallProducts}
+use Rattle.ndarray.specs.reduce.SmallProducts.{AreUpTo, HaveSmallProducts}
 use Rattle.ndarray.specs.WholeValues.{whole_numbers}
 use Rattle.ndarray.proofs.callers.EachCell.{at-each-cell}
 use Rattle.ndarray.proofs.cells.EntryTests.{EntriesFit}

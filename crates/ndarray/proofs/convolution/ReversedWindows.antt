@@ -11,7 +11,7 @@ use Rattle.ndarray.specs.Products.{HasValues, value_at, value_or}
 use Rattle.ndarray.specs.Subviews.{window_count}
 use Rattle.ndarray.specs.Sums.{IsSummable}
 use Rattle.ndarray.specs.Views.{transpose_of}
-use Rattle.ndarray.specs.WindowSums.{CanSumWindows, window_sum}
+use Rattle.ndarray.specs.conv.WindowSums.{CanSumWindows, window_sum}
 use Rattle.ndarray.specs.base.IndexLists.{shifted_index}
 use Rattle.ndarray.specs.declared.base.shape.Order.TheVariants.{ColumnMajor}
 use Rattle.ndarray.specs.declared.elements.Valued.{Ghosts as ValuedGhosts}

@@ -10,10 +10,10 @@ use Rattle.ndarray.specs.Index.{InBox, row_order}
 use Rattle.ndarray.specs.Limits.{IsWithinLimit}
 use Rattle.ndarray.specs.Matrices.{values_below}
 use Rattle.ndarray.specs.Products.{value_at, value_or}
-use Rattle.ndarray.specs.RowSums.{AddsScaledRow, CanAddScaledRow}
+use Rattle.ndarray.specs.linalg.RowSums.{AddsScaledRow, CanAddScaledRow}
 use Rattle.ndarray.specs.Subviews.{window, window_index}
 use Rattle.ndarray.specs.Sums.{IsSummable, total}
-use Rattle.ndarray.specs.WindowSums.{CanSumWindows, window_sum, window_sums}
+use Rattle.ndarray.specs.conv.WindowSums.{CanSumWindows, window_sum, window_sums}
 use Rattle.ndarray.specs.base.IndexLists.{shifted_index}
 use Rattle.ndarray.specs.base.Ranks.{row_from}
 use Rattle.ndarray.specs.declared.elements.Valued.{Ghosts as ValuedGhosts}

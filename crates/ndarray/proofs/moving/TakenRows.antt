@@ -1,7 +1,7 @@
 -- The next row of places is taken out of a region, and the others are left.
 use Rattle.std.proofs.Common.{◌≡◌, ◌∙◌, ◌∷◌, ◌++◌, ℕ, List, Option, ap, get_or, map, subst, sym}
 use Rattle.std.specs.Prelude.{All, filter_map}
-use Rattle.ndarray.specs.Rows.{joined}
+use Rattle.ndarray.specs.order.Rows.{joined}
 use Rattle.ndarray.specs.base.Places.{place}
 use Rattle.ndarray.specs.base.Ranks.{row_from}
 use Rattle.ndarray.specs.base.Strided.{places_from}

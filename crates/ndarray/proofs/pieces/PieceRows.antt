@@ -7,7 +7,7 @@ use Rattle.std.proofs.lemmas.Simd.{map-map}
 use Rattle.ndarray.specs.Index.{InBox}
 use Rattle.ndarray.specs.Grid.{array_by, cell}
 use Rattle.ndarray.specs.base.Places.{place, Reaches, grid_at}
-use Rattle.ndarray.specs.Rows.{rows_in, joined}
+use Rattle.ndarray.specs.order.Rows.{rows_in, joined}
 use Rattle.ndarray.specs.base.Pieces.{ReachPieces, SharePieces, ShareRows, piece_layout, piece_layouts, pieces_at}
 use Rattle.ndarray.specs.base.CellLayouts.{CellLayout, cell_layout}
 use Rattle.ndarray.specs.base.Masks.{Shares, SharesBoth, grids_at}

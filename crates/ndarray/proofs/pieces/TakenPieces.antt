@@ -1,6 +1,6 @@
 -- The next row of pieces is taken out of a region, and the others are left.
 use Rattle.std.proofs.Common.{◌≡◌, ◌∙◌, ◌∷◌, ℕ, List, Option, ap, get_or, map, refl, sym}
-use Rattle.ndarray.specs.Rows.{joined}
+use Rattle.ndarray.specs.order.Rows.{joined}
 use Rattle.ndarray.specs.base.CellLayouts.{CellLayout, cell_layout}
 use Rattle.ndarray.specs.base.Masks.{Shares, SharesBoth, grids_at}
 use Rattle.ndarray.specs.base.Pieces.{ShareRows, piece_layouts}

@@ -11,7 +11,7 @@ use Rattle.std.specs.declared.slice.IterMut.{IterMut}
 use Rattle.ndarray.specs.Grid.{Grid, IsGrid, HasCells, cell}
 use Rattle.ndarray.specs.Orders.{box_in}
 use Rattle.ndarray.specs.Producers.{YieldsInTurn, YieldsInTurnFrom, steps_of_both}
-use Rattle.ndarray.specs.Rows.{rows_in, joined, some_unless_none, HasRows, RowsInTurn, RowsInTurnFrom, GivesMany, AsLong}
+use Rattle.ndarray.specs.order.Rows.{rows_in, joined, some_unless_none, HasRows, RowsInTurn, RowsInTurnFrom, GivesMany, AsLong}
 use Rattle.ndarray.specs.Runs.{MayTurnAt, TurnAt, TakesAt, StopsAt, EndsOrStops}
 use Rattle.ndarray.specs.declared.base.shape.Order.{Order}
 use Rattle.ndarray.proofs.boxes.Rows.{rows-within, rows_in-none, rows_in-one}

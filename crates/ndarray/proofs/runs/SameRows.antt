@@ -1,7 +1,7 @@
 -- The rows of a box are rows of an array of its lengths.
 use Rattle.std.proofs.Common.{◌≡◌, List, ℕ, subst, sym}
 use Rattle.ndarray.specs.Grid.{Grid, IsGrid}
-use Rattle.ndarray.specs.Rows.{HasRows, rows_in}
+use Rattle.ndarray.specs.order.Rows.{HasRows, rows_in}
 use Rattle.ndarray.specs.declared.base.shape.Order.{Order}
 use Rattle.ndarray.proofs.runs.Rows.{HasRows-rows_in}
 

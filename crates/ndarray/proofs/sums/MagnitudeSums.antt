@@ -6,7 +6,7 @@ use Rattle.std.proofs.lemmas.Int.{ints}
 use Rattle.num_traits.specs.Laws.{Checks}
 use Rattle.ndarray.specs.Integers.{int_sums, negative_sum, positive_sum}
 use Rattle.ndarray.specs.Products.{magnitude_sum}
-use Rattle.ndarray.specs.SignedSums.{AddedApart, NegativeFits, ProductsApart}
+use Rattle.ndarray.specs.reduce.SignedSums.{AddedApart, NegativeFits, ProductsApart}
 use Rattle.ndarray.specs.Sums.{total, select, IsSummable}
 use Rattle.ndarray.proofs.sums.NonzeroProducts.{negative-product, within}
 use Rattle.ndarray.proofs.sums.SignedSums.{AddedApart-end, AddedApart-next, AddedApart-start, checked-both, either-sign, negative_sum-negative, positive_sum-positive}

@@ -10,8 +10,8 @@ use Rattle.std.proofs.lemmas.Nat.{mul-le}
 use Rattle.num_traits.specs.Laws.{Checks}
 use Rattle.ndarray.specs.IntegerProducts.{one-times}
 use Rattle.ndarray.specs.Integers.{int_products, magnitude_product, nonzero_magnitude}
-use Rattle.ndarray.specs.NonzeroProducts.{MultipliedSoFar}
-use Rattle.ndarray.specs.SignedSums.{NegativeFits}
+use Rattle.ndarray.specs.reduce.NonzeroProducts.{MultipliedSoFar}
+use Rattle.ndarray.specs.reduce.SignedSums.{NegativeFits}
 use Rattle.ndarray.specs.Sums.{total, select, IsSummable}
 use Rattle.ndarray.proofs.lists.Elements.{All-from_recursion, All-to_recursion}
 use Rattle.ndarray.proofs.sums.Rearrangements.{total-rearranged}

@@ -5,7 +5,7 @@ use Rattle.std.proofs.lemmas.Grind.{get_or-set_at}
 use Rattle.std.proofs.lemmas.List.{get_or_default, length-set}
 use Rattle.ndarray.specs.Matrices.{values_below}
 use Rattle.ndarray.specs.Products.{AddsProduct, CanAddProduct}
-use Rattle.ndarray.specs.RowSums.{AddsScaledRow, AddsTwoRows, CanAddScaledRow, CanAddTwoRows}
+use Rattle.ndarray.specs.linalg.RowSums.{AddsScaledRow, AddsTwoRows, CanAddScaledRow, CanAddTwoRows}
 use Rattle.ndarray.specs.Sums.{IsSummable, total}
 use Rattle.ndarray.specs.declared.elements.Valued.{Ghosts as ValuedGhosts}
 use Rattle.ndarray.proofs.sums.RowSums.{AddedTo, AddedTo-all, AddedTo-can, AddedTo-more, AddedTo-none, next-added, next-can_add, product-at, row-can_add, sum-at, value-at, values-length}

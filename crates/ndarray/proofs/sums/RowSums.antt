@@ -8,7 +8,7 @@ use Rattle.std.proofs.lemmas.List.{get_or_default, length-append, length-map, le
 use Rattle.ndarray.specs.Algebra.{CommutativeMonoid}
 use Rattle.ndarray.specs.Matrices.{values_below}
 use Rattle.ndarray.specs.Products.{AddsProduct, CanAddProduct}
-use Rattle.ndarray.specs.RowSums.{AddsScaledRow, CanAddScaledRow}
+use Rattle.ndarray.specs.linalg.RowSums.{AddsScaledRow, CanAddScaledRow}
 use Rattle.ndarray.specs.Sums.{IsSummable, total}
 use Rattle.ndarray.specs.declared.elements.Valued.{Ghosts as ValuedGhosts}
 use Rattle.ndarray.proofs.cells.Matrices.{below-same}

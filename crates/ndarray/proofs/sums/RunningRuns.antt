@@ -4,7 +4,7 @@ use Rattle.std.specs.Prelude.{IsPermutation}
 use Rattle.std.proofs.lemmas.List.{map-append}
 use Rattle.std.proofs.lemmas.List.Sorted.{IsPermutation-map}
 use Rattle.ndarray.specs.Algebra.{CommutativeMonoid}
-use Rattle.ndarray.specs.Rows.{joined}
+use Rattle.ndarray.specs.order.Rows.{joined}
 use Rattle.ndarray.specs.Sums.{IsSummableBy, total_by}
 use Rattle.ndarray.proofs.sums.Rearrangements.{IsSummable-rearranged, total-rearranged}
 use Rattle.ndarray.proofs.sums.RunningSum.{RunningSum, RunningSum-end, RunningSum-front, RunningSum-run, RunningSum-start}

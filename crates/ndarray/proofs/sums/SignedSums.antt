@@ -6,7 +6,7 @@ use Rattle.num_traits.specs.Laws.{Checks}
 use Rattle.std.proofs.lemmas.Int.{ints}
 use Rattle.std.proofs.lemmas.List.Sorted.{IsPermutation-map}
 use Rattle.ndarray.specs.Integers.{int_sums, negative_sum, positive_sum}
-use Rattle.ndarray.specs.SignedSums.{AddedApart}
+use Rattle.ndarray.specs.reduce.SignedSums.{AddedApart}
 use Rattle.ndarray.specs.Sums.{total}
 use Rattle.ndarray.proofs.lists.Decisions.{says_yes}
 use Rattle.ndarray.proofs.sums.Rearrangements.{total-rearranged}

@@ -9,8 +9,8 @@ use Rattle.std.proofs.lemmas.Nat.{mul-le}
 use Rattle.ndarray.specs.Integers.{int_products}
 use Rattle.ndarray.specs.Matrices.{Matrix, inner_products, values_below}
 use Rattle.ndarray.specs.Products.{magnitude_sum}
-use Rattle.ndarray.specs.SignedSums.{NegativeFits}
-use Rattle.ndarray.specs.SmallProducts.{AreUpTo, LargestSoFar}
+use Rattle.ndarray.specs.reduce.SignedSums.{NegativeFits}
+use Rattle.ndarray.specs.reduce.SmallProducts.{AreUpTo, LargestSoFar}
 use Rattle.ndarray.proofs.cells.EntryTests.{EntriesFit}
 use Rattle.ndarray.proofs.sums.MagnitudeSums.{magnitudes-summable, negative-of_fits}
 

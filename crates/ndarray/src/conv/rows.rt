@@ -7,7 +7,7 @@ ghost use Rattle.ndarray.specs.Convolution.{valid_counts};
 ghost use Rattle.ndarray.specs.Index.{row_order, size};
 ghost use Rattle.ndarray.specs.Limits.{IsWithinLimit};
 ghost use Rattle.ndarray.specs.Products.{MakesValues};
-ghost use Rattle.ndarray.specs.WindowSums.{AreInRow, CanSumWindows, window_sum, window_sums};
+ghost use Rattle.ndarray.specs.conv.WindowSums.{AreInRow, CanSumWindows, window_sum, window_sums};
 ghost use Rattle.ndarray.specs.base.Ranks.{row_from};
 
 use crate::base::array::{Array, ArrayBase, ArrayView};

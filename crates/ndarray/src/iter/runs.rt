@@ -2,7 +2,7 @@
 
 ghost use Rattle.std.specs.Prelude.{◌≡◌, [], ◌∷◌, IsPermutation, MatchOption};
 ghost use Rattle.ndarray.specs.Grid.{IsGrid};
-ghost use Rattle.ndarray.specs.Rows.{joined};
+ghost use Rattle.ndarray.specs.order.Rows.{joined};
 
 use crate::base::array::ArrayView;
 use crate::base::dimension::Lengths;
@@ -23,7 +23,7 @@ pub struct CellRuns<'a, A, D: Lengths> {
 impl<'a, A, D: Lengths> Model for CellRuns<'a, A, D> {
     ghost use Rattle.std.specs.Prelude.{List, [], ◌∷◌, ◌++◌, filter_map, if◌then◌else◌, map};
     ghost use Rattle.ndarray.specs.Grid.{cell};
-    ghost use Rattle.ndarray.specs.Rows.{HasRows};
+    ghost use Rattle.ndarray.specs.order.Rows.{HasRows};
 
     ghost Value = { List (List A) };
 

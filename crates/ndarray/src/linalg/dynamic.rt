@@ -2,7 +2,7 @@
 
 ghost use Rattle.std.specs.Prelude.{◌≡◌, ◌+◌, ◌-◌, ◌≤◌, All, length};
 ghost use Rattle.ndarray.specs.Index.{size};
-ghost use Rattle.ndarray.specs.LaneSums.{CanSumLanes, PushesSums};
+ghost use Rattle.ndarray.specs.linalg.LaneSums.{CanSumLanes, PushesSums};
 ghost use Rattle.ndarray.specs.Products.{HasLaneSumsInRange, MakesValues, ShapesMultiply, dot_entries, product_lengths};
 ghost use Rattle.ndarray.specs.Subviews.{lanes_of};
 

@@ -1,7 +1,7 @@
 //! Arrays of what is computed at each index list of a box.
 
 ghost use Rattle.std.specs.Prelude.{◌≡◌, IfOk, IsOk, length};
-ghost use Rattle.ndarray.specs.Entries.{HasEntries};
+ghost use Rattle.ndarray.specs.linalg.Entries.{HasEntries};
 ghost use Rattle.ndarray.specs.Index.{InBox, size};
 ghost use Rattle.ndarray.specs.Limits.{IsWithinLimit};
 

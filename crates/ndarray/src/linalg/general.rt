@@ -3,7 +3,7 @@
 ghost use Rattle.std.specs.Prelude.{◌≡◌, ◌↔◌, ◌≤◌, IsTrue, MatchResult, Some};
 ghost use Rattle.std.specs.Mem.{type_size};
 ghost use Rattle.ndarray.specs.Grid.{cell};
-ghost use Rattle.ndarray.specs.GeneralProducts.{AccumulatesColumn, AccumulatesProduct, CanAccumulateColumn, CanAccumulateProduct};
+ghost use Rattle.ndarray.specs.linalg.GeneralProducts.{AccumulatesColumn, AccumulatesProduct, CanAccumulateColumn, CanAccumulateProduct};
 ghost use Rattle.ndarray.specs.Products.{Accumulates, AccumulatesEntries, AddsScaled, CanAccumulate, CanAddScaled, HasSumsInRange, ShapesMultiplyInto, column_entries, column_of, matrix_entries, matrix_of, product_of};
 
 use crate::base::array::{ArrayBase, ArrayView};

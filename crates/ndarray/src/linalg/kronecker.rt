@@ -1,7 +1,7 @@
 //! Kronecker products.
 
 ghost use Rattle.std.specs.Prelude.{◌↔◌, ◌*◌, ◌+◌, ◌<◌, ◌≤◌, ◌∷◌, [], All, IsTrue, length};
-ghost use Rattle.ndarray.specs.BlockRows.{CanMultiply, CanMultiplyEach, block_rows, multiples, multiples_by};
+ghost use Rattle.ndarray.specs.linalg.BlockRows.{CanMultiply, CanMultiplyEach, block_rows, multiples, multiples_by};
 ghost use Rattle.ndarray.specs.Index.{size};
 ghost use Rattle.ndarray.specs.Limits.{IsWithinLimit};
 ghost use Rattle.ndarray.specs.Matrices.{kronecker_product};

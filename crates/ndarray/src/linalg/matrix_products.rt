@@ -5,7 +5,7 @@ ghost use Rattle.std.specs.Vec.{vec_capacity};
 ghost use Rattle.ndarray.specs.Index.{row_order};
 ghost use Rattle.ndarray.specs.Limits.{IsWithinLimit};
 ghost use Rattle.ndarray.specs.Products.{HasSumsInRange, MakesMatrix, MakesRow, matrix_entries, matrix_of, product_of, row_of};
-ghost use Rattle.ndarray.specs.RowSums.{CanSumRow};
+ghost use Rattle.ndarray.specs.linalg.RowSums.{CanSumRow};
 
 use crate::base::array::{Array, ArrayBase, ArrayView};
 use crate::base::axis::Axis;

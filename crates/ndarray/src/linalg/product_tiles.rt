@@ -4,9 +4,9 @@ ghost use Rattle.std.specs.Prelude.{◌≡◌, ◌+◌, ◌<◌, ◌≤◌, List
 ghost use Rattle.std.specs.Mem.{type_size};
 ghost use Rattle.ndarray.specs.Grid.{cell};
 ghost use Rattle.ndarray.specs.Index.{InBox};
-ghost use Rattle.ndarray.specs.ProductTiles.{AccumulatesIn, CanAccumulateIn, InRun, InTile, entries_along, list_along, other_index, row_along};
+ghost use Rattle.ndarray.specs.linalg.ProductTiles.{AccumulatesIn, CanAccumulateIn, InRun, InTile, entries_along, list_along, other_index, row_along};
 ghost use Rattle.ndarray.specs.Products.{Accumulates, AddsScaled, CanAccumulate, CanAddScaled, HasSumsInRange, matrix_of, product_of, row_of};
-ghost use Rattle.ndarray.specs.RowSums.{CanSumRow};
+ghost use Rattle.ndarray.specs.linalg.RowSums.{CanSumRow};
 ghost use Rattle.ndarray.specs.Writes.{with_cell};
 
 use crate::base::array::{ArrayBase, ArrayView};

@@ -2,7 +2,7 @@
 
 ghost use Rattle.std.specs.Prelude.{◌≡◌, ◌+◌, ◌++◌, ◌<◌, ◌≤◌, length, map, replicate, slice_index};
 ghost use Rattle.std.specs.Vec.{vec_capacity};
-ghost use Rattle.ndarray.specs.RowSums.{AddsScaledRow, AddsTwoRows, CanAddScaledRow, CanAddTwoRows, CanSumRow, row_sums, row_sums_to};
+ghost use Rattle.ndarray.specs.linalg.RowSums.{AddsScaledRow, AddsTwoRows, CanAddScaledRow, CanAddTwoRows, CanSumRow, row_sums, row_sums_to};
 
 use crate::base::array::ArrayView;
 use crate::base::axis::Axis;

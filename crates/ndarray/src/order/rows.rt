@@ -2,7 +2,7 @@
 
 ghost use Rattle.std.specs.Prelude.{◌≡◌, ◌-◌, ◌<◌, ◌≤◌, ◌^◌, [], ◌∷◌, MatchOption, length, min};
 ghost use Rattle.ndarray.specs.Limits.{IsWithinLimit};
-ghost use Rattle.ndarray.specs.Rows.{joined, rows_in, one_if_some};
+ghost use Rattle.ndarray.specs.order.Rows.{joined, rows_in, one_if_some};
 ghost use Rattle.ndarray.specs.base.Ranks.{row_at, row_from};
 ghost use Rattle.ndarray.specs.order.Walks.{FitsOnAxis};
 

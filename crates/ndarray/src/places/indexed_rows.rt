@@ -118,7 +118,7 @@ pub(crate) struct IndexedPlaces<D: Lengths> {
 
 impl<D: Lengths> Model for IndexedPlaces<D> {
     ghost use Rattle.std.specs.Prelude.{List, ℕ, ◌++◌, length};
-    ghost use Rattle.ndarray.specs.Rows.{joined};
+    ghost use Rattle.ndarray.specs.order.Rows.{joined};
     ghost use Rattle.ndarray.specs.places.ElementPlaces.{HaveIndexedRows, with_places};
 
     ghost Value = { List (List ℕ × ℕ) };

@@ -3,8 +3,8 @@
 ghost use Rattle.std.specs.Prelude.{◌≡◌, ◌↔◌, ◌+ℤ◌, ◌*ℤ◌, ◌<ℤ◌, ◌≤ℤ◌, ◌++◌, ◌∷◌, [], ℤ, List, IfSome, IsSome, IsTrue, MatchOption, map, pos, unsigned_abs};
 ghost use Rattle.num_traits.specs.Laws.{Checks};
 ghost use Rattle.ndarray.specs.Products.{magnitude_sum, products_of};
-ghost use Rattle.ndarray.specs.NonzeroProducts.{MultipliedSoFar};
-ghost use Rattle.ndarray.specs.SignedSums.{AddedApart, ProductsApart};
+ghost use Rattle.ndarray.specs.reduce.NonzeroProducts.{MultipliedSoFar};
+ghost use Rattle.ndarray.specs.reduce.SignedSums.{AddedApart, ProductsApart};
 ghost use Rattle.ndarray.specs.Sums.{IsSummable, IsSummableBy, total, total_by};
 ghost use Rattle.ndarray.specs.Integers.{int_products, int_sums, magnitude_product, negative_sum, nonzero_magnitude, positive_sum};
 

@@ -2,7 +2,7 @@
 //! array, in place of one over each row and column of a product.
 
 ghost use Rattle.std.specs.Prelude.{◌≡◌, ◌++◌, ◌*◌, ◌≤◌, ℕ, ℤ, List, IfSome, IsTrue, map, pos, unsigned_abs};
-ghost use Rattle.ndarray.specs.SmallProducts.{AreUpTo, HaveSmallProducts, LargestSoFar};
+ghost use Rattle.ndarray.specs.reduce.SmallProducts.{AreUpTo, HaveSmallProducts, LargestSoFar};
 
 use crate::base::array::ArrayView;
 use crate::base::dimension::Lengths;

@@ -4,7 +4,7 @@ ghost use Rattle.std.specs.Prelude.{◌≡◌, ◌<◌, All, map, filter_map};
 ghost use Rattle.std.specs.Iterator.{YieldsFirst, item_count};
 ghost use Rattle.ndarray.specs.Grid.{IsGrid, cell};
 ghost use Rattle.ndarray.specs.Index.{InBox};
-ghost use Rattle.ndarray.specs.Rows.{rows_in};
+ghost use Rattle.ndarray.specs.order.Rows.{rows_in};
 ghost use Rattle.ndarray.specs.base.CellLayouts.{cell_layout};
 ghost use Rattle.ndarray.specs.base.Ranks.{row_from};
 

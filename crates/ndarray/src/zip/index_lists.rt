@@ -4,7 +4,7 @@ ghost use Rattle.std.specs.Prelude.{◌≡◌, Some, map, filter_map, ⊤};
 ghost use Rattle.std.specs.Iterator.{YieldsFirst, YieldsFirstBy, item_count};
 ghost use Rattle.std.proofs.Common.{ap};
 ghost use Rattle.ndarray.specs.Grid.{cell, IsGrid, HasCells};
-ghost use Rattle.ndarray.specs.Rows.{rows_in};
+ghost use Rattle.ndarray.specs.order.Rows.{rows_in};
 
 use crate::base::axis::Axis;
 use crate::base::dimension::{Dimension, Lengths};
@@ -147,7 +147,7 @@ pub struct PatternRows<D: Lengths> {
 impl<D: Lengths> Model for PatternRows<D> {
     ghost use Rattle.std.specs.Prelude.{List, ℕ, map, filter_map};
     ghost use Rattle.ndarray.specs.Grid.{cell};
-    ghost use Rattle.ndarray.specs.Rows.{HasRows};
+    ghost use Rattle.ndarray.specs.order.Rows.{HasRows};
 
     ghost Value = { List (List (List ℕ)) };
 

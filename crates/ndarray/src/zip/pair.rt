@@ -2,7 +2,7 @@
 
 ghost use Rattle.std.specs.Prelude.{◌≡◌};
 ghost use Rattle.ndarray.specs.Producers.{both, steps_of_both};
-ghost use Rattle.ndarray.specs.Rows.{AsLong};
+ghost use Rattle.ndarray.specs.order.Rows.{AsLong};
 
 use crate::base::axis::Axis;
 use crate::order::Order;

@@ -7,7 +7,7 @@ ghost use Rattle.ndarray.specs.Broadcast.{BroadcastsTo};
 ghost use Rattle.ndarray.specs.Limits.{IsWithinLimit};
 ghost use Rattle.ndarray.specs.Orders.{box_in};
 ghost use Rattle.ndarray.specs.Producers.{YieldsInTurn, IsPart};
-ghost use Rattle.ndarray.specs.Rows.{rows_in, RowsInTurn, some_unless_none};
+ghost use Rattle.ndarray.specs.order.Rows.{rows_in, RowsInTurn, some_unless_none};
 ghost use Rattle.ndarray.specs.declared.base.shape.Order.{Order};
 
 use crate::base::axis::Axis;

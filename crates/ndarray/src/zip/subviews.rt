@@ -6,7 +6,7 @@ ghost use Rattle.std.specs.Iterator.Adapters.{once_steps};
 ghost use Rattle.std.proofs.Common.{ap};
 ghost use Rattle.ndarray.specs.Grid.{cell, one_axis, IsGrid, HasCells};
 ghost use Rattle.ndarray.specs.Producers.{YieldsInTurn};
-ghost use Rattle.ndarray.specs.Rows.{rows_in, RowsInTurn};
+ghost use Rattle.ndarray.specs.order.Rows.{rows_in, RowsInTurn};
 
 use crate::base::array::ArrayView;
 use crate::base::axis::Axis;
@@ -102,7 +102,7 @@ pub struct PieceRows<'a, A, P: Lengths, D: Lengths> {
 impl<'a, A, P: Lengths, D: Lengths> Model for PieceRows<'a, A, P, D> {
     ghost use Rattle.std.specs.Prelude.{List, map, filter_map};
     ghost use Rattle.ndarray.specs.Grid.{Grid, cell};
-    ghost use Rattle.ndarray.specs.Rows.{HasRows};
+    ghost use Rattle.ndarray.specs.order.Rows.{HasRows};
 
     ghost Value = { List (List (Grid A)) };
 

@@ -5,7 +5,7 @@ ghost use Rattle.std.specs.Iterator.{YieldsFirstBy, item_count};
 ghost use Rattle.std.proofs.Common.{ap};
 ghost use Rattle.ndarray.specs.Grid.{cell, IsGrid, HasCells};
 ghost use Rattle.ndarray.specs.Orders.{cells_in};
-ghost use Rattle.ndarray.specs.RowCells.{row_cells, IsSlice};
+ghost use Rattle.ndarray.specs.zip.RowCells.{row_cells, IsSlice};
 ghost use Rattle.ndarray.specs.Views.{broadcast_to};
 
 use crate::base::array::{ArrayBase, ArrayView};
@@ -150,7 +150,7 @@ pub struct ViewRows<'a, A, D: Lengths> {
 impl<'a, A, D: Lengths> Model for ViewRows<'a, A, D> {
     ghost use Rattle.std.specs.Prelude.{List, map, filter_map};
     ghost use Rattle.ndarray.specs.Grid.{cell};
-    ghost use Rattle.ndarray.specs.Rows.{HasRows};
+    ghost use Rattle.ndarray.specs.order.Rows.{HasRows};
 
     ghost Value = { List (List A) };
 

@@ -7,8 +7,8 @@ ghost use Rattle.ndarray.specs.Grid.{cell, one_axis, IsGrid, HasCells};
 ghost use Rattle.ndarray.specs.Limits.{IsWithinLimit};
 ghost use Rattle.ndarray.specs.Orders.{cells_in};
 ghost use Rattle.ndarray.specs.Producers.{YieldsInTurn};
-ghost use Rattle.ndarray.specs.RowCells.{row_cells_mut, IsSliceMut};
-ghost use Rattle.ndarray.specs.Rows.{rows_in, RowsInTurn};
+ghost use Rattle.ndarray.specs.zip.RowCells.{row_cells_mut, IsSliceMut};
+ghost use Rattle.ndarray.specs.order.Rows.{rows_in, RowsInTurn};
 
 use crate::base::array::{ArrayBase, ArrayViewMut};
 use crate::base::axis::Axis;

@@ -4,7 +4,7 @@ ghost use Rattle.std.specs.Prelude.{List, ℕ, MatchResult};
 ghost use Rattle.std.specs.Iterator.{IsFinite};
 ghost use Rattle.ndarray.specs.Orders.{box_in};
 ghost use Rattle.ndarray.specs.Producers.{YieldsInTurn};
-ghost use Rattle.ndarray.specs.Rows.{RowsInTurn, joined};
+ghost use Rattle.ndarray.specs.order.Rows.{RowsInTurn, joined};
 ghost use Rattle.ndarray.specs.Runs.{MayTurnAt, TurnAt, TakesAt, StopsAt, EndsOrStops};
 
 use crate::order::Order;

@@ -1,7 +1,7 @@
 use Rattle.std.proofs.Common.{◌∙◌, ap, subst}
 use Rattle.std.specs.Prelude.{All}
 use Rattle.ndarray.specs.Index.{InBox}
-use Rattle.ndarray.specs.Rows.{rows_in}
+use Rattle.ndarray.specs.order.Rows.{rows_in}
 use Rattle.ndarray.specs.declared.base.shape.Order.TheVariants.{RowMajor}
 use Rattle.ndarray.specs.base.Ranks.{row_from}
 use Rattle.ndarray.proofs.cells.RunProducts.{row-in_range, row-next, row-same, row-some, row-summable, row-within, rows-end, rows-start}

@@ -7,7 +7,7 @@ use Rattle.std.proofs.lemmas.List.Elements.{All-head, All-tail}
 use Rattle.ndarray.specs.Index.{InBox, row_order, size}
 use Rattle.ndarray.specs.Limits.{IsWithinLimit}
 use Rattle.ndarray.specs.Orders.{cells_in}
-use Rattle.ndarray.specs.Rows.{one_if_some}
+use Rattle.ndarray.specs.order.Rows.{one_if_some}
 use Rattle.ndarray.specs.Triangles.{diagonals_kept}
 use Rattle.ndarray.specs.base.Ranks.{row_from}
 use Rattle.ndarray.proofs.boxes.Boxes.{InBox-some}

@@ -4,7 +4,7 @@ use Rattle.std.proofs.lemmas.List.{length-append, length-map, map-append}
 use Rattle.std.proofs.lemmas.List.Elements.{All-drop, All-take}
 use Rattle.ndarray.specs.Convolution.{valid_counts}
 use Rattle.ndarray.specs.Index.{InBox, row_order}
-use Rattle.ndarray.specs.WindowSums.{window_sum, window_sums}
+use Rattle.ndarray.specs.conv.WindowSums.{window_sum, window_sums}
 use Rattle.ndarray.specs.base.Ranks.{row_from}
 use Rattle.ndarray.specs.order.Walks.{TakesRow}
 use Rattle.ndarray.proofs.boxes.Orders.{length-row_order, row_order-is}

@@ -3,7 +3,7 @@ use Rattle.std.proofs.Common.{◌≡◌, ◌++◌, ◌≤◌, All, length, map}
 use Rattle.std.specs.Vec.{vec_capacity}
 use Rattle.ndarray.specs.Convolution.{valid_counts}
 use Rattle.ndarray.specs.Index.{InBox, row_order}
-use Rattle.ndarray.specs.WindowSums.{window_sums}
+use Rattle.ndarray.specs.conv.WindowSums.{window_sums}
 use Rattle.ndarray.proofs.conv.rows.push_sums.Given as goal
 
 abbrev pub invariant-loop-tile : goal.invariant-loop-tile

@@ -2,7 +2,7 @@ use Rattle.std.proofs.Common.{◌∙◌, ap, length, map, refl, sym}
 use Rattle.std.proofs.lemmas.List.{length-map}
 use Rattle.ndarray.specs.Convolution.{valid_counts}
 use Rattle.ndarray.specs.Index.{row_order}
-use Rattle.ndarray.specs.WindowSums.{window_sum}
+use Rattle.ndarray.specs.conv.WindowSums.{window_sum}
 use Rattle.ndarray.specs.declared.base.shape.Order.TheVariants.{RowMajor}
 use Rattle.ndarray.proofs.boxes.Orders.{length-row_order}
 use Rattle.ndarray.proofs.cells.Cells.{cells-row_major}

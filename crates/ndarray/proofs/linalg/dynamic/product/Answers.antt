@@ -4,7 +4,7 @@ use Rattle.std.proofs.lemmas.List.{length-map}
 use Rattle.std.proofs.lemmas.List.Elements.{All-head, All-tail}
 use Rattle.ndarray.specs.Grid.{Grid}
 use Rattle.ndarray.specs.Index.{row_order, size}
-use Rattle.ndarray.specs.LaneSums.{CanSumLanes, lane_sum}
+use Rattle.ndarray.specs.linalg.LaneSums.{CanSumLanes, lane_sum}
 use Rattle.ndarray.specs.Products.{dot_entries, product_lengths}
 use Rattle.ndarray.proofs.boxes.Orders.{length-row_order}
 use Rattle.ndarray.proofs.cells.Cells.{cells-row_major}

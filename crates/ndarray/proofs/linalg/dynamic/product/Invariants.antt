@@ -2,7 +2,7 @@
 use Rattle.std.proofs.Common.{◌≡◌, ◌++◌, All, map}
 use Rattle.std.specs.Prelude.{flat_map}
 use Rattle.ndarray.specs.Index.{row_order}
-use Rattle.ndarray.specs.LaneSums.{CanSumLanes, lane_sum}
+use Rattle.ndarray.specs.linalg.LaneSums.{CanSumLanes, lane_sum}
 use Rattle.ndarray.specs.Products.{dot_entries, product_lengths}
 use Rattle.ndarray.specs.declared.base.shape.Order.TheVariants.{RowMajor}
 use Rattle.ndarray.proofs.cells.LanePairs.{EachColumn, columns_of}

@@ -2,7 +2,7 @@ use Rattle.std.proofs.Common.{◌≡◌, ◌∙◌, ◌++◌, All, ap, append-ni
 use Rattle.std.proofs.lemmas.List.{length-append, length-map}
 use Rattle.std.proofs.lemmas.List.Elements.{All-head, All-tail}
 use Rattle.ndarray.specs.Index.{size}
-use Rattle.ndarray.specs.LaneSums.{CanSumLanes, lane_sum}
+use Rattle.ndarray.specs.linalg.LaneSums.{CanSumLanes, lane_sum}
 use Rattle.ndarray.proofs.lists.Pushes.{one-pushed, one-room}
 use Rattle.ndarray.proofs.linalg.dynamic.push_sums.Goals as goal
 

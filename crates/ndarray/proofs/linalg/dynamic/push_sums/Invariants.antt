@@ -1,6 +1,6 @@
 -- The sums so far, with those to come, are the whole.
 use Rattle.std.proofs.Common.{◌≡◌, ◌++◌, All, map}
-use Rattle.ndarray.specs.LaneSums.{CanSumLanes, lane_sum}
+use Rattle.ndarray.specs.linalg.LaneSums.{CanSumLanes, lane_sum}
 use Rattle.ndarray.proofs.linalg.dynamic.push_sums.Given as goal
 
 abbrev pub invariant-loop-column : goal.invariant-loop-column

@@ -1,5 +1,5 @@
 use Rattle.std.proofs.Common.{sym}
-use Rattle.ndarray.specs.ProductTiles.{row_along}
+use Rattle.ndarray.specs.linalg.ProductTiles.{row_along}
 use Rattle.ndarray.specs.Products.{column_entries, column_of, matrix_of, product_of, row_of}
 use Rattle.ndarray.proofs.cells.GeneralProducts.{as_row-can_sum, as_row-columns, entries-as_row}
 use Rattle.ndarray.proofs.cells.ProductTiles.{accumulates-same, can-same}

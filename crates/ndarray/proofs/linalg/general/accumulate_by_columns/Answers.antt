@@ -1,5 +1,5 @@
 use Rattle.std.proofs.Common.{sym}
-use Rattle.ndarray.specs.ProductTiles.{entries_along}
+use Rattle.ndarray.specs.linalg.ProductTiles.{entries_along}
 use Rattle.ndarray.specs.Products.{matrix_entries, matrix_of, product_of}
 use Rattle.ndarray.proofs.cells.GeneralProducts.{entries-by_columns, turned-columns, turned-inner, turned-rows, turned-sums}
 use Rattle.ndarray.proofs.cells.ProductTiles.{accumulates-same, can-same}

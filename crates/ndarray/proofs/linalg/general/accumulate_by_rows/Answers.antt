@@ -1,5 +1,5 @@
 use Rattle.std.proofs.Common.{ap, get_or, sym}
-use Rattle.ndarray.specs.ProductTiles.{entries_along, other_index}
+use Rattle.ndarray.specs.linalg.ProductTiles.{entries_along, other_index}
 use Rattle.ndarray.specs.Products.{matrix_entries, matrix_of, product_of}
 use Rattle.ndarray.proofs.boxes.ProductShapes.{inner-two}
 use Rattle.ndarray.proofs.cells.GeneralProducts.{entries-by_rows, lengths-made}

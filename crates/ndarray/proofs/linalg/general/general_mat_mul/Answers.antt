@@ -1,5 +1,5 @@
 use Rattle.std.proofs.Common.{subst, sym}
-use Rattle.ndarray.specs.GeneralProducts.{AccumulatesProduct, CanAccumulateProduct}
+use Rattle.ndarray.specs.linalg.GeneralProducts.{AccumulatesProduct, CanAccumulateProduct}
 use Rattle.ndarray.proofs.linalg.general.general_mat_mul.Goals as goal
 
 pub accumulate_product-requires-after_bounds : goal.accumulate_product-requires-after_bounds

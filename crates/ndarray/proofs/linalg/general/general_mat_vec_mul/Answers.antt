@@ -1,5 +1,5 @@
 use Rattle.std.proofs.Common.{subst, sym}
-use Rattle.ndarray.specs.GeneralProducts.{AccumulatesColumn, CanAccumulateColumn}
+use Rattle.ndarray.specs.linalg.GeneralProducts.{AccumulatesColumn, CanAccumulateColumn}
 use Rattle.ndarray.proofs.linalg.general.general_mat_vec_mul.Goals as goal
 
 pub accumulate_column-requires-after_bounds : goal.accumulate_column-requires-after_bounds

@@ -2,7 +2,7 @@ use Rattle.std.proofs.Common.{◌≡◌, ◌∙◌, ◌*◌, ◌++◌, [], ◌�
 use Rattle.std.specs.Prelude.{flat_map}
 use Rattle.std.proofs.lemmas.List.{length-map}
 use Rattle.std.proofs.lemmas.List.Elements.{All-head, All-tail}
-use Rattle.ndarray.specs.BlockRows.{CanMultiplyEach, block_rows}
+use Rattle.ndarray.specs.linalg.BlockRows.{CanMultiplyEach, block_rows}
 use Rattle.ndarray.specs.Grid.{Grid}
 use Rattle.ndarray.specs.Index.{row_order, size}
 use Rattle.ndarray.specs.Matrices.{kronecker_product}

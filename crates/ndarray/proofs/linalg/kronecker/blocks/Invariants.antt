@@ -1,7 +1,7 @@
 -- The products so far, with those of the rows to come, are the entries of the whole.
 use Rattle.std.proofs.Common.{◌≡◌, ◌++◌, All, map}
 use Rattle.std.specs.Prelude.{flat_map}
-use Rattle.ndarray.specs.BlockRows.{CanMultiplyEach, block_rows}
+use Rattle.ndarray.specs.linalg.BlockRows.{CanMultiplyEach, block_rows}
 use Rattle.ndarray.specs.Index.{row_order}
 use Rattle.ndarray.specs.Matrices.{kronecker_product}
 use Rattle.ndarray.specs.Products.{kronecker_lengths, matrix_entries, matrix_of}

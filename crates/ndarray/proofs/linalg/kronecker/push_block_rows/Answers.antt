@@ -1,7 +1,7 @@
 use Rattle.std.proofs.Common.{◌≡◌, ◌∙◌, ◌++◌, All, ap, arith, map, subst}
 use Rattle.std.proofs.lemmas.List.{length-append, length-map}
 use Rattle.std.proofs.lemmas.List.Elements.{All-tail}
-use Rattle.ndarray.specs.BlockRows.{CanMultiplyEach, block_rows, multiples_by}
+use Rattle.ndarray.specs.linalg.BlockRows.{CanMultiplyEach, block_rows, multiples_by}
 use Rattle.ndarray.specs.Grid.{Grid}
 use Rattle.ndarray.specs.Index.{size}
 use Rattle.ndarray.specs.Subviews.{axis_items}

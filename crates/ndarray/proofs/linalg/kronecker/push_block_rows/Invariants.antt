@@ -1,6 +1,6 @@
 -- The products so far, with those of the rows to come, are the whole.
 use Rattle.std.proofs.Common.{◌≡◌, ◌++◌, All, map}
-use Rattle.ndarray.specs.BlockRows.{CanMultiplyEach, block_rows}
+use Rattle.ndarray.specs.linalg.BlockRows.{CanMultiplyEach, block_rows}
 use Rattle.ndarray.specs.Subviews.{axis_items}
 use Rattle.ndarray.proofs.linalg.kronecker.push_block_rows.Given as goal
 

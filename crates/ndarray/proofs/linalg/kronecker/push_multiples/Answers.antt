@@ -1,7 +1,7 @@
 use Rattle.std.proofs.Common.{◌≡◌, ◌∙◌, ◌++◌, All, ap, arith, map, subst}
 use Rattle.std.proofs.lemmas.List.{length-append, length-map}
 use Rattle.std.proofs.lemmas.List.Elements.{All-head, All-tail}
-use Rattle.ndarray.specs.BlockRows.{CanMultiply}
+use Rattle.ndarray.specs.linalg.BlockRows.{CanMultiply}
 use Rattle.ndarray.specs.Index.{size}
 use Rattle.ndarray.proofs.lists.Pushes.{one-pushed, one-room}
 use Rattle.ndarray.proofs.linalg.kronecker.push_multiples.Goals as goal

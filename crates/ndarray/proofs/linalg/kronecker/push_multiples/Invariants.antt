@@ -1,6 +1,6 @@
 -- The products so far, with those to come, are the whole.
 use Rattle.std.proofs.Common.{◌≡◌, ◌++◌, All, map}
-use Rattle.ndarray.specs.BlockRows.{CanMultiply, multiples}
+use Rattle.ndarray.specs.linalg.BlockRows.{CanMultiply, multiples}
 use Rattle.ndarray.proofs.linalg.kronecker.push_multiples.Given as goal
 
 abbrev pub invariant-loop-cell : goal.invariant-loop-cell

@@ -1,7 +1,7 @@
 use Rattle.std.proofs.Common.{◌≡◌, ◌∙◌, ◌++◌, All, ap, arith, length, map, subst}
 use Rattle.std.proofs.lemmas.List.{length-append, length-map}
 use Rattle.std.proofs.lemmas.List.Elements.{All-tail}
-use Rattle.ndarray.specs.BlockRows.{CanMultiply, multiples, multiples_by}
+use Rattle.ndarray.specs.linalg.BlockRows.{CanMultiply, multiples, multiples_by}
 use Rattle.ndarray.specs.Index.{size}
 use Rattle.ndarray.proofs.lists.Pushes.{some-pushed, some-room}
 use Rattle.ndarray.proofs.linalg.kronecker.push_products.Goals as goal

@@ -1,6 +1,6 @@
 -- The products so far, with those to come, are the whole.
 use Rattle.std.proofs.Common.{◌≡◌, ◌++◌, map}
-use Rattle.ndarray.specs.BlockRows.{CanMultiplyEach, multiples_by}
+use Rattle.ndarray.specs.linalg.BlockRows.{CanMultiplyEach, multiples_by}
 use Rattle.ndarray.proofs.linalg.kronecker.push_products.Given as goal
 
 abbrev pub invariant-loop-factor : goal.invariant-loop-factor

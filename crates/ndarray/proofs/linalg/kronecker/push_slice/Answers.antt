@@ -1,6 +1,6 @@
 use Rattle.std.proofs.Common.{◌≡◌, ◌∙◌, ◌+◌, ◌++◌, ap, arith, drop, map, subst, sym}
 use Rattle.std.proofs.lemmas.List.{length-append, length-map}
-use Rattle.ndarray.specs.BlockRows.{CanMultiply}
+use Rattle.ndarray.specs.linalg.BlockRows.{CanMultiply}
 use Rattle.ndarray.specs.Index.{size}
 use Rattle.ndarray.proofs.lists.Pushes.{one-pushed, one-room}
 use Rattle.ndarray.proofs.sums.InnerSums.{drop-next}

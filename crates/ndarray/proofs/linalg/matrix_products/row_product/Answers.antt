@@ -2,7 +2,7 @@ use Rattle.std.proofs.Common.{◌≡◌, ◌∙◌, ◌*◌, ◌++◌, [], ◌�
 use Rattle.std.proofs.lemmas.List.{length-map}
 use Rattle.ndarray.specs.Index.{size}
 use Rattle.ndarray.specs.Products.{matrix_of, product_of, row_entries, row_of}
-use Rattle.ndarray.specs.RowSums.{row_sums}
+use Rattle.ndarray.specs.linalg.RowSums.{row_sums}
 use Rattle.ndarray.specs.declared.base.shape.Order.TheVariants.{RowMajor}
 use Rattle.ndarray.proofs.cells.Cells.{cells-row_major}
 use Rattle.ndarray.proofs.cells.Products.{values-in_row_order}

@@ -1,6 +1,6 @@
 use Rattle.std.proofs.Common.{◌≡◌, ◌≤◌, ◌+◌, ◌-◌, ◌∙◌, ℕ, List, [], ◌∷◌, ap, arith, get_or, length, subst, sym}
 use Rattle.ndarray.specs.Index.{InBox}
-use Rattle.ndarray.specs.ProductTiles.{AccumulatesIn, InRun, InTile, entries_along, other_index, row_along}
+use Rattle.ndarray.specs.linalg.ProductTiles.{AccumulatesIn, InRun, InTile, entries_along, other_index, row_along}
 use Rattle.ndarray.specs.Products.{CanAddScaled, matrix_of, product_of, row_of}
 use Rattle.ndarray.specs.Sums.{total}
 use Rattle.ndarray.proofs.boxes.Boxes.{InBox-length}

@@ -1,5 +1,5 @@
 use Rattle.std.proofs.Common.{◌≡◌, ◌≤◌, ◌+◌, ◌∙◌, List, ℕ, ap, arith, get_or, subst, sym}
-use Rattle.ndarray.specs.ProductTiles.{AccumulatesIn, InTile, entries_along, other_index}
+use Rattle.ndarray.specs.linalg.ProductTiles.{AccumulatesIn, InTile, entries_along, other_index}
 use Rattle.ndarray.specs.Products.{CanAddScaled, matrix_of, product_of}
 use Rattle.ndarray.proofs.cells.ColumnParts.{part-columns, part-inner, part-product, part-sums}
 use Rattle.ndarray.proofs.cells.ProductTiles.{all-in_tile, columns-next, tile-all, tile-start, tile-sums}

@@ -1,6 +1,6 @@
 -- The columns so far took their sums.
 use Rattle.std.proofs.Common.{◌≤◌, ◌-◌, get_or}
-use Rattle.ndarray.specs.ProductTiles.{AccumulatesIn, InTile, entries_along}
+use Rattle.ndarray.specs.linalg.ProductTiles.{AccumulatesIn, InTile, entries_along}
 use Rattle.ndarray.specs.Products.{matrix_of, product_of}
 use Rattle.ndarray.proofs.linalg.product_tiles.accumulate_matrix.Given as goal
 

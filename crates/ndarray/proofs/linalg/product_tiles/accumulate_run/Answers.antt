@@ -1,7 +1,7 @@
 use Rattle.std.proofs.Common.{◌+◌, ◌∙◌, ap, arith, get_or, map, subst, sym}
 use Rattle.std.proofs.lemmas.List.{take-replicate}
 use Rattle.ndarray.specs.Matrices.{values_below}
-use Rattle.ndarray.specs.ProductTiles.{AccumulatesIn, InRun, list_along, row_along}
+use Rattle.ndarray.specs.linalg.ProductTiles.{AccumulatesIn, InRun, list_along, row_along}
 use Rattle.ndarray.specs.Products.{CanAddScaled, matrix_of, product_of, row_of}
 use Rattle.ndarray.proofs.cells.ProductTiles.{sums-known, tile-sums}
 use Rattle.ndarray.proofs.sums.RowSums.{values-alike, values-length}

@@ -2,7 +2,7 @@ use Rattle.std.proofs.Common.{◌∙◌, ◌<◌, ◌+◌, ap, arith, length, se
 use Rattle.std.proofs.lemmas.List.{get_or-set_same}
 use Rattle.ndarray.specs.Grid.{cell}
 use Rattle.ndarray.specs.Index.{InBox}
-use Rattle.ndarray.specs.ProductTiles.{list_along}
+use Rattle.ndarray.specs.linalg.ProductTiles.{list_along}
 use Rattle.ndarray.specs.Products.{AddsScaled, CanAddScaled}
 use Rattle.ndarray.specs.Writes.{with_cell}
 use Rattle.ndarray.proofs.cells.ProductTiles.{in-run, run-next, sum-at, tile-one, tile-start}

@@ -1,6 +1,6 @@
 -- The cells so far took their sums.
 use Rattle.std.proofs.Common.{◌+◌, ◌-◌, ◌≤◌, length}
-use Rattle.ndarray.specs.ProductTiles.{AccumulatesIn, InRun, list_along}
+use Rattle.ndarray.specs.linalg.ProductTiles.{AccumulatesIn, InRun, list_along}
 use Rattle.ndarray.proofs.linalg.product_tiles.accumulate_sums.Given as goal
 
 abbrev pub invariant-sums : goal.invariant-sums

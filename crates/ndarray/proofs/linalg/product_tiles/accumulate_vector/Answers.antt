@@ -1,6 +1,6 @@
 use Rattle.std.proofs.Common.{◌≡◌, ◌≤◌, ◌+◌, ◌∙◌, List, ℕ, [], ◌∷◌, ap, arith, get_or, length, subst, sym}
 use Rattle.ndarray.specs.Index.{InBox}
-use Rattle.ndarray.specs.ProductTiles.{AccumulatesIn, InRun, row_along}
+use Rattle.ndarray.specs.linalg.ProductTiles.{AccumulatesIn, InRun, row_along}
 use Rattle.ndarray.specs.Products.{CanAddScaled, matrix_of, product_of, row_of}
 use Rattle.ndarray.proofs.cells.ColumnParts.{part-can_sum, part-columns, part-product}
 use Rattle.ndarray.proofs.cells.ProductTiles.{all-in_run, run-in_vector, runs-next, tile-all, tile-start, tile-sums}

@@ -1,6 +1,6 @@
 -- The columns so far took their sums.
 use Rattle.std.proofs.Common.{◌≤◌, ◌-◌, [], ◌∷◌}
-use Rattle.ndarray.specs.ProductTiles.{AccumulatesIn, InRun, row_along}
+use Rattle.ndarray.specs.linalg.ProductTiles.{AccumulatesIn, InRun, row_along}
 use Rattle.ndarray.specs.Products.{matrix_of, product_of, row_of}
 use Rattle.ndarray.proofs.linalg.product_tiles.accumulate_vector.Given as goal
 

@@ -1,5 +1,5 @@
 use Rattle.std.proofs.Common.{◌≡◌, ◌∙◌, ◌+◌, ap, arith, get_or, map, subst, sym}
-use Rattle.ndarray.specs.RowSums.{AddsScaledRow, AddsTwoRows, CanAddScaledRow, CanAddTwoRows, row_sums_to}
+use Rattle.ndarray.specs.linalg.RowSums.{AddsScaledRow, AddsTwoRows, CanAddScaledRow, CanAddTwoRows, row_sums_to}
 use Rattle.ndarray.proofs.cells.RowProducts.{number-for, pairs-added, pairs-can_add, pairs-left, sums-added, sums-can_add}
 use Rattle.ndarray.proofs.sums.RowSums.{first-left}
 use Rattle.ndarray.proofs.linalg.row_sums.add_rows.Goals as goal

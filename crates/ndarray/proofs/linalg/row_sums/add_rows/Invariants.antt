@@ -1,6 +1,6 @@
 -- The sums over the rows so far, and the numbers for the others.
 use Rattle.std.proofs.Common.{◌≡◌, ◌-◌, ◌≤◌, drop, map}
-use Rattle.ndarray.specs.RowSums.{row_sums_to}
+use Rattle.ndarray.specs.linalg.RowSums.{row_sums_to}
 use Rattle.ndarray.proofs.linalg.row_sums.add_rows.Given as goal
 
 abbrev pub invariant-pairs : goal.invariant-pairs

@@ -2,7 +2,7 @@ use Rattle.std.proofs.Common.{◌≡◌, ◌∙◌, ◌<◌, All, ap, arith, len
 use Rattle.std.proofs.lemmas.List.Elements.{All-head, All-tail}
 use Rattle.ndarray.specs.Index.{size}
 use Rattle.ndarray.specs.Orders.{cells_in}
-use Rattle.ndarray.specs.Rows.{joined, rows_in}
+use Rattle.ndarray.specs.order.Rows.{joined, rows_in}
 use Rattle.ndarray.specs.base.Ranks.{row_from}
 use Rattle.ndarray.specs.base.RunningProducts.{RunningProducts}
 use Rattle.ndarray.specs.declared.base.shape.Order.TheVariants.{RowMajor}

@@ -1,5 +1,5 @@
 use Rattle.std.proofs.Common.{◌∷◌, None, Some, subst, sym}
-use Rattle.ndarray.specs.SignedSums.{NegativeFits, ProductsApart}
+use Rattle.ndarray.specs.reduce.SignedSums.{NegativeFits, ProductsApart}
 use Rattle.ndarray.proofs.sums.MagnitudeSums.{apart-added, apart-excess, negative-of_fits}
 use Rattle.ndarray.proofs.reduce.range_tests.add_product.Goals as goal
 

@@ -1,5 +1,5 @@
 use Rattle.std.proofs.Common.{◌++◌, ap, map, subst}
-use Rattle.ndarray.specs.SignedSums.{AddedApart}
+use Rattle.ndarray.specs.reduce.SignedSums.{AddedApart}
 use Rattle.ndarray.proofs.sums.SignedSums.{AddedApart-excess, AddedApart-next}
 use Rattle.ndarray.proofs.reduce.range_tests.add_run.Goals as goal
 

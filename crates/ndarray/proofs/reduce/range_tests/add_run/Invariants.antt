@@ -1,5 +1,5 @@
 use Rattle.std.proofs.Common.{◌++◌, length, map}
-use Rattle.ndarray.specs.SignedSums.{AddedApart}
+use Rattle.ndarray.specs.reduce.SignedSums.{AddedApart}
 use Rattle.ndarray.proofs.reduce.range_tests.add_run.Given as goal
 
 abbrev pub invariant-loop-x : goal.invariant-loop-x

@@ -1,7 +1,7 @@
 use Rattle.std.proofs.Common.{◌≡◌, ◌++◌, [], arith, drop, inl, inr, subst}
 use Rattle.std.proofs.lemmas.List.{drop_all}
 use Rattle.ndarray.specs.Integers.{int_products}
-use Rattle.ndarray.specs.SignedSums.{ProductsApart}
+use Rattle.ndarray.specs.reduce.SignedSums.{ProductsApart}
 use Rattle.ndarray.specs.Products.{products_of}
 use Rattle.ndarray.proofs.sums.InnerSums.{products-ended, products-from}
 use Rattle.ndarray.proofs.reduce.range_tests.add_slice_products.Goals as goal

@@ -1,6 +1,6 @@
 use Rattle.std.proofs.Common.{◌++◌, inl, inr, subst}
 use Rattle.ndarray.specs.Integers.{int_products}
-use Rattle.ndarray.specs.SignedSums.{ProductsApart}
+use Rattle.ndarray.specs.reduce.SignedSums.{ProductsApart}
 use Rattle.ndarray.proofs.sums.InnerSums.{products-ended, products-next}
 use Rattle.ndarray.proofs.reduce.range_tests.add_stepped_products.Goals as goal
 

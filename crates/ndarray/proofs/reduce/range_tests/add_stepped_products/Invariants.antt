@@ -1,6 +1,6 @@
 use Rattle.std.proofs.Common.{◌++◌, length}
 use Rattle.ndarray.specs.Integers.{int_products}
-use Rattle.ndarray.specs.SignedSums.{ProductsApart}
+use Rattle.ndarray.specs.reduce.SignedSums.{ProductsApart}
 use Rattle.ndarray.specs.Products.{products_of}
 use Rattle.ndarray.proofs.reduce.range_tests.add_stepped_products.Given as goal
 

@@ -1,6 +1,6 @@
 use Rattle.std.proofs.Common.{length, map}
-use Rattle.ndarray.specs.NonzeroProducts.{MultipliedSoFar}
-use Rattle.ndarray.specs.Rows.{joined}
+use Rattle.ndarray.specs.reduce.NonzeroProducts.{MultipliedSoFar}
+use Rattle.ndarray.specs.order.Rows.{joined}
 use Rattle.ndarray.proofs.reduce.range_tests.magnitudes_multiplied.Given as goal
 
 abbrev pub invariant-loop-run : goal.invariant-loop-run

@@ -2,9 +2,9 @@ use Rattle.std.proofs.Common.{[], rules, ◌++◌, ◌∙◌, List, ap, arith, f
 use Rattle.std.specs.Prelude.{ℤ}
 use Rattle.ndarray.specs.Grid.{cell}
 use Rattle.ndarray.specs.Integers.{int_products}
-use Rattle.ndarray.specs.SignedSums.{ProductsApart}
+use Rattle.ndarray.specs.reduce.SignedSums.{ProductsApart}
 use Rattle.ndarray.specs.Products.{products_of}
-use Rattle.ndarray.specs.Rows.{HasRows, joined, rows_in}
+use Rattle.ndarray.specs.order.Rows.{HasRows, joined, rows_in}
 use Rattle.ndarray.specs.base.Ranks.{row_from}
 use Rattle.ndarray.specs.declared.base.shape.Order.TheVariants.{RowMajor}
 use Rattle.ndarray.proofs.boxes.RowProducts.{products-by_rows, row_products, rows-next}

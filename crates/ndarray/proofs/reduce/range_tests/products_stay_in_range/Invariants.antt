@@ -1,8 +1,8 @@
 use Rattle.std.proofs.Common.{length, map}
 use Rattle.ndarray.specs.Integers.{int_products}
-use Rattle.ndarray.specs.SignedSums.{ProductsApart}
+use Rattle.ndarray.specs.reduce.SignedSums.{ProductsApart}
 use Rattle.ndarray.specs.Products.{products_of}
-use Rattle.ndarray.specs.Rows.{HasRows, joined}
+use Rattle.ndarray.specs.order.Rows.{HasRows, joined}
 use Rattle.ndarray.proofs.boxes.RowProducts.{row_products}
 use Rattle.ndarray.proofs.reduce.range_tests.products_stay_in_range.Given as goal
 

@@ -2,8 +2,8 @@ use Rattle.std.proofs.Common.{◌∙◌, ap, map, refl, subst}
 use Rattle.std.specs.Prelude.{IsPermutation}
 use Rattle.std.proofs.lemmas.List.{map-append}
 use Rattle.std.proofs.lemmas.List.Sorted.{IsPermutation-map}
-use Rattle.ndarray.specs.Rows.{joined}
-use Rattle.ndarray.specs.SignedSums.{AddedApart}
+use Rattle.ndarray.specs.order.Rows.{joined}
+use Rattle.ndarray.specs.reduce.SignedSums.{AddedApart}
 use Rattle.ndarray.proofs.sums.SignedSums.{AddedApart-rearranged, AddedApart-start}
 use Rattle.ndarray.proofs.reduce.range_tests.signed_sums.Goals as goal
 

@@ -1,6 +1,6 @@
 use Rattle.std.proofs.Common.{length, map}
-use Rattle.ndarray.specs.Rows.{joined}
-use Rattle.ndarray.specs.SignedSums.{AddedApart}
+use Rattle.ndarray.specs.order.Rows.{joined}
+use Rattle.ndarray.specs.reduce.SignedSums.{AddedApart}
 use Rattle.ndarray.proofs.reduce.range_tests.signed_sums.Given as goal
 
 abbrev pub invariant-loop-run : goal.invariant-loop-run

@@ -1,5 +1,5 @@
 use Rattle.std.proofs.Common.{◌++◌, ap, map, subst}
-use Rattle.ndarray.specs.NonzeroProducts.{MultipliedSoFar}
+use Rattle.ndarray.specs.reduce.NonzeroProducts.{MultipliedSoFar}
 use Rattle.ndarray.proofs.sums.NonzeroProducts.{multiplied-excess, multiplied-next}
 use Rattle.ndarray.proofs.reduce.range_tests.times_run.Goals as goal
 

@@ -1,5 +1,5 @@
 use Rattle.std.proofs.Common.{◌++◌, length, map}
-use Rattle.ndarray.specs.NonzeroProducts.{MultipliedSoFar}
+use Rattle.ndarray.specs.reduce.NonzeroProducts.{MultipliedSoFar}
 use Rattle.ndarray.proofs.reduce.range_tests.times_run.Given as goal
 
 abbrev pub invariant-loop-x : goal.invariant-loop-x

@@ -2,8 +2,8 @@ use Rattle.std.proofs.Common.{◌∙◌, ap, map, subst}
 use Rattle.std.specs.Prelude.{IsPermutation}
 use Rattle.std.proofs.lemmas.List.{map-append}
 use Rattle.std.proofs.lemmas.List.Sorted.{IsPermutation-map}
-use Rattle.ndarray.specs.Rows.{joined}
-use Rattle.ndarray.specs.SmallProducts.{LargestSoFar}
+use Rattle.ndarray.specs.order.Rows.{joined}
+use Rattle.ndarray.specs.reduce.SmallProducts.{LargestSoFar}
 use Rattle.ndarray.proofs.sums.SmallProducts.{largest-all, largest-start}
 use Rattle.ndarray.proofs.reduce.small_products.largest_magnitude.Goals as goal
 

@@ -1,6 +1,6 @@
 use Rattle.std.proofs.Common.{length, map}
-use Rattle.ndarray.specs.Rows.{joined}
-use Rattle.ndarray.specs.SmallProducts.{LargestSoFar}
+use Rattle.ndarray.specs.order.Rows.{joined}
+use Rattle.ndarray.specs.reduce.SmallProducts.{LargestSoFar}
 use Rattle.ndarray.proofs.reduce.small_products.largest_magnitude.Given as goal
 
 abbrev pub invariant-loop-run : goal.invariant-loop-run

@@ -1,5 +1,5 @@
 use Rattle.std.proofs.Common.{◌++◌, ap, map, subst}
-use Rattle.ndarray.specs.SmallProducts.{LargestSoFar}
+use Rattle.ndarray.specs.reduce.SmallProducts.{LargestSoFar}
 use Rattle.ndarray.proofs.sums.SmallProducts.{largest-next}
 use Rattle.ndarray.proofs.reduce.small_products.largest_of_run.Goals as goal
 

@@ -1,5 +1,5 @@
 use Rattle.std.proofs.Common.{◌++◌, length, map}
-use Rattle.ndarray.specs.SmallProducts.{LargestSoFar}
+use Rattle.ndarray.specs.reduce.SmallProducts.{LargestSoFar}
 use Rattle.ndarray.proofs.reduce.small_products.largest_of_run.Given as goal
 
 abbrev pub invariant-loop-x : goal.invariant-loop-x

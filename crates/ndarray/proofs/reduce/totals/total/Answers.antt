@@ -1,6 +1,6 @@
 use Rattle.std.proofs.Common.{subst}
 use Rattle.std.specs.Prelude.{IsPermutation}
-use Rattle.ndarray.specs.Rows.{joined}
+use Rattle.ndarray.specs.order.Rows.{joined}
 use Rattle.ndarray.proofs.sums.RunningRuns.{run-in_range, run-next, run-summable, runs-end, runs-start}
 use Rattle.ndarray.proofs.reduce.totals.total.Goals as goal
 

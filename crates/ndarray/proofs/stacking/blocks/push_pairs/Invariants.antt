@@ -2,7 +2,7 @@
 use Rattle.std.proofs.Common.{◌≡◌, ◌<◌, [], ◌∷◌, All, length}
 use Rattle.std.specs.Prelude.{flat_map}
 use Rattle.ndarray.specs.Index.{InBox}
-use Rattle.ndarray.specs.Rows.{joined}
+use Rattle.ndarray.specs.order.Rows.{joined}
 use Rattle.ndarray.specs.base.Builder.{pushed_all}
 use Rattle.ndarray.specs.stacking.Blocks.{all_blocks, blocks_at}
 use Rattle.ndarray.proofs.stacking.blocks.push_pairs.Given as goal

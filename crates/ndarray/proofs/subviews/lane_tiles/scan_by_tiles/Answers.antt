@@ -1,6 +1,6 @@
 use Rattle.std.proofs.Common.{◌∙◌, ◌<◌, min, length, get_or, set, ap, subst, sym}
 use Rattle.ndarray.specs.Limits.{IsWithinLimit}
-use Rattle.ndarray.specs.Rows.{rows_in}
+use Rattle.ndarray.specs.order.Rows.{rows_in}
 use Rattle.ndarray.specs.Scans.{can_step, step_gives}
 use Rattle.ndarray.proofs.cells.RowScans.{Rows-start, Rows-on, Rows-callable, Rows-next, Rows-end}
 use Rattle.ndarray.proofs.cells.Scans.{at-most, at-most-one, is-one, set-smaller}

@@ -1,6 +1,6 @@
 use Rattle.std.proofs.Common.{append-nil, refl, sym, subst}
 use Rattle.ndarray.specs.Orders.{box_in}
-use Rattle.ndarray.specs.Rows.{rows_in}
+use Rattle.ndarray.specs.order.Rows.{rows_in}
 use Rattle.ndarray.specs.Runs.{MayTurnAt, TurnAt, TakesAt, StopsAt, EndsOrStops}
 use Rattle.ndarray.proofs.boxes.Rows.{rows-joined}
 use Rattle.ndarray.proofs.runs.Rows.{RowsInTurn-once}

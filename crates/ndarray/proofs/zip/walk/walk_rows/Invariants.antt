@@ -1,5 +1,5 @@
 use Rattle.std.proofs.Common.{List, ℕ}
-use Rattle.ndarray.specs.Rows.{RowsInTurn, joined}
+use Rattle.ndarray.specs.order.Rows.{RowsInTurn, joined}
 use Rattle.ndarray.proofs.runs.Rows.{RowsReached}
 use Rattle.ndarray.proofs.zip.walk.walk_rows.Given as goal
 

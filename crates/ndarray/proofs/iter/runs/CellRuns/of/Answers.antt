@@ -1,7 +1,7 @@
 use Rattle.std.proofs.Common.{◌≡◌, ◌∙◌, ap, filter_map, map, subst, sym}
 use Rattle.std.specs.Prelude.{IsPermutation}
 use Rattle.ndarray.specs.Grid.{cell}
-use Rattle.ndarray.specs.Rows.{HasRows, joined, rows_in}
+use Rattle.ndarray.specs.order.Rows.{HasRows, joined, rows_in}
 use Rattle.ndarray.specs.declared.base.shape.Order.TheVariants.{RowMajor}
 use Rattle.ndarray.proofs.cells.CellRows.{cells-by_rows}
 use Rattle.ndarray.proofs.runs.Rows.{HasRows-rows_in}

@@ -1,5 +1,5 @@
 use Rattle.std.proofs.Common.{◌≡◌, ◌∙◌, ◌*◌, ap, arith, length, sym}
-use Rattle.ndarray.specs.Rows.{joined}
+use Rattle.ndarray.specs.order.Rows.{joined}
 use Rattle.ndarray.proofs.strides.IndexedRows.{length-rows}
 use Rattle.ndarray.proofs.order.rows.BoxRows.len.Goals as goal
 use Rattle.ndarray.proofs.order.rows.BoxRows.len.Goals.{After-len}

@@ -1,6 +1,6 @@
 use Rattle.std.proofs.Common.{sym, ap, subst, ◌∙◌, set}
 use Rattle.ndarray.specs.Limits.{IsWithinLimit}
-use Rattle.ndarray.specs.Rows.{one_if_some}
+use Rattle.ndarray.specs.order.Rows.{one_if_some}
 use Rattle.ndarray.proofs.boxes.Rows.{firsts-limit}
 use Rattle.ndarray.proofs.order.rows.BoxRows.new.Goals as goal
 

@@ -1,6 +1,6 @@
 use Rattle.std.proofs.Common.{◌≡◌, ◌∙◌, ◌<◌, ℕ, List, All, ap, arith, length, subst, sym}
 use Rattle.ndarray.specs.Index.{InBox}
-use Rattle.ndarray.specs.Rows.{joined, rows_in}
+use Rattle.ndarray.specs.order.Rows.{joined, rows_in}
 use Rattle.ndarray.specs.places.ElementPlaces.{with_places}
 use Rattle.ndarray.proofs.boxes.Orders.{length-box_in}
 use Rattle.ndarray.proofs.boxes.Rows.{rows-joined, rows-within}

@@ -1,7 +1,7 @@
 use Rattle.std.proofs.Common.{◌≡◌, ◌∙◌, ap, map, subst, sym}
 use Rattle.std.specs.Prelude.{filter_map}
 use Rattle.ndarray.specs.Grid.{IsGrid, cell}
-use Rattle.ndarray.specs.Rows.{rows_in}
+use Rattle.ndarray.specs.order.Rows.{rows_in}
 use Rattle.ndarray.specs.base.Masks.{grids_at}
 use Rattle.ndarray.specs.base.Pieces.{ShareRows, piece_layouts}
 use Rattle.ndarray.specs.base.Slots.{held_at}

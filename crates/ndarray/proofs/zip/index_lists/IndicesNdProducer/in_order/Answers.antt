@@ -1,6 +1,6 @@
 use Rattle.std.proofs.Common.{ap, ◌∙◌, map, filter_map}
 use Rattle.ndarray.specs.Grid.{cell}
-use Rattle.ndarray.specs.Rows.{rows_in}
+use Rattle.ndarray.specs.order.Rows.{rows_in}
 use Rattle.ndarray.proofs.runs.SameRows.{HasRows-same}
 use Rattle.ndarray.proofs.zip.index_lists.IndicesNdProducer.in_order.Goals as goal
 

@@ -1,7 +1,7 @@
 use Rattle.std.proofs.Common.{subst, ◌<◌, length}
 use Rattle.ndarray.specs.Grid.{HasCells}
 use Rattle.std.proofs.lemmas.List.Elements.{All-tail}
-use Rattle.ndarray.specs.Rows.{HasRows}
+use Rattle.ndarray.specs.order.Rows.{HasRows}
 use Rattle.ndarray.specs.base.Ranks.{row_from}
 use Rattle.ndarray.proofs.zip.index_lists.PatternRowsIterator.next.Goals as goal
 

@@ -1,6 +1,6 @@
 use Rattle.std.proofs.Common.{◌≡◌, ◌<◌, ◌∙◌, ap, length, map, subst, sym}
 use Rattle.std.specs.Prelude.{All}
-use Rattle.ndarray.specs.Rows.{rows_in}
+use Rattle.ndarray.specs.order.Rows.{rows_in}
 use Rattle.ndarray.specs.places.ElementPlaces.{places_along}
 use Rattle.ndarray.proofs.moving.RowPlaces.{rows-as_many}
 use Rattle.ndarray.proofs.runs.Rows.{RowsInTurn-map}

@@ -1,5 +1,5 @@
 use Rattle.std.proofs.Common.{ap}
-use Rattle.ndarray.specs.Rows.{rows_in}
+use Rattle.ndarray.specs.order.Rows.{rows_in}
 use Rattle.ndarray.proofs.runs.Rows.{RowsInTurn-pairs}
 use Rattle.ndarray.proofs.zip.pair.PairNdProducer.rows.Goals as goal
 

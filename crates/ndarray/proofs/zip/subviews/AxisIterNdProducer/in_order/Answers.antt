@@ -1,5 +1,5 @@
 use Rattle.std.proofs.Common.{◌∙◌, ap, length}
-use Rattle.ndarray.specs.Rows.{some_unless_none}
+use Rattle.ndarray.specs.order.Rows.{some_unless_none}
 use Rattle.ndarray.proofs.runs.Rows.{RowsInTurn-one}
 use Rattle.ndarray.proofs.zip.subviews.AxisIterNdProducer.in_order.Goals as goal
 

@@ -1,6 +1,6 @@
 use Rattle.std.proofs.Common.{◌≡◌, ◌∷◌, [], ◌∙◌, ap, length, sym}
 use Rattle.ndarray.specs.Index.{size}
-use Rattle.ndarray.specs.Rows.{some_unless_none}
+use Rattle.ndarray.specs.order.Rows.{some_unless_none}
 use Rattle.ndarray.proofs.runs.Rows.{RowsInTurn-one}
 use Rattle.ndarray.proofs.zip.subviews.AxisWindowsNdProducer.in_order.Goals as goal
 

@@ -1,6 +1,6 @@
 use Rattle.std.proofs.Common.{◌∙◌, ap, length, map}
 use Rattle.std.specs.Iterator.Adapters.{repeat_n_count}
-use Rattle.ndarray.specs.Rows.{rows_in}
+use Rattle.ndarray.specs.order.Rows.{rows_in}
 use Rattle.ndarray.proofs.runs.Rows.{RowsInTurn-map}
 use Rattle.ndarray.proofs.zip.units.UnitsNdProducer.rows.Goals as goal
 

@@ -1,7 +1,7 @@
 use Rattle.std.proofs.Common.{◌≡◌, ap, sym, subst, ◌∙◌, map, filter_map}
 use Rattle.ndarray.specs.Grid.{cell}
-use Rattle.ndarray.specs.RowCells.{row_cells}
-use Rattle.ndarray.specs.Rows.{rows_in, HasRows}
+use Rattle.ndarray.specs.zip.RowCells.{row_cells}
+use Rattle.ndarray.specs.order.Rows.{rows_in, HasRows}
 use Rattle.ndarray.proofs.runs.Rows.{HasRows-rows_in, RowsInTurn-cells}
 use Rattle.ndarray.proofs.zip.views.ArrayViewNdProducer.rows.Goals as goal
 

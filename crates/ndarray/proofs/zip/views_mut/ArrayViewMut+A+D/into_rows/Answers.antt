@@ -1,7 +1,7 @@
 use Rattle.std.proofs.Common.{◌≡◌, ◌∙◌, ap, map, subst, sym}
 use Rattle.std.specs.Prelude.{filter_map}
 use Rattle.ndarray.specs.Grid.{cell}
-use Rattle.ndarray.specs.Rows.{rows_in}
+use Rattle.ndarray.specs.order.Rows.{rows_in}
 use Rattle.ndarray.specs.base.Slots.{held_at}
 use Rattle.ndarray.specs.places.ElementPlaces.{places_along, HaveRows}
 use Rattle.ndarray.proofs.moving.RowPlaces.{HaveRows-all, rows-found}

@@ -1,5 +1,5 @@
 use Rattle.std.proofs.Common.{◌∙◌, sym, ap}
-use Rattle.ndarray.specs.RowCells.{row_cells_mut}
+use Rattle.ndarray.specs.zip.RowCells.{row_cells_mut}
 use Rattle.ndarray.proofs.runs.Rows.{YieldsInTurn-row_slice_mut}
 use Rattle.ndarray.proofs.zip.views_mut.ArrayViewMutNdProducer.flat_row.Goals as goal
 

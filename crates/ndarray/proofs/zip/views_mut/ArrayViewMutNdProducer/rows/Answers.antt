@@ -3,8 +3,8 @@ use Rattle.std.specs.Prelude.{filter_map}
 use Rattle.ndarray.specs.Grid.{cell}
 use Rattle.ndarray.specs.Index.{size}
 use Rattle.ndarray.specs.Orders.{cells_in}
-use Rattle.ndarray.specs.RowCells.{row_cells_mut}
-use Rattle.ndarray.specs.Rows.{rows_in}
+use Rattle.ndarray.specs.zip.RowCells.{row_cells_mut}
+use Rattle.ndarray.specs.order.Rows.{rows_in}
 use Rattle.ndarray.proofs.cells.CellsInOrder.{cells_in-known, length-cells_in}
 use Rattle.ndarray.proofs.runs.Rows.{RowsInTurn-cells}
 use Rattle.ndarray.proofs.zip.views_mut.ArrayViewMutNdProducer.rows.Goals as goal

@@ -1,5 +1,5 @@
 use Rattle.std.proofs.Common.{◌∙◌, sym}
-use Rattle.ndarray.specs.Rows.{joined}
+use Rattle.ndarray.specs.order.Rows.{joined}
 use Rattle.ndarray.specs.base.Slots.{held_at}
 use Rattle.ndarray.specs.base.Strided.{places_from}
 use Rattle.ndarray.specs.places.ElementPlaces.{places_along}

@@ -1,0 +1,2 @@
+-- What only `conv` speaks of.
+pub mod WindowSums

@@ -1,0 +1,2 @@
+-- What only `zip` speaks of.
+pub mod RowCells
