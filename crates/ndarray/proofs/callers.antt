@@ -13,6 +13,7 @@ pub mod Joining
 pub mod Lanes
 pub mod Mapping
 pub mod MatrixPowers
+pub mod Maxima
 pub mod PartialFolds
 pub mod ProductChains
 pub mod Products

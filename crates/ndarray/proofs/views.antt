@@ -8,3 +8,4 @@ pub mod OwnLengths
 pub mod SameCells
 pub mod Slices
 pub mod Swaps
+pub mod WholeItems

@@ -1,4 +1,3 @@
 mod Grants
 mod MadeTriangles
-mod Maxima
 pub mod PairedProducts

@@ -1,7 +1,7 @@
 -- The two orders of a box: their length, what stands at each place, and that they meet their descriptions.
 use Rattle.std.proofs.Common.{◌≡◌, ℕ, ◌+◌, ◌*◌, ◌/◌, ◌%◌, ◌<◌, ◌≤◌, suc, zero, List, [], ◌∷◌, ◌++◌, length, map, replicate, reverse, get_or, inl, inr, refl, sym, ◌∙◌, ap, arith, subst}
 use Rattle.std.specs.Prelude.{flat_map, All}
-use Rattle.std.specs.List.{range_with_len}
+use Rattle.std.specs.List.{Contains, range_with_len}
 use Rattle.std.proofs.lemmas.List.{get_or_append_left, get_or-append-add, length-append, length-map, length-reverse, get_or-map, get_or_default, reverse-reverse}
 use Rattle.std.proofs.Math.Nat.{mul-le-mul_left, div-lt_iff_lt-mul}
 use Rattle.std.proofs.lemmas.Nat.{div-add-mod'}
@@ -218,6 +218,11 @@ box_in-is ColumnMajor ns = column_order-is ns
 pub box_in-within : (o : Order) (ns : List ℕ) → All (InBox ns) (box_in o ns)
 box_in-within RowMajor ns = (row_order-is ns).within
 box_in-within ColumnMajor ns = (column_order-is ns).within
+
+-- each index list of the box is among its index lists, in either order
+pub box-contains : (o : Order) (ns is : List ℕ) → InBox ns is → Contains (box_in o ns) is
+box-contains RowMajor ns is h = (row_order-is ns).whole is h
+box-contains ColumnMajor ns is h = (column_order-is ns).whole is h
 
 pub IsBefore-not_itself : (is : List ℕ) → IsBefore is is → ⊥
 IsBefore-not_itself [] h = h

@@ -3,6 +3,12 @@
 -- In the box there is a cell, and an index list with a cell is in the box. Two arrays of the same lengths and cells are equal; an array is the one that is
 -- tabulated by its cells, and has at each index list what it was tabulated by.
 pub use Rattle.ndarray.proofs.cells.Cells.{cell-Some, cell-inside, same_grid, tabulate-cell, tabulate-is}
+-- What is made of a function of the index list is whole, and has at each index list what the function gives; items along an axis are whole.
+pub use Rattle.ndarray.proofs.cells.Cells.{array_by-cell, array_by-whole}
+pub use Rattle.ndarray.proofs.algebra.Stacks.{tabulate-whole}
+pub use Rattle.ndarray.proofs.views.WholeItems.{item-whole}
+-- An array that is transposed twice is the array.
+pub use Rattle.ndarray.proofs.cells.CellsInOrder.{transpose_of-transpose_of, transpose_of-whole}
 -- The cells along an order of the box, and along a list of index lists without its first.
 pub use Rattle.ndarray.proofs.cells.Cells.{HasCells-first, along-first, cells_in-HasInOrder}
 -- the element beside the k-th of index lists that increase is the k-th

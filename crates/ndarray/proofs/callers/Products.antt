@@ -1,13 +1,18 @@
 -- Products of a matrix with a vector or a matrix, from what is known of each row, and of the vector or each column.
-use Rattle.std.proofs.Common.{◌≡◌, ℕ, ◌<◌, ap, get_or, length, refl, subst, sym}
-use Rattle.ndarray.specs.Grid.{Grid, IsGrid}
+use Rattle.std.proofs.Common.{◌≡◌, ◌∙◌, ◌∷◌, [], ℕ, List, ◌<◌, Some, ap, arith, get_or, length, lit<, refl, subst, sym}
+use Rattle.ndarray.specs.Chains.{HasColumn, HasMatrix}
+use Rattle.ndarray.specs.Grid.{Grid, IsGrid, cell}
+use Rattle.ndarray.specs.Index.{InBox}
 use Rattle.ndarray.specs.Matrices.{inner_products}
 use Rattle.ndarray.specs.Products.{HasSumsInRange, column_of, matrix_of, product_of, products_of}
 use Rattle.ndarray.specs.Sums.{IsSummable, total}
 use Rattle.ndarray.specs.Views.{axis_item}
 use Rattle.ndarray.specs.declared.elements.Valued.{Ghosts as ValuedGhosts}
+use Rattle.ndarray.proofs.boxes.Boxes.{InBox-get}
+use Rattle.ndarray.proofs.cells.Cells.{cell-inside}
 use Rattle.ndarray.proofs.cells.Matrices.{column-values, row-values, vector-values}
 use Rattle.ndarray.proofs.sums.InnerSums.{lists-meet}
+use Rattle.ndarray.proofs.views.WholeItems.{item-whole}
 -- A list of one length and a list of two are their elements; two functions that agree below n have the same values below n.
 pub use Rattle.ndarray.proofs.cells.Matrices.{below-same, one-length, two-lengths}
 -- What `dot` requires of the shapes of vectors and matrices; where one side is a vector, no limit.
@@ -33,6 +38,14 @@ module _ {A : Type 0} (e : ValuedGhosts A) (g h : Grid A) (two : length g.length
       (vector-values e.meaning e.addition.unit h whole one) inner in
       sym (ap (total e.addition) meet.0)
 
+  -- the value of each cell of an array that has the product's values is the inner sum of its row and the vector
+  pub column-cells : IsGrid g → (r : Grid A) → HasColumn e (product_of e (matrix_of e g) (column_of e h)) r → (is : List ℕ) (z : A) → cell r is ≡ Some z
+      → e.meaning z ≡ total e.addition (products_of e.multiplication e.meaning (axis_item g 0 (get_or is 0 0)).cells h.cells)
+  column-cells g_whole r made is z there =
+      let rows = get_or g.lengths 0 0 ∷ [] in
+      let below : get_or is 0 0 < get_or g.lengths 0 0 = InBox-get rows is 0 (subst (λ ns. InBox ns is) made.lengths (cell-inside r is z there)) (lit< tt) in
+      made.cells is z there ∙ row-product (get_or is 0 0) (item-whole g g_whole 0 (get_or is 0 0) (omega (arith, two)) below)
+
 -- Two matrices, whose inner lengths are equal.
 module _ {A : Type 0} (e : ValuedGhosts A) (g h : Grid A) (two : length g.lengths ≡ 2) (both : length h.lengths ≡ 2) (inner : get_or g.lengths 1 0 ≡ get_or h.lengths 0 0) where
   -- what `dot` requires at row i and column j, where that of the two as vectors is known
@@ -52,3 +65,13 @@ module _ {A : Type 0} (e : ValuedGhosts A) (g h : Grid A) (two : length g.length
       (row-values e.meaning e.addition.unit g (axis_item g 0 i) two row_whole i refl)
       (column-values e.meaning e.addition.unit h (axis_item h 1 j) both column_whole j refl) inner in
       sym (ap (total e.addition) meet.0)
+
+  -- the value of each cell of an array that has the product's values is the inner sum of its row and its column
+  pub matrix-cells : IsGrid g → IsGrid h → (r : Grid A) → HasMatrix e (product_of e (matrix_of e g) (matrix_of e h)) r → (is : List ℕ) (z : A) → cell r is ≡ Some z
+      → e.meaning z ≡ total e.addition (products_of e.multiplication e.meaning (axis_item g 0 (get_or is 0 0)).cells (axis_item h 1 (get_or is 1 0)).cells)
+  matrix-cells g_whole h_whole r made is z there =
+      let inside : InBox (get_or g.lengths 0 0 ∷ get_or h.lengths 1 0 ∷ []) is = subst (λ ns. InBox ns is) made.lengths (cell-inside r is z there) in
+      let row : get_or is 0 0 < get_or g.lengths 0 0 = InBox-get (get_or g.lengths 0 0 ∷ get_or h.lengths 1 0 ∷ []) is 0 inside (lit< tt) in
+      let column : get_or is 1 0 < get_or h.lengths 1 0 = InBox-get (get_or g.lengths 0 0 ∷ get_or h.lengths 1 0 ∷ []) is 1 inside (lit< tt) in
+      made.cells is z there
+      ∙ entry-product (get_or is 0 0) (get_or is 1 0) (item-whole g g_whole 0 (get_or is 0 0) (omega (arith, two)) row) (item-whole h h_whole 1 (get_or is 1 0) (omega (arith, both)) column)

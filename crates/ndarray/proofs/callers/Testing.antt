@@ -10,8 +10,8 @@ use Rattle.ndarray.specs.Index.{InBox}
 use Rattle.ndarray.specs.Orders.{box_in}
 use Rattle.ndarray.specs.Runs.{AnswerTurn, MayTest, RunsUntil, TakesAt, TurnAt}
 use Rattle.ndarray.specs.declared.base.shape.Order.{Order}
-use Rattle.ndarray.proofs.boxes.Orders.{box_in-within}
-use Rattle.ndarray.proofs.callers.Collecting.{All-middle, box-contains}
+use Rattle.ndarray.proofs.boxes.Orders.{box-contains, box_in-within}
+use Rattle.ndarray.proofs.callers.Collecting.{All-middle}
 use Rattle.ndarray.proofs.callers.Folding.{may-by}
 use Rattle.ndarray.proofs.cells.Cells.{cell-inside}
 use Rattle.ndarray.proofs.lists.Elements.{All-from_recursion}

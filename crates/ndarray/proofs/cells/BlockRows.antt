@@ -1,5 +1,5 @@
 -- The rows of a Kronecker product, from those of its two matrices.
-use Rattle.std.proofs.Common.{◌≡◌, ◌∙◌, ℕ, ◌+◌, ◌*◌, ◌/◌, ◌%◌, ◌<◌, List, [], ◌∷◌, All, ap, arith, get_or, insert, length, map, refl, remove, subst, sym}
+use Rattle.std.proofs.Common.{◌≡◌, ◌∙◌, ℕ, ◌+◌, ◌*◌, ◌/◌, ◌%◌, ◌<◌, List, [], ◌∷◌, All, ap, arith, get_or, length, map, refl, subst, sym}
 use Rattle.std.specs.Prelude.{flat_map}
 use Rattle.std.specs.List.{range_with_len}
 use Rattle.std.proofs.lemmas.List.Elements.{All-map}
@@ -14,15 +14,13 @@ use Rattle.ndarray.specs.Products.{HasProductsInRange, matrix_entries, matrix_of
 use Rattle.ndarray.specs.Subviews.{axis_items}
 use Rattle.ndarray.specs.Views.{axis_item}
 use Rattle.ndarray.specs.declared.elements.Valued.{Ghosts as ValuedGhosts}
-use Rattle.ndarray.proofs.algebra.Stacks.{tabulate-whole}
 use Rattle.ndarray.proofs.boxes.Orders.{row_order-one}
-use Rattle.ndarray.proofs.cells.Cells.{cell-Some}
 use Rattle.ndarray.proofs.cells.Matrices.{row-values}
 use Rattle.ndarray.proofs.sums.RowSums.{map-range-below}
 use Rattle.ndarray.proofs.lists.Elements.{map-same, mapped-all}
 use Rattle.ndarray.proofs.lists.FlatMaps.{flat_map-same, map-flat_map}
 use Rattle.ndarray.proofs.lists.Ranges.{All-range, flat_map-blocks, flat_map-range, map-blocks}
-use Rattle.ndarray.proofs.views.Items.{InBox-insert}
+use Rattle.ndarray.proofs.views.WholeItems.{item-whole}
 
 -- what is listed at the index lists of two axes, row by row
 entries-in_row_order : {C : Type 0} (f : List ℕ → C) (p q : ℕ) → map f (row_order (p ∷ q ∷ [])) ≡ flat_map (λ i. map (λ j. f (i ∷ j ∷ [])) (range_with_len 0 q)) (range_with_len 0 p)
@@ -51,12 +49,9 @@ module _ {A : Type 0} (e : ValuedGhosts A) where
       ∙ flat_map-same _ _ (λ j. ap (map (e.multiplication.op (f j))) right ∙ map-map (e.multiplication.op (f j)) h (range_with_len 0 r)) (range_with_len 0 n))))
 
   module _ (g : Grid A) (two : length g.lengths ≡ 2) (whole : IsGrid g) where
-    item-whole : (i : ℕ) → i < get_or g.lengths 0 0 → IsGrid (axis_item g 0 i)
-    item-whole i lt = tabulate-whole (remove g.lengths 0) (λ is. cell g (insert is 0 i)) (λ is b. cell-Some g whole (insert is 0 i) (InBox-insert g.lengths is 0 i (omega (arith, two)) lt b))
-
     -- the values of a row
     row-range : (i : ℕ) → i < get_or g.lengths 0 0 → map e.meaning (axis_item g 0 i).cells ≡ map (λ j. value_at e g (i ∷ j ∷ [])) (range_with_len 0 (get_or g.lengths 1 0))
-    row-range i lt = row-values e.meaning e.addition.unit g (axis_item g 0 i) two (item-whole i lt) i refl ∙ sym (map-range-below (λ j. value_at e g (i ∷ j ∷ [])) (get_or g.lengths 1 0))
+    row-range i lt = row-values e.meaning e.addition.unit g (axis_item g 0 i) two (item-whole g whole 0 i (omega (arith, two)) lt) i refl ∙ sym (map-range-below (λ j. value_at e g (i ∷ j ∷ [])) (get_or g.lengths 1 0))
 
   module _ (a b : Grid A) (two_a : length a.lengths ≡ 2) (two_b : length b.lengths ≡ 2) (whole_a : IsGrid a) (whole_b : IsGrid b) where
     abbrev product : Matrix e.Carrier

@@ -52,7 +52,7 @@ module _ {A : Type 0} (gives : A → A → A → Type 0) (k : ℕ) (g : Grid A) 
     lengths = c.lengths ∙ same;
     whole = whole;
     cells = λ is z e.
-        let i = Collects-at yields_at call_gives (λ _. ⊤) (λ f x r h n s. tt) o ns f r tt c is (subst (λ ms. InBox ms is) c.lengths (cell-inside r is z e)) z e in
+        let i = Collects-at yields_at call_gives (λ _. ⊤) ns (λ i f x r h b y n s. tt) o f r tt c is (subst (λ ms. InBox ms is) c.lengths (cell-inside r is z e)) z e in
         (later_of i.item, earlier_of i.item, (at is i.item i.yielded).0, (at is i.item i.yielded).1, each i.before i.item z i.after i.given);
   }
 

@@ -21,7 +21,7 @@ module _ {F X R : Type 0} (yields_at : List ℕ → X → Type 0) (call_gives : 
     lengths = c.lengths ∙ same;
     whole = whole;
     cells = λ is z e.
-        let k = Collects-at yields_at call_gives Known keeps o ns f r known c is (subst (λ ms. InBox ms is) c.lengths (cell-inside r is z e)) z e in
+        let k = Collects-at yields_at call_gives Known ns (λ i p x z h b y. keeps p x z h) o f r known c is (subst (λ ms. InBox ms is) c.lengths (cell-inside r is z e)) z e in
         (cell_of k.item, at is k.item k.yielded, each k.before k.item z k.after k.known k.given);
   }
 
@@ -34,7 +34,7 @@ module _ {F X R : Type 0} (yields_at : List ℕ → X → Type 0) (call_gives : 
     lengths = c.lengths ∙ same;
     whole = whole;
     cells = λ is z e.
-        let k = Collects-at yields_at call_gives Known keeps o ns f r known c is (subst (λ ms. InBox ms is) c.lengths (cell-inside r is z e)) z e in
+        let k = Collects-at yields_at call_gives Known ns (λ i p x z h b y. keeps p x z h) o f r known c is (subst (λ ms. InBox ms is) c.lengths (cell-inside r is z e)) z e in
         (left_of k.item, right_of k.item, at is k.item k.yielded, each k.before k.item z k.after k.known k.given);
   }
 
@@ -47,7 +47,7 @@ module _ {F X R : Type 0} (yields_at : List ℕ → X → Type 0) (call_gives : 
     lengths = c.lengths ∙ same;
     whole = whole;
     cells = λ is z e.
-        let k = Collects-at yields_at call_gives Known keeps o ns f r known c is (subst (λ ms. InBox ms is) c.lengths (cell-inside r is z e)) z e in
+        let k = Collects-at yields_at call_gives Known ns (λ i p x z h b y. keeps p x z h) o f r known c is (subst (λ ms. InBox ms is) c.lengths (cell-inside r is z e)) z e in
         (left_of k.item, right_of k.item, at is k.item k.yielded, each k.before k.item z k.after k.known k.given);
   }
 

@@ -55,7 +55,7 @@ returns g c =
             whole = whole;
             cells = λ is z e.
                 let b = subst (λ ms. InBox ms is) ran.lengths (cell-inside r is z e) in
-                let k = Collects-at _ _ (λ f. f.0 ≡ m) (λ f x z h n k. ap (λ f. f.0) k.1 ∙ n) o _ _ r c.view.ensures.same ran is b z e in
+                let k = Collects-at _ _ (λ f. f.0 ≡ m) _ (λ i f x z h b y n k. ap (λ f. f.0) k.1 ∙ n) o _ r c.view.ensures.same ran is b z e in
                 let at = array_by-at _ at_window c.windows-windows.result is k.item is_windows b k.yielded in
                 k.given.0
                 ∙ (ap (λ w. total v.addition (products_of v.multiplication v.meaning k.item.cells w.cells)) k.known

@@ -28,7 +28,7 @@ returns-clause-made g c =
       whole = whole;
       cells = λ is z e.
           let b = subst (λ ms. InBox ms is) ran.lengths (cell-inside r is z e) in
-          let k = Collects-at _ _ (λ f. f.0 ≡ c.args.entries) (λ f x z h n k. ap (λ f. f.0) k.1 ∙ n) o _ _ r refl ran is b z e in
+          let k = Collects-at _ _ (λ f. f.0 ≡ c.args.entries) _ (λ i f x z h b y n k. ap (λ f. f.0) k.1 ∙ n) o _ r refl ran is b z e in
           (k.item, array_by-at _ (λ js. js) c.of.result is _ c.of.ensures b k.yielded, subst (λ f. g.C.Entries.computes f k.item z) k.known k.given.0);
     })
     c.collect_in_either_order.ensures.ran c.collect_in_either_order.ensures.whole

@@ -25,8 +25,8 @@ returns g c =
       whole = whole;
       cells = λ is z e.
           let b = subst (λ ms. InBox ms is) ran.lengths (cell-inside c.try_update.new.array is z e) in
-          let k = Collects-at _ _ (λ f. (f.sums ≡ c.args.sums) × (f.alpha ≡ c.args.alpha) × (f.beta ≡ c.args.beta))
-          (λ f x z h n k. (ap (λ f. f.sums) k.1 ∙ n.0, ap (λ f. f.alpha) k.1 ∙ n.1, ap (λ f. f.beta) k.1 ∙ n.2)) o _ _ c.try_update.new.array (refl, refl, refl) ran is b z e in
+          let k = Collects-at _ _ (λ f. (f.sums ≡ c.args.sums) × (f.alpha ≡ c.args.alpha) × (f.beta ≡ c.args.beta)) _
+          (λ i f x z h b y n k. (ap (λ f. f.sums) k.1 ∙ n.0, ap (λ f. f.alpha) k.1 ∙ n.1, ap (λ f. f.beta) k.1 ∙ n.2)) o _ c.try_update.new.array (refl, refl, refl) ran is b z e in
           let (s, computed, added) = k.given.0 in
           let there = k.yielded in (
             k.item.0,

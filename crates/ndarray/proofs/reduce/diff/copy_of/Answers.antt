@@ -14,6 +14,6 @@ returns-clause-same g c =
     (λ r ran whole. same_grid r c.args.array.now whole (subst (λ v. IsGrid v) same c.view.ensures.whole) (ran.1.lengths ∙ ap (λ v. v.lengths) same)
     (λ is b.
     let (z, e) = cell-Some r whole is b in
-    let k = Collects-at _ _ (λ _. ⊤) (λ f x z h n s. tt) ran.0 _ _ r tt ran.1 is (subst (λ ns. InBox ns is) ran.1.lengths b) z e in
+    let k = Collects-at _ _ (λ _. ⊤) _ (λ i f x z h b y n s. tt) ran.0 _ r tt ran.1 is (subst (λ ns. InBox ns is) ran.1.lengths b) z e in
     e ∙ (ap Some k.given ∙ sym (ap (λ v. cell v is) (sym same) ∙ k.yielded))))
     c.collect_in_either_order.ensures.ran c.collect_in_either_order.ensures.whole

@@ -8,7 +8,7 @@ use Rattle.ndarray.proofs.callers.Windows.{window-whole}
 use Rattle.ndarray.proofs.cells.Cells.{array_by-whole, cell-inside}
 use Rattle.ndarray_bench.specs.Callers.{greatest_in_square}
 use Rattle.ndarray_bench.specs.Filters.{AreLocalMaxima, square}
-use Rattle.ndarray_bench.proofs.Maxima.{greatest-bounds, greatest-reached}
+use Rattle.ndarray.proofs.callers.Maxima.{greatest-bounds, greatest-reached}
 use Rattle.ndarray_bench.proofs.callers.filters.local_maxima.Goals as goal
 
 abbrev counts : Grid ℕ → List ℕ
