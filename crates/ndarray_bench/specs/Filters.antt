@@ -1,5 +1,5 @@
 -- Filters of a signal of residues, and of a table.
-use Rattle.std.specs.Prelude.{◌≡◌, ◌≤◌, ℕ, List, [], ◌∷◌, Some}
+use Rattle.std.specs.Prelude.{◌≡◌, ◌≤◌, ◌↔◌, ℕ, ℤ, pos, Bool, List, [], ◌∷◌, Some, IsTrue}
 use Rattle.ndarray.specs.Convolution.{filtered, full_convolution}
 use Rattle.ndarray.specs.Grid.{Grid, IsGrid, cell}
 use Rattle.ndarray.specs.Subviews.{window, window_counts}
@@ -22,3 +22,13 @@ pub record AreLocalMaxima (table r : Grid ℕ) : Type 0 where
   pub whole : IsGrid r
   pub bounds : (is js : List ℕ) (x y : ℕ) → cell r is ≡ Some x → cell (square table is) js ≡ Some y → y ≤ x
   pub reached : (is : List ℕ) (x : ℕ) → cell r is ≡ Some x → (js : List ℕ) × (cell (square table is) js ≡ Some x)
+
+-- each cell of an array is zero
+abbrev pub IsZero : Grid ℤ → Type 0
+IsZero g = (js : List ℕ) (x : ℤ) → cell g js ≡ Some x → x ≡ pos 0
+
+-- an array has for each position of a window of so many rows and columns whether each cell of the window is zero
+pub record AreZeroTests (rows columns : ℕ) (table : Grid ℤ) (r : Grid Bool) : Type 0 where
+  pub lengths : r.lengths ≡ window_counts table.lengths (rows ∷ columns ∷ []) (1 ∷ 1 ∷ [])
+  pub whole : IsGrid r
+  pub tests : (is : List ℕ) (b : Bool) → cell r is ≡ Some b → IsTrue b ↔ IsZero (window table (rows ∷ columns ∷ []) (1 ∷ 1 ∷ []) is)

@@ -2,8 +2,11 @@
 use Rattle.std.specs.Prelude.{◌≡◌, ℕ, zero, suc, ℤ, pos, ◌*ℤ◌, ◌≤◌, List, [], ◌∷◌, slice_index, FitsSigned}
 use Rattle.std.specs.Int.{int_shr, w64}
 use Rattle.ndarray.specs.Grid.{Grid, cell}
+use Rattle.ndarray.specs.Integers.{int_products, int_sums}
 use Rattle.ndarray.specs.Matrices.{Matrix}
-use Rattle.ndarray.specs.Products.{ShapesMultiply, column_of, matrix_of, product_of}
+use Rattle.ndarray.specs.Products.{ShapesMultiply, column_of, matrix_of, product_of, products_of}
+use Rattle.ndarray.specs.Sums.{total}
+use Rattle.ndarray.specs.Views.{axis_item}
 use Rattle.ndarray.specs.WholeValues.{HasMagnitudesInRange, whole_numbers}
 use Rattle.ndarray.specs.declared.elements.Valued.{Ghosts as ValuedGhosts}
 use Rattle.ndarray_bench.specs.Callers.{whole_number}
@@ -25,6 +28,10 @@ amplified_at gain bits signal is = int_shr (whole_number (cell signal is) *ℤ g
 -- the elements of type i64, whose values are the whole numbers
 abbrev pub whole_i64 : ValuedGhosts ℤ
 whole_i64 = whole_numbers (λ x. x) (FitsSigned w64)
+
+-- the products of the numbers of a row of a table and those of a vector, added up
+abbrev pub projected_at : Grid ℤ → Grid ℤ → List ℕ → ℤ
+projected_at points axis is = total int_sums (products_of int_products (λ x. x) (axis_item points 0 (slice_index is 0)).cells axis.cells)
 
 -- a matrix times a vector
 abbrev pub applied : Grid ℤ → Grid ℤ → Matrix ℤ

@@ -22,6 +22,8 @@ use Rattle.ndarray.proofs.convolution.OneAxis.{array_by-one, filtered-valid, row
 use Rattle.ndarray.proofs.convolution.WholeWindows.{in_rows}
 use Rattle.ndarray.proofs.lists.Elements.{map-same}
 use Rattle.ndarray.proofs.sums.RowSums.{map-range-below}
+-- The sum of the products over a kernel's own indices, along one axis and two.
+pub use Rattle.ndarray.proofs.convolution.KernelSums.{double-sum, single-sum}
 
 -- a kernel of one axis that has cells, and an array of one axis
 pub positive-one : {A B : Type 0} (g : Grid A) (kernel : Grid B) → length g.lengths ≡ 1 → length kernel.lengths ≡ 1 → IsGrid kernel → 1 ≤ length kernel.cells → ArePositive g.lengths kernel.lengths

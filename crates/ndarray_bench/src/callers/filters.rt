@@ -1,14 +1,14 @@
 //! Filters: two of a signal, one after another, and the greatest cells of a table's windows.
 
-ghost use Rattle.std.specs.Prelude.{◌≡◌, ◌≤◌, ◌↔◌, length, slice_index, IfErr, IfOk, IfSome, IsSome};
+ghost use Rattle.std.specs.Prelude.{◌≡◌, ◌≤◌, ◌↔◌, length, slice_index, IfErr, IfOk, IfSome, IsSome, IsTrue};
 ghost use Rattle.ndarray.specs.Convolution.{CanPad};
 ghost use Rattle.ndarray.specs.Grid.{one_axis};
-ghost use Rattle.ndarray_bench.specs.Filters.{AreLocalMaxima, convolved_residues, filtered_residues};
+ghost use Rattle.ndarray_bench.specs.Filters.{AreLocalMaxima, AreZeroTests, IsZero, convolved_residues, filtered_residues};
 
 use crate::callers::maximum_filter;
 use ndarray::conv::{conv_full, conv_valid};
 use ndarray::laws::conv_filters;
-use ndarray::{Array, ArrayBase, ArrayView, Data, Dimension, Ix1, Ix2};
+use ndarray::{Array, ArrayBase, ArrayView, Data, Dimension, Ix1, Ix2, Lengths, Zip};
 use residue::Residue;
 use std::alloc::{AllocError, Global};
 
@@ -50,4 +50,32 @@ pub fn local_maxima<S: Data<Elem = u64>>(
     }
     let maxima = maximum_filter(alloc, table)?;
     Ok(Some(maxima))
+}
+
+/// Whether all cells are zero.
+pub fn is_zero<S: Data<Elem = i64>, D: Lengths>(a: &ArrayBase<S, D>) -> bool
+    ensures { IsTrue result ↔ IsZero a.now }
+{
+    Zip::from(a.view()).all(|x| *x == 0)
+}
+
+/// Of each window of so many rows and columns in a table, whether all its cells are zero; or `None` where one of these is 0 or more than
+/// the table has.
+pub fn zero_windows<S: Data<Elem = i64>>(
+    alloc: Global,
+    table: &ArrayBase<S, Ix2>,
+    rows: usize,
+    columns: usize,
+) -> Result<Option<Array<bool, Ix2>>, AllocError>
+    ensures when { IfOk result (λ made. IsSome made ↔ ((1 ≤ rows) × (1 ≤ columns) × (rows ≤ slice_index table.now.lengths 0) × (columns ≤ slice_index table.now.lengths 1))) }
+    ensures tests { IfOk result (λ made. IfSome made (AreZeroTests rows columns table.now)) }
+    ensures error { IfErr result (λ _. (1 ≤ rows) × (1 ≤ columns) × (rows ≤ slice_index table.now.lengths 0) × (columns ≤ slice_index table.now.lengths 1)) }
+{
+    let (height, width) = table.raw_dim().into_pattern();
+    if rows == 0 || columns == 0 || height < rows || width < columns {
+        return Ok(None);
+    }
+    let windows = table.windows((rows, columns));
+    let tests = Zip::from(windows).map_collect(alloc, |window| is_zero(&window))?;
+    Ok(Some(tests))
 }

@@ -11,7 +11,7 @@ ghost use Rattle.ndarray.specs.Integers.{int_products, int_sums, magnitude_produ
 ghost use Rattle.ndarray.specs.Products.{HasValues, ShapesMultiply, column_entries, column_of, magnitude_sum, matrix_entries, matrix_of, product_of, products_of};
 ghost use Rattle.ndarray.specs.Sums.{IsSummableBy, total, total_by};
 ghost use Rattle.ndarray.specs.WholeValues.{HasMagnitudesInRange, whole_numbers};
-ghost use Rattle.ndarray_bench.specs.RangeTests.{HasDiagonalInRange, MayApplyTwice, amplified_at, applied_twice, diagonal_product, whole_i64};
+ghost use Rattle.ndarray_bench.specs.RangeTests.{HasDiagonalInRange, MayApplyTwice, amplified_at, applied_twice, diagonal_product, projected_at, whole_i64};
 
 use ndarray::linalg::entries_fit;
 use ndarray::reduce::{checked_dot, dot_fits};
@@ -203,6 +203,25 @@ pub fn checked_matrix_times_vector<A: IntegerScalar, S: Data<Elem = A>, T: Data<
     }
     let product = a.dot(alloc, &x)?;
     Ok(Some(product))
+}
+
+/// The inner sum of each row of a table with a vector, or `None` where the lengths do not meet or, for some row, the absolute values of the
+/// products add up to more than the greatest `i64`.
+pub fn projections<S: Data<Elem = i64>, T: Data<Elem = i64>>(
+    alloc: Global,
+    points: &ArrayBase<S, Ix2>,
+    axis: &ArrayBase<T, Ix1>,
+) -> Checked<i64, Ix1>
+    ensures when { IfOk result (λ made. IsSome made ↔ (ShapesMultiply points.now.lengths axis.now.lengths × HasMagnitudesInRange (FitsSigned w64) (matrix_of whole_i64 points.now) (column_of whole_i64 axis.now))) }
+    ensures sums { IfOk result (λ made. IfSome made (λ r. r ≡ array_by (slice_index points.now.lengths 0 ∷ []) (projected_at points.now axis.now))) }
+    ensures error { IfErr result (λ _. ShapesMultiply points.now.lengths axis.now.lengths × HasMagnitudesInRange (FitsSigned w64) (matrix_of whole_i64 points.now) (column_of whole_i64 axis.now) × (slice_index points.now.lengths 0 ≢ 0)) }
+{
+    let _lengths = (points.raw_dim(), axis.raw_dim());
+    if !entries_fit(points, axis) {
+        return Ok(None);
+    }
+    let sums = points.dot(alloc, axis)?;
+    Ok(Some(sums))
 }
 
 /// A square matrix times a vector, and the matrix times the product; or `None` where the matrix is not square, the lengths do not meet or,
