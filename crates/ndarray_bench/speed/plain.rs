@@ -59,6 +59,9 @@ fn main() {
             for name in WALKS {
                 report(name, n, turns, || walk(name, n, black_box(&mut a), black_box(&b), black_box(&c)));
             }
+            let ones = vec![1i64; n * n];
+            report("products_fit", n, turns, || magnitude_product(black_box(&ones)).unwrap_or(0));
+            report("checked_dot", n, turns, || sums_checked(black_box(&ones).iter(), black_box(&ones)).map_or(0, |it| it.0));
             let (mut bytes, more_bytes) = (vec![3u8; n * n], vec![4u8; n * n]);
             let (mut numbers, more_numbers) = (vec![3i32; n * n], vec![4i32; n * n]);
             for name in NARROW {
@@ -419,6 +422,11 @@ fn sums_checked<'a>(xs: impl Iterator<Item = &'a i64>, ys: &[i64]) -> Option<(i6
         sum = sum.checked_add(product)?;
     }
     Some((sum, magnitude))
+}
+
+/// The product of the absolute values that are not zero, where the type has it.
+fn magnitude_product(xs: &[i64]) -> Option<i64> {
+    xs.iter().filter(|x| **x != 0).try_fold(1i64, |product, x| product.checked_mul(x.checked_abs()?))
 }
 
 fn inner(xs: &[i64], ys: &[i64]) -> i64 {
