@@ -31,7 +31,7 @@ whole_i64 = whole_numbers (λ x. x) (FitsSigned w64)
 
 -- the products of the numbers of a row of a table and those of a vector, added up
 abbrev pub projected_at : Grid ℤ → Grid ℤ → List ℕ → ℤ
-projected_at points axis is = total int_sums (products_of int_products (λ x. x) (axis_item points 0 (slice_index is 0)).cells axis.cells)
+projected_at points direction is = total int_sums (products_of int_products (λ x. x) (axis_item points 0 (slice_index is 0)).cells direction.cells)
 
 -- a matrix times a vector
 abbrev pub applied : Grid ℤ → Grid ℤ → Matrix ℤ

@@ -210,17 +210,17 @@ pub fn checked_matrix_times_vector<A: IntegerScalar, S: Data<Elem = A>, T: Data<
 pub fn projections<S: Data<Elem = i64>, T: Data<Elem = i64>>(
     alloc: Global,
     points: &ArrayBase<S, Ix2>,
-    axis: &ArrayBase<T, Ix1>,
+    direction: &ArrayBase<T, Ix1>,
 ) -> Checked<i64, Ix1>
-    ensures when { IfOk result (λ made. IsSome made ↔ (ShapesMultiply points.now.lengths axis.now.lengths × HasMagnitudesInRange (FitsSigned w64) (matrix_of whole_i64 points.now) (column_of whole_i64 axis.now))) }
-    ensures sums { IfOk result (λ made. IfSome made (λ r. r ≡ array_by (slice_index points.now.lengths 0 ∷ []) (projected_at points.now axis.now))) }
-    ensures error { IfErr result (λ _. ShapesMultiply points.now.lengths axis.now.lengths × HasMagnitudesInRange (FitsSigned w64) (matrix_of whole_i64 points.now) (column_of whole_i64 axis.now) × (slice_index points.now.lengths 0 ≢ 0)) }
+    ensures when { IfOk result (λ made. IsSome made ↔ (ShapesMultiply points.now.lengths direction.now.lengths × HasMagnitudesInRange (FitsSigned w64) (matrix_of whole_i64 points.now) (column_of whole_i64 direction.now))) }
+    ensures sums { IfOk result (λ made. IfSome made (λ r. r ≡ array_by (slice_index points.now.lengths 0 ∷ []) (projected_at points.now direction.now))) }
+    ensures error { IfErr result (λ _. ShapesMultiply points.now.lengths direction.now.lengths × HasMagnitudesInRange (FitsSigned w64) (matrix_of whole_i64 points.now) (column_of whole_i64 direction.now) × (slice_index points.now.lengths 0 ≢ 0)) }
 {
-    let _lengths = (points.raw_dim(), axis.raw_dim());
-    if !entries_fit(points, axis) {
+    let _lengths = (points.raw_dim(), direction.raw_dim());
+    if !entries_fit(points, direction) {
         return Ok(None);
     }
-    let sums = points.dot(alloc, axis)?;
+    let sums = points.dot(alloc, direction)?;
     Ok(Some(sums))
 }
 
