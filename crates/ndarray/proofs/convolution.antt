@@ -18,6 +18,7 @@ pub mod Padding
 pub mod Pairs
 pub mod ProductLists
 pub mod ReversedWindows
+pub mod SmallProducts
 pub mod Swapped
 pub mod ValueSums
 pub mod WholeWindows

@@ -22,6 +22,7 @@ use crate::linalg::row_sums::push_zeros;
 use crate::order::Order;
 use crate::order::rows::BoxRows;
 use crate::reduce::range_tests::{inner_stays_in_range, products_stay_in_range};
+use crate::reduce::small_products::have_small_products;
 use crate::zip::all_items::all_in_either_order;
 use crate::zip::closures::ItemCall;
 use crate::zip::collecting::collect_in_either_order;
@@ -204,6 +205,10 @@ fn windows_fit<A: IntegerElem, D: Dimension>(
     ensures magnitudes { IsTrue result ↔ HasWindowMagnitudesInRange A.value A.fits a.now mirrored.now }
     ensures selections { IsTrue result → (ps : List ℕ) → InBox (valid_counts a.now.lengths mirrored.now.lengths) ps → IsSummable int_sums A.fits (window_products int_products A.value a.now mirrored.now ps) }
 {
+    let _whole = a.raw_dim();
+    if have_small_products(a, mirrored, mirrored.len()) {
+        return true;
+    }
     let windows = a.windows(mirrored.raw_dim());
     all_in_either_order(windows, WindowTest(mirrored.view()))
 }
@@ -318,6 +323,9 @@ fn overlaps_fit<A: IntegerElem>(x: &ArrayView<'_, A, Ix1>, mirrored: &ArrayView<
     let n = x.raw_dim().into_pattern();
     let m = mirrored.raw_dim().into_pattern();
     if n == 0 || m == 0 {
+        return true;
+    }
+    if have_small_products(x, mirrored, mirrored.len()) {
         return true;
     }
     for s in 0..n + m - 1 {

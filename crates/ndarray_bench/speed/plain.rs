@@ -23,10 +23,10 @@ const JOINS: [&str; 13] = [
     "product_axis_rows", "product_axis_columns", "cumprod_rows", "cumprod_columns", "diff_rows", "diff_columns",
 ];
 
-const FILTERS: [&str; 14] = [
+const FILTERS: [&str; 16] = [
     "box_filter", "indexed_map_collect", "update", "update_view", "update_view_column_major",
     "update_view_second_columns", "scan_rows", "scan_columns", "zip_four_fold", "zip_six_fold", "zip_column_fold",
-    "zip_view_for_each", "conv_valid_3x3", "conv_full_32",
+    "zip_view_for_each", "conv_valid_3x3", "conv_full_32", "valid_fits_3x3", "full_fits_32",
 ];
 
 const SMALL: [&str; 4] = ["small_ref_add_ref", "small_add_assign", "small_iter", "small_product"];
@@ -61,6 +61,7 @@ fn main() {
             }
             let ones = vec![1i64; n * n];
             report("products_fit", n, turns, || magnitude_product(black_box(&ones)).unwrap_or(0));
+            report("dot_fits", n, turns, || magnitude_sum(black_box(&ones), black_box(&ones)).unwrap_or(0));
             report("checked_dot", n, turns, || sums_checked(black_box(&ones).iter(), black_box(&ones)).map_or(0, |it| it.0));
             let (mut bytes, more_bytes) = (vec![3u8; n * n], vec![4u8; n * n]);
             let (mut numbers, more_numbers) = (vec![3i32; n * n], vec![4i32; n * n]);
@@ -267,6 +268,14 @@ fn filter(name: &str, n: usize, a: &mut [i64], b: &[i64]) -> i64 {
             }
             return made[1];
         }
+        "valid_fits_3x3" => {
+            let square = |i: usize| (0..9).try_fold(0, |most: i64, k| Some(most.checked_add(b[i + k / 3 * n + k % 3].checked_mul(b[k / 3 * n + k % 3])?.checked_abs()?)?));
+            return (0..n - 2).all(|i| (0..n - 2).all(|j| square(i * n + j).is_some())) as i64;
+        }
+        "full_fits_32" => {
+            let meeting = |s: usize| &b[s.max(31) - 31..b.len().min(s + 1)];
+            return (0..b.len() + 31).all(|s| magnitude_sum(meeting(s), &b[..32]).is_some()) as i64;
+        }
         "indexed_map_collect" => {
             let mut made = Vec::with_capacity(n * n);
             for (i, row) in a.chunks(n).enumerate() {
@@ -422,6 +431,12 @@ fn sums_checked<'a>(xs: impl Iterator<Item = &'a i64>, ys: &[i64]) -> Option<(i6
         sum = sum.checked_add(product)?;
     }
     Some((sum, magnitude))
+}
+
+/// The sum of the absolute values of the products, where the type has it.
+#[inline(never)]
+fn magnitude_sum(xs: &[i64], ys: &[i64]) -> Option<i64> {
+    xs.iter().zip(ys).try_fold(0i64, |sum, (x, y)| sum.checked_add(x.checked_mul(*y)?.checked_abs()?))
 }
 
 /// The product of the absolute values that are not zero, where the type has it.

@@ -133,11 +133,11 @@ pub checked-product : {A : Type 0} (value : A → ℤ) (fits : ℤ → Type 0) (
 checked-product value fits product factor n None e f h = λ both. h (subst (λ t. fits (product *ℤ t)) (sym e) both.1)
 checked-product value fits product factor n (Some y) e f h = ((f, subst (λ t. fits (product *ℤ t)) e h.0), h.1 ∙ ap (λ t. product *ℤ t) e)
 
--- and a product with zero left out
-pub product-kept : {A : Type 0} (value : A → ℤ) (fits : ℤ → Type 0) (y : A) (z : ℤ) → z ≡ pos 0 → fits (pos 1) → fits (value y) → Checks value (λ t. fits (pos (nonzero_magnitude z)) × fits t) (value y *ℤ pos (nonzero_magnitude z)) (Some y)
+-- and a product with a factor left out, zero or one
+pub product-kept : {A : Type 0} (value : A → ℤ) (fits : ℤ → Type 0) (y : A) (z : ℤ) → nonzero_magnitude z ≡ 1 → fits (pos 1) → fits (value y) → Checks value (λ t. fits (pos (nonzero_magnitude z)) × fits t) (value y *ℤ pos (nonzero_magnitude z)) (Some y)
 product-kept value fits y z e one_fits f =
-    let same : value y ≡ value y *ℤ pos (nonzero_magnitude z) = sym (*ℤ_comm (value y) (pos 1) ∙ one-times (value y)) ∙ ap (λ t. value y *ℤ pos (nonzero_magnitude t)) (sym e) in
-    ((subst (λ t. fits (pos (nonzero_magnitude t))) (sym e) one_fits, subst fits same f), same)
+    let same : value y ≡ value y *ℤ pos (nonzero_magnitude z) = sym (*ℤ_comm (value y) (pos 1) ∙ one-times (value y)) ∙ ap (λ k. value y *ℤ pos k) (sym e) in
+    ((subst (λ k. fits (pos k)) (sym e) one_fits, subst fits same f), same)
 
 -- ---- in another order
 

@@ -1,15 +1,19 @@
 -- Whole numbers so small that sums of their products fit.
-use Rattle.std.specs.Prelude.{◌≡◌, ℕ, ℤ, ◌*◌, ◌≤◌, All, List, pos, unsigned_abs}
+use Rattle.std.specs.Prelude.{◌≡◌, ℕ, ℤ, ◌*◌, ◌≤◌, ◌≤ℤ◌, All, List, pos, unsigned_abs}
 
 -- each number fits, and has an absolute value of at most m
 abbrev pub AreUpTo : (ℤ → Type 0) → ℕ → List ℤ → Type 0
 AreUpTo fits m zs = All (λ z. fits z × (unsigned_abs z ≤ m)) zs
 
--- largest is a number at least as large as the absolute values of whole before rest, and all of these fit: numbers up to it and up to those of rest are up to those of whole
-pub record LargestSoFar (fits : ℤ → Type 0) (whole rest : List ℤ) (largest : ℤ) : Type 0 where
-  pub number : ℕ
-  pub is_number : largest ≡ pos number
-  pub others : (m : ℕ) → number ≤ m → AreUpTo fits m rest → AreUpTo fits m whole
+-- each number fits, and is from the least to the greatest
+abbrev pub AreBetween : (ℤ → Type 0) → ℤ → ℤ → List ℤ → Type 0
+AreBetween fits least greatest zs = All (λ z. fits z × (least ≤ℤ z) × (z ≤ℤ greatest)) zs
+
+-- least and greatest are extremes of zero and of the numbers of whole that are not in rest, and these fit: with those of rest between wider ones, all of whole are
+pub record ExtremesSoFar (fits : ℤ → Type 0) (whole rest : List ℤ) (least greatest : ℤ) : Type 0 where
+  pub up_to_zero : least ≤ℤ pos 0
+  pub from_zero : pos 0 ≤ℤ greatest
+  pub others : (low high : ℤ) → low ≤ℤ least → greatest ≤ℤ high → AreBetween fits low high rest → AreBetween fits low high whole
 
 -- as many products as counted, of the largest absolute value of the one list and that of the other, add up to a number that fits
 pub record HaveSmallProducts (fits : ℤ → Type 0) (count : ℕ) (xs ys : List ℤ) : Type 0 where

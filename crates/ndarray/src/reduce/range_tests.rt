@@ -1,6 +1,6 @@
 //! Whether the sums and the products of an array's cells stay in their integer type.
 
-ghost use Rattle.std.specs.Prelude.{◌≡◌, ◌↔◌, ◌+ℤ◌, ◌*ℤ◌, ◌<ℤ◌, ◌≤ℤ◌, ◌++◌, ◌∷◌, [], ℤ, List, IfSome, IsSome, IsTrue, MatchOption, map, pos, unsigned_abs};
+ghost use Rattle.std.specs.Prelude.{◌≡◌, ◌↔◌, ◌+ℤ◌, ◌*ℤ◌, ◌<ℤ◌, ◌≤ℤ◌, ◌++◌, ◌∷◌, [], ℤ, List, IfSome, IsSome, IsTrue, MatchOption, length, map, pos, unsigned_abs};
 ghost use Rattle.num_traits.specs.Laws.{Checks};
 ghost use Rattle.ndarray.specs.Products.{magnitude_sum, products_of};
 ghost use Rattle.ndarray.specs.reduce.NonzeroProducts.{MultipliedSoFar};
@@ -12,10 +12,12 @@ use crate::base::array::{ArrayBase, ArrayView};
 use crate::base::dimension::{Dimension, Ix1, Lengths};
 use crate::base::storage::Data;
 use crate::base::strided::{Strided, cells_of};
-use crate::elements::IntegerElem;
+use crate::elements::{IntegerElem, IntegerScalar};
 use crate::iter::runs::CellRuns;
+use crate::linalg::inner::inner_of;
 use crate::order::Order;
 use crate::order::rows::BoxRows;
+use crate::reduce::small_products::lists_have_small_products;
 use crate::zip::pair::PairRun;
 use num_traits::{CheckedAdd, Zero};
 
@@ -180,6 +182,10 @@ fn times_magnitude<A: IntegerElem>(product: A, x: A) -> Option<A>
     if x.is_zero() {
         return Some(product);
     }
+    // Where the product fits, nearly all factors are so.
+    if x.is_one() {
+        return Some(product);
+    }
     let Some(factor) = magnitude(x) else {
         return None;
     };
@@ -203,11 +209,17 @@ pub fn dot_fits<A: IntegerElem, S: Data<Elem = A>, S2: Data<Elem = A>>(
     ensures magnitudes { IsTrue result ↔ ((x.now.lengths ≡ y.now.lengths) × A.fits (pos (magnitude_sum (products_of int_products A.value x.now.cells y.now.cells)))) }
     ensures selections { IsTrue result → (x.now.lengths ≡ y.now.lengths) × IsSummable int_sums A.fits (products_of int_products A.value x.now.cells y.now.cells) }
 {
-    checked_dot(x, y).is_some()
+    let Some((xs, ys)) = cells_in_pairs(x.view(), y.view()) else {
+        return false;
+    };
+    if lists_have_small_products(xs.again(), ys.again(), ys.len()) {
+        return true;
+    }
+    inner_stays_in_range(xs, ys)
 }
 
 /// The sum of the products of two vectors' cells, place by place, where [`dot_fits`] is true of them; else `None`. So it is the
-/// value of their `dot`: the test and the product in one walk.
+/// value of their `dot`: the test and the product in one call.
 ///
 /// Requires nothing, and allocates nothing.
 ///
@@ -215,7 +227,7 @@ pub fn dot_fits<A: IntegerElem, S: Data<Elem = A>, S2: Data<Elem = A>>(
 /// let sum = checked_dot(&ArrayView::from_shape(2, &[127i8, 1])?, &ArrayView::from_shape(2, &[-1i8, 0])?); // Some(-127)
 /// let none = checked_dot(&ArrayView::from_shape(2, &[100i8, 100])?, &ArrayView::from_shape(2, &[1i8, -1])?); // None
 /// ```
-pub fn checked_dot<A: IntegerElem, S: Data<Elem = A>, S2: Data<Elem = A>>(
+pub fn checked_dot<A: IntegerScalar, S: Data<Elem = A>, S2: Data<Elem = A>>(
     x: &ArrayBase<S, Ix1>,
     y: &ArrayBase<S2, Ix1>,
 ) -> Option<A>
@@ -223,21 +235,30 @@ pub fn checked_dot<A: IntegerElem, S: Data<Elem = A>, S2: Data<Elem = A>>(
     ensures selections { IsSome result → (x.now.lengths ≡ y.now.lengths) × IsSummable int_sums A.fits (products_of int_products A.value x.now.cells y.now.cells) }
     ensures sum { IfSome result (λ s. A.value s ≡ total int_sums (products_of int_products A.value x.now.cells y.now.cells)) }
 {
-    checked_dot_of(&x.view(), &y.view())
+    let Some((xs, ys)) = cells_in_pairs(x.view(), y.view()) else {
+        return None;
+    };
+    if lists_have_small_products(xs.again(), ys.again(), ys.len()) {
+        return Some(inner_of(xs, ys));
+    }
+    checked_inner(xs, ys)
 }
 
-/// The same of views.
-fn checked_dot_of<A: IntegerElem>(x: &ArrayView<'_, A, Ix1>, y: &ArrayView<'_, A, Ix1>) -> Option<A>
-    ensures magnitudes { IsSome result ↔ ((x.now.lengths ≡ y.now.lengths) × A.fits (pos (magnitude_sum (products_of int_products A.value x.now.cells y.now.cells)))) }
-    ensures selections { IsSome result → (x.now.lengths ≡ y.now.lengths) × IsSummable int_sums A.fits (products_of int_products A.value x.now.cells y.now.cells) }
-    ensures sum { IfSome result (λ s. A.value s ≡ total int_sums (products_of int_products A.value x.now.cells y.now.cells)) }
+/// The cells of two vectors in turn, where these are equally long.
+fn cells_in_pairs<'a, 'b, A>(
+    x: ArrayView<'a, A, Ix1>,
+    y: ArrayView<'b, A, Ix1>,
+) -> Option<(Strided<'a, A>, Strided<'b, A>)>
+    ensures same { IsSome result ↔ (x.entry.lengths ≡ y.entry.lengths) }
+    ensures cells { IfSome result (λ p. (p.0 ≡ x.entry.cells) × (p.1 ≡ y.entry.cells)) }
+    ensures many { IfSome result (λ p. length p.0 ≡ length p.1) }
 {
     let n = x.raw_dim().into_pattern();
     let m = y.raw_dim().into_pattern();
     if n != m {
         return None;
     }
-    checked_inner(cells_of(x.view()), cells_of(y.view()))
+    Some((cells_of(x), cells_of(y)))
 }
 
 /// Whether the absolute values of the products of two lists of cells, place by place, add up to at most the type's greatest number.

@@ -1,15 +1,14 @@
 //! Whether the cells of two arrays are so small that no sum of so many of their products leaves the integer type: one walk over each
 //! array, in place of one over each row and column of a product.
 
-ghost use Rattle.std.specs.Prelude.{◌≡◌, ◌++◌, ◌*◌, ◌≤◌, ℕ, ℤ, List, IfSome, IsTrue, map, pos, unsigned_abs};
-ghost use Rattle.ndarray.specs.reduce.SmallProducts.{AreUpTo, HaveSmallProducts, LargestSoFar};
+ghost use Rattle.std.specs.Prelude.{◌≡◌, ◌++◌, ◌∷◌, ◌*◌, ◌≤ℤ◌, [], ℕ, ℤ, List, IfSome, IsTrue, map, pos};
+ghost use Rattle.ndarray.specs.reduce.SmallProducts.{AreUpTo, ExtremesSoFar, HaveSmallProducts};
 
 use crate::base::array::ArrayView;
 use crate::base::dimension::Lengths;
 use crate::base::strided::Strided;
 use crate::elements::IntegerElem;
 use crate::iter::runs::CellRuns;
-use crate::reduce::range_tests::magnitude;
 
 /// Whether a number of products, of the largest absolute value of a cell of one array and the largest of another, add up to at most
 /// the type's greatest number.
@@ -20,13 +19,41 @@ pub(crate) fn have_small_products<A: IntegerElem, D: Lengths, E: Lengths>(
 ) -> bool
     ensures { IsTrue result → HaveSmallProducts A.fits count (map A.value a.now.cells) (map A.value b.now.cells) }
 {
-    let Some(x) = largest_magnitude(a) else {
+    are_small(&extremes_of_array(a), &extremes_of_array(b), count)
+}
+
+/// The same of two lists of cells.
+pub(crate) fn lists_have_small_products<A: IntegerElem>(
+    left: Strided<'_, A>,
+    right: Strided<'_, A>,
+    count: usize,
+) -> bool
+    ensures { IsTrue result → HaveSmallProducts A.fits count (map A.value left.entry) (map A.value right.entry) }
+{
+    are_small(&extremes_of_list(left), &extremes_of_list(right), count)
+}
+
+/// The least and the greatest of some numbers and zero.
+#[derive(Drop)]
+struct Extremes<A> {
+    least: A,
+    greatest: A,
+}
+
+/// Whether a number of products, of the largest absolute value of one list of numbers and that of another, add up to at most the type's
+/// greatest number.
+fn are_small<A: IntegerElem>(x: &Extremes<A>, y: &Extremes<A>, count: usize) -> bool
+    ensures { (xs ys : List ℤ) → ExtremesSoFar A.fits xs [] (A.value x.now.least) (A.value x.now.greatest)
+        → ExtremesSoFar A.fits ys [] (A.value y.now.least) (A.value y.now.greatest)
+        → IsTrue result → HaveSmallProducts A.fits count xs ys }
+{
+    let Some(left) = largest_magnitude(x) else {
         return false;
     };
-    let Some(y) = largest_magnitude(b) else {
+    let Some(right) = largest_magnitude(y) else {
         return false;
     };
-    let Some(product) = x.checked_mul(&y) else {
+    let Some(product) = left.checked_mul(&right) else {
         return false;
     };
     fits_times(product, count)
@@ -50,50 +77,110 @@ fn fits_times<A: IntegerElem>(number: A, count: usize) -> bool
     true
 }
 
-/// The largest absolute value of the cells, where the type has that of each; zero where there are none.
-fn largest_magnitude<A: IntegerElem, D: Lengths>(array: &ArrayView<'_, A, D>) -> Option<A>
-    ensures { IfSome result (λ l. (m : ℕ) × (A.value l ≡ pos m) × AreUpTo A.fits m (map A.value array.now.cells)) }
+/// The largest absolute value of the numbers, where the type has it.
+fn largest_magnitude<A: IntegerElem>(extremes: &Extremes<A>) -> Option<A>
+    ensures { (whole : List ℤ) → ExtremesSoFar A.fits whole [] (A.value extremes.now.least) (A.value extremes.now.greatest)
+        → IfSome result (λ l. (m : ℕ) × (A.value l ≡ pos m) × AreUpTo A.fits m whole) }
 {
-    let mut largest = A::zero();
-    let mut runs = CellRuns::of(array.view());
-    while let Some(run) = runs.next() {
-        let Some(more) = largest_of_run(largest, run) else {
-            return None;
-        };
-        largest = more;
-    }
-    Some(largest)
-}
-
-/// The largest of a number and the absolute values of the cells of a run, where the type has them.
-fn largest_of_run<A: IntegerElem>(largest: A, run: Strided<'_, A>) -> Option<A>
-    ensures { (whole rest : List ℤ) → LargestSoFar A.fits whole (map A.value run.entry ++ rest) (A.value largest)
-        → IfSome result (λ more. LargestSoFar A.fits whole rest (A.value more)) }
-{
-    let mut largest = largest;
-    let mut run = run;
-    while let Some(x) = run.next() {
-        let Some(more) = larger_magnitude(largest, *x) else {
-            return None;
-        };
-        largest = more;
-    }
-    Some(largest)
-}
-
-/// The larger of a number and an absolute value, where the type has this.
-#[inline(always)]
-fn larger_magnitude<A: IntegerElem>(largest: A, x: A) -> Option<A>
-    ensures larger { (n : ℕ) → A.value largest ≡ pos n → IfSome result (λ l. (m : ℕ) × (A.value l ≡ pos m) × (n ≤ m) × (unsigned_abs (A.value x) ≤ m)) }
-    ensures fits { A.fits (A.value x) }
-{
-    x.tell_fits();
-    let Some(size) = magnitude(x) else {
+    let Some(size) = A::zero().checked_sub(&extremes.least) else {
         return None;
     };
-    if largest < size {
-        Some(size)
-    } else {
-        Some(largest)
+    Some(larger(size, extremes.greatest))
+}
+
+/// Those of the cells of an array.
+fn extremes_of_array<A: IntegerElem, D: Lengths>(array: &ArrayView<'_, A, D>) -> Extremes<A>
+    ensures { ExtremesSoFar A.fits (map A.value array.now.cells) [] (A.value result.least) (A.value result.greatest) }
+{
+    let mut extremes = no_extremes();
+    let mut runs = CellRuns::of(array.view());
+    while let Some(run) = runs.next() {
+        extremes = with_run(extremes, run);
     }
+    extremes
+}
+
+/// Those of a list of cells.
+fn extremes_of_list<A: IntegerElem>(cells: Strided<'_, A>) -> Extremes<A>
+    ensures { ExtremesSoFar A.fits (map A.value cells.entry) [] (A.value result.least) (A.value result.greatest) }
+{
+    with_run(no_extremes(), cells)
+}
+
+/// Those of no numbers.
+fn no_extremes<A: IntegerElem>() -> Extremes<A>
+    ensures { (whole : List ℤ) → ExtremesSoFar A.fits whole whole (A.value result.least) (A.value result.greatest) }
+{
+    Extremes {
+        least: A::zero(),
+        greatest: A::zero(),
+    }
+}
+
+/// Those with the cells of a run.
+fn with_run<A: IntegerElem>(extremes: Extremes<A>, run: Strided<'_, A>) -> Extremes<A>
+    ensures { (whole rest : List ℤ) → ExtremesSoFar A.fits whole (map A.value run.entry ++ rest) (A.value extremes.least) (A.value extremes.greatest)
+        → ExtremesSoFar A.fits whole rest (A.value result.least) (A.value result.greatest) }
+{
+    if let Some(cells) = run.side_by_side() {
+        return with_slice(extremes, cells);
+    }
+    with_stepped(extremes, run)
+}
+
+/// Those with the cells of a slice.
+fn with_slice<A: IntegerElem>(extremes: Extremes<A>, cells: &[A]) -> Extremes<A>
+    ensures { (whole rest : List ℤ) → ExtremesSoFar A.fits whole (map A.value cells.now ++ rest) (A.value extremes.least) (A.value extremes.greatest)
+        → ExtremesSoFar A.fits whole rest (A.value result.least) (A.value result.greatest) }
+{
+    let mut extremes = extremes;
+    let mut i = 0;
+    'cells: while i < cells.len() {
+        extremes = with_number(extremes, cells[i]);
+        i += 1;
+    }
+    extremes
+}
+
+/// Those with cells that lie a step apart.
+fn with_stepped<A: IntegerElem>(extremes: Extremes<A>, run: Strided<'_, A>) -> Extremes<A>
+    ensures { (whole rest : List ℤ) → ExtremesSoFar A.fits whole (map A.value run.entry ++ rest) (A.value extremes.least) (A.value extremes.greatest)
+        → ExtremesSoFar A.fits whole rest (A.value result.least) (A.value result.greatest) }
+{
+    let mut extremes = extremes;
+    let mut run = run;
+    while let Some(x) = run.next() {
+        extremes = with_number(extremes, *x);
+    }
+    extremes
+}
+
+/// Those with a number.
+#[inline(always)]
+fn with_number<A: IntegerElem>(extremes: Extremes<A>, x: A) -> Extremes<A>
+    ensures { (whole rest : List ℤ) → ExtremesSoFar A.fits whole (A.value x ∷ rest) (A.value extremes.least) (A.value extremes.greatest)
+        → ExtremesSoFar A.fits whole rest (A.value result.least) (A.value result.greatest) }
+{
+    x.tell_fits();
+    let Extremes { least, greatest } = extremes;
+    Extremes {
+        least: smaller(x, least),
+        greatest: larger(x, greatest),
+    }
+}
+
+/// The smaller of two numbers.
+#[inline(always)]
+fn smaller<A: IntegerElem>(x: A, y: A) -> A
+    ensures { (A.value result ≤ℤ A.value x) × (A.value result ≤ℤ A.value y) }
+{
+    if x < y { x } else { y }
+}
+
+/// The larger of two numbers.
+#[inline(always)]
+fn larger<A: IntegerElem>(x: A, y: A) -> A
+    ensures { (A.value x ≤ℤ A.value result) × (A.value y ≤ℤ A.value result) }
+{
+    if y < x { x } else { y }
 }

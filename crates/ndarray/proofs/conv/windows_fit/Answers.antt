@@ -1,18 +1,20 @@
-use Rattle.std.proofs.Common.{◌≡◌, ◌∙◌, Bool, List, ℕ, Some, true, false, ap, subst}
+use Rattle.std.proofs.Common.{◌≡◌, ◌∙◌, Bool, List, ℕ, Some, true, false, ap, map, subst}
 use Rattle.std.specs.Prelude.{IsTrue, pos, ◌↔◌}
 use Rattle.ndarray.specs.Convolution.{TestsProducts, single_steps, valid_counts, window_products}
 use Rattle.ndarray.specs.Grid.{Grid, array_by, cell}
 use Rattle.ndarray.specs.Index.{InBox}
 use Rattle.ndarray.specs.Integers.{int_products, int_sums}
 use Rattle.ndarray.specs.Products.{magnitude_sum}
+use Rattle.ndarray.specs.reduce.SmallProducts.{HaveSmallProducts}
 use Rattle.ndarray.specs.Subviews.{window, windows_of}
 use Rattle.ndarray.specs.Sums.{IsSummable}
 use Rattle.ndarray.specs.declared.base.shape.Order.TheVariants.{RowMajor, ColumnMajor}
 use Rattle.ndarray.proofs.callers.Testing.{all-decides, may-test}
+use Rattle.ndarray.proofs.convolution.SmallProducts.{small-windows}
 use Rattle.ndarray.proofs.convolution.WindowTests.{not_true, test-at, window-lengths}
-use Rattle.ndarray.proofs.lists.Decisions.{from_yes}
+use Rattle.ndarray.proofs.lists.Decisions.{from_yes, says_yes}
 use Rattle.ndarray.proofs.conv.windows_fit.Goals as goal
-use Rattle.ndarray.proofs.conv.windows_fit.Goals.{After-view}
+use Rattle.ndarray.proofs.conv.windows_fit.Goals.{After-view, Then-have_small_products}
 
 module _ (g : _) (c : After-view g) where
   -- the windows of the array's lengths, at each index list the one there
@@ -28,6 +30,23 @@ module _ (g : _) (c : After-view g) where
       → (IsTrue r ↔ g.A.Number.fits (pos (magnitude_sum (window_products int_products g.A.Number.value c.args.a.now c.args.mirrored.now i))))
       × (IsTrue r → IsSummable int_sums g.A.Number.fits (window_products int_products g.A.Number.value c.args.a.now c.args.mirrored.now i))
   tested r i x s test = test-at c.args.a.now c.args.mirrored.now c.view.result c.view.ensures.same c.windows-windows.result windows i x s g.A.Number.value g.A.Number.fits r test
+
+-- where the cells are small
+small-each : (g : _) (c : Then-have_small_products g) (ps : List ℕ) → g.A.Number.fits (pos (magnitude_sum (window_products int_products g.A.Number.value c.args.a.now c.args.mirrored.now ps))) × IsSummable int_sums g.A.Number.fits (window_products int_products g.A.Number.value c.args.a.now c.args.mirrored.now ps)
+small-each g c =
+    let v = g.A.Number.value in
+    let fits = g.A.Number.fits in
+    let exact = g.met.A.Integral.exact_law in
+    let a = c.args.a.now in
+    let h = c.args.mirrored.now in
+    let small = subst (λ n. HaveSmallProducts fits n (map v a.cells) (map v h.cells)) c.len.ensures.cells (c.have_small_products.ensures c.if-have_small_products.true) in
+    small-windows v fits (λ y z t. g.A.Number.between_law y z t exact) (g.met.A.Zero.zero_fits_law exact) g.met.A.IntegerElem.negated_fits a h c.raw_dim-whole.ensures.whole small
+
+pub returns-then-have_small_products-clause-magnitudes : goal.returns-then-have_small_products-clause-magnitudes
+returns-then-have_small_products-clause-magnitudes g c = says_yes _ (λ ps _. (small-each g (goal.at.returns-then-have_small_products-clause-magnitudes g c).Then-have_small_products ps).0)
+
+pub returns-then-have_small_products-clause-selections : goal.returns-then-have_small_products-clause-selections
+returns-then-have_small_products-clause-selections g c = λ _ ps _. (small-each g (goal.at.returns-then-have_small_products-clause-selections g c).Then-have_small_products ps).1
 
 pub all_in_either_order-requires-clause-by_rows : goal.all_in_either_order-requires-clause-by_rows
 all_in_either_order-requires-clause-by_rows g c = may-test _ (λ t w r d. TestsProducts g.A.Number.value g.A.Number.fits w.cells t.0.cells r × (d ≡ t)) _ _ _ true (λ i x k s h. h.1) RowMajor (can_test g c)

@@ -1,12 +1,18 @@
 use Rattle.std.proofs.Common.{◌≢◌, ◌∙◌, ap, pos, sym, subst}
 use Rattle.std.proofs.lemmas.Bool.{false≢true}
+use Rattle.ndarray.specs.Integers.{nonzero_magnitude}
 use Rattle.ndarray.proofs.sums.NonzeroProducts.{checked-product, magnitude-nonzero, product-kept}
 use Rattle.ndarray.proofs.reduce.range_tests.times_magnitude.Goals as goal
 
 pub returns-then-is_zero-clause-product : goal.returns-then-is_zero-clause-product
 returns-then-is_zero-clause-product g c =
     let exact = g.met.A.Integral.exact_law in
-    product-kept g.A.Number.value g.A.Number.fits c.args.product _ ((c.is_zero.ensures.value exact).0 c.if-is_zero.true) (g.met.A.One.one_fits_law exact) c.tell_fits.ensures
+    product-kept g.A.Number.value g.A.Number.fits c.args.product _ (ap nonzero_magnitude ((c.is_zero.ensures.value exact).0 c.if-is_zero.true)) (g.met.A.One.one_fits_law exact) c.tell_fits.ensures
+
+pub returns-then-is_one-clause-product : goal.returns-then-is_one-clause-product
+returns-then-is_one-clause-product g c =
+    let exact = g.met.A.Integral.exact_law in
+    product-kept g.A.Number.value g.A.Number.fits c.args.product _ (ap nonzero_magnitude ((c.is_one.ensures.value exact).0 c.if-is_one.true)) (g.met.A.One.one_fits_law exact) c.tell_fits.ensures
 
 pub returns-in_default-clause-product : goal.returns-in_default-clause-product
 returns-in_default-clause-product g c =

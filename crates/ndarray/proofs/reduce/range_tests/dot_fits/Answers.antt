@@ -1,0 +1,35 @@
+use Rattle.std.proofs.Common.{◌≡◌, ◌∙◌, ap, pos, subst}
+use Rattle.ndarray.specs.Integers.{int_products, int_sums}
+use Rattle.ndarray.specs.Products.{magnitude_sum, products_of}
+use Rattle.ndarray.specs.Sums.{IsSummable}
+use Rattle.ndarray.proofs.lists.Decisions.{from_yes, says_yes}
+use Rattle.ndarray.proofs.sums.SmallProducts.{small-vectors}
+use Rattle.ndarray.proofs.reduce.range_tests.dot_fits.Goals as goal
+use Rattle.ndarray.proofs.reduce.range_tests.dot_fits.Goals.{Then-lists_have_small_products}
+
+module _ (g : _) (c : Then-lists_have_small_products g) where
+  same : c.args.x.now.lengths ≡ c.args.y.now.lengths
+  same = rw (c.view.ensures.same, c.view-2.ensures.same) at (from_yes _ c.in-Some.ensures.same)
+
+  -- the lists are the cells
+  products : products_of int_products g.A.Number.value c.in-Some.xs c.in-Some.ys ≡ products_of int_products g.A.Number.value c.args.x.now.cells c.args.y.now.cells
+  products =
+      let times = products_of int_products g.A.Number.value in
+      ap (λ l. times l c.in-Some.ys) (c.in-Some.ensures.cells.0 ∙ ap (λ w. w.cells) c.view.ensures.same)
+      ∙ ap (times c.args.x.now.cells) (c.in-Some.ensures.cells.1 ∙ ap (λ w. w.cells) c.view-2.ensures.same)
+
+  small : g.A.Number.fits (pos (magnitude_sum (products_of int_products g.A.Number.value c.in-Some.xs c.in-Some.ys))) × IsSummable int_sums g.A.Number.fits (products_of int_products g.A.Number.value c.in-Some.xs c.in-Some.ys)
+  small =
+      let exact = g.met.A.Integral.exact_law in
+      small-vectors g.A.Number.fits (λ x y z. g.A.Number.between_law x y z exact) (g.met.A.Zero.zero_fits_law exact) g.met.A.IntegerElem.negated_fits g.A.Number.value c.in-Some.xs c.in-Some.ys
+      (rw (c.again.ensures, c.again-2.ensures, c.len.ensures) at c.lists_have_small_products.ensures c.if-lists_have_small_products.true)
+
+pub returns-then-lists_have_small_products-clause-magnitudes : goal.returns-then-lists_have_small_products-clause-magnitudes
+returns-then-lists_have_small_products-clause-magnitudes g c =
+    let d = c in
+    says_yes _ (same g d, subst (λ l. g.A.Number.fits (pos (magnitude_sum l))) (products g d) (small g d).0)
+
+pub returns-then-lists_have_small_products-clause-selections : goal.returns-then-lists_have_small_products-clause-selections
+returns-then-lists_have_small_products-clause-selections g c =
+    let d = c in
+    λ _. (same g d, subst (IsSummable int_sums g.A.Number.fits) (products g d) (small g d).1)
