@@ -7,7 +7,7 @@ use Rattle.std.proofs.lemmas.List.Folds.{flat_map-map}
 use Rattle.std.proofs.lemmas.Nat.{div-mul-add, mod-mul-add}
 use Rattle.std.proofs.lemmas.Simd.{map-map}
 use Rattle.ndarray.specs.linalg.BlockRows.{CanMultiplyEach, block_rows, multiples_by}
-use Rattle.ndarray.specs.Grid.{Grid, IsGrid, cell}
+use Rattle.ndarray.specs.Grid.{Grid, IsGrid}
 use Rattle.ndarray.specs.Index.{row_order}
 use Rattle.ndarray.specs.Matrices.{Matrix, kronecker_product}
 use Rattle.ndarray.specs.Products.{HasProductsInRange, matrix_entries, matrix_of, value_at}

@@ -1,9 +1,8 @@
 -- The full convolution of two lists in the other order.
-use Rattle.std.proofs.Common.{◌≡◌, ℕ, ◌<◌, List, [], ◌∷◌, ap, length, subst}
+use Rattle.std.proofs.Common.{◌<◌, List, [], ◌∷◌, ap, length, subst}
 use Rattle.std.specs.Prelude.{Result, slice_index}
 use Rattle.ndarray.specs.Convolution.{HasFullSumsInRange, MakesFullConvolution, convolution_products, full_length}
 use Rattle.ndarray.specs.Grid.{Grid}
-use Rattle.ndarray.specs.Sums.{total}
 use Rattle.ndarray.specs.declared.elements.Valued.{Ghosts as ValuedGhosts}
 use Rattle.ndarray.proofs.convolution.Full.{full_length-commutes}
 use Rattle.ndarray.proofs.convolution.Swapped.{products-rearranged}

@@ -1,5 +1,5 @@
 -- Convolutions of arrays whose cells are small.
-use Rattle.std.proofs.Common.{◌≡◌, ◌+◌, ◌-◌, ◌*◌, ◌<◌, ◌≤◌, ℕ, List, [], ◌∷◌, Option, None, Some, arith, drop, length, map, refl, reverse, subst, sym}
+use Rattle.std.proofs.Common.{◌≡◌, ◌+◌, ◌-◌, ◌≤◌, ℕ, List, [], ◌∷◌, Option, None, Some, arith, drop, length, map, refl, reverse, subst, sym}
 use Rattle.std.specs.Prelude.{All, ℤ, filter_map, pos, negsuc, neg_ℤ, ◌≤ℤ◌, unsigned_abs}
 use Rattle.std.specs.List.{cons_option}
 use Rattle.std.proofs.lemmas.List.{length-drop, reverse-reverse}

@@ -1,5 +1,5 @@
 -- Whole numbers so small that sums of their products fit.
-use Rattle.std.specs.Prelude.{◌≡◌, ℕ, ℤ, ◌*◌, ◌≤◌, ◌≤ℤ◌, All, List, pos, unsigned_abs}
+use Rattle.std.specs.Prelude.{ℕ, ℤ, ◌*◌, ◌≤◌, ◌≤ℤ◌, All, List, pos, unsigned_abs}
 
 -- each number fits, and has an absolute value of at most m
 abbrev pub AreUpTo : (ℤ → Type 0) → ℕ → List ℤ → Type 0

@@ -1,6 +1,5 @@
-use Rattle.std.proofs.Common.{◌≡◌, ◌∙◌, ◌*◌, Some, ap, arith, pos, subst}
+use Rattle.std.proofs.Common.{◌≡◌, ◌∙◌, ◌*◌, Some, ap, pos}
 use Rattle.std.specs.Prelude.{◌*ℤ◌}
-use Rattle.std.proofs.lemmas.Int.{ints}
 use Rattle.ndarray.proofs.reduce.small_products.are_small.Goals as goal
 
 pub returns : goal.returns

@@ -1,4 +1,4 @@
-use Rattle.std.proofs.Common.{◌++◌, [], map, subst, sym}
+use Rattle.std.proofs.Common.{[], map, subst, sym}
 use Rattle.std.proofs.lemmas.List.{append-nil}
 use Rattle.ndarray.specs.reduce.SmallProducts.{ExtremesSoFar}
 use Rattle.ndarray.proofs.reduce.small_products.extremes_of_list.Goals as goal

@@ -1,4 +1,4 @@
-use Rattle.std.proofs.Common.{◌≡◌, ◌++◌, [], ap, arith, drop, map, subst}
+use Rattle.std.proofs.Common.{◌≡◌, ◌++◌, [], arith, drop, map, subst}
 use Rattle.std.proofs.lemmas.List.{drop_all}
 use Rattle.ndarray.specs.reduce.SmallProducts.{ExtremesSoFar}
 use Rattle.ndarray.proofs.sums.InnerSums.{drop-next}
