@@ -1,9 +1,8 @@
 -- Convolutions of arrays whose cells are small.
-use Rattle.std.proofs.Common.{◌≡◌, ◌+◌, ◌-◌, ◌≤◌, ℕ, List, [], ◌∷◌, Option, None, Some, arith, drop, length, map, refl, reverse, subst, sym}
-use Rattle.std.specs.Prelude.{All, ℤ, filter_map, pos, negsuc, neg_ℤ, ◌≤ℤ◌, unsigned_abs}
-use Rattle.std.specs.List.{cons_option}
+use Rattle.std.proofs.Common.{◌+◌, ◌-◌, ◌≤◌, ℕ, List, arith, drop, length, map, reverse, subst, sym}
+use Rattle.std.specs.Prelude.{ℤ, pos, negsuc, neg_ℤ, ◌≤ℤ◌, unsigned_abs}
 use Rattle.std.proofs.lemmas.List.{length-drop, reverse-reverse}
-use Rattle.std.proofs.lemmas.List.Elements.{All-cons, All-drop, All-nil}
+use Rattle.std.proofs.lemmas.List.Elements.{All-drop}
 use Rattle.ndarray.specs.Convolution.{convolution_products, single_steps, window_products}
 use Rattle.ndarray.specs.Grid.{Grid, IsGrid, cell, cells_by}
 use Rattle.ndarray.specs.Index.{row_order}
@@ -14,17 +13,8 @@ use Rattle.ndarray.specs.Subviews.{window, window_index}
 use Rattle.ndarray.specs.Sums.{IsSummable}
 use Rattle.ndarray.proofs.callers.EachCell.{at-each-cell}
 use Rattle.ndarray.proofs.convolution.Overlaps.{overlap-products}
-use Rattle.ndarray.proofs.lists.Elements.{mapped-all}
+use Rattle.ndarray.proofs.lists.Elements.{all-found, mapped-all}
 use Rattle.ndarray.proofs.sums.SmallProducts.{small-lists}
-
--- what is found has what each has that may be found
-all-found : {X Y : Type 0} (P : Y → Type 0) (f : X → Option Y) (xs : List X) → ((x : X) (y : Y) → f x ≡ Some y → P y) → All P (filter_map f xs)
-all-found P f [] each = All-nil P
-all-found {Y = Y} P f (x ∷ xs) each = more (f x) (each x) (all-found P f xs each)
-  where
-    more : (o : Option Y) → ((y : Y) → o ≡ Some y → P y) → All P (filter_map f xs) → All P (cons_option o (filter_map f xs))
-    more None here rest = rest
-    more (Some y) here rest = All-cons P y (filter_map f xs) (here y refl) rest
 
 module _ {A : Type 0} (v : A → ℤ) (fits : ℤ → Type 0) (between : (x y z : ℤ) → fits x → fits z → x ≤ℤ y → y ≤ℤ z → fits y) (zero_fits : fits (pos 0)) (negated : (m n : ℕ) → fits (negsuc m) → fits (pos n) → fits (neg_ℤ (pos n))) where
   -- at each position of a window

@@ -222,3 +222,12 @@ replicate-is x (y ∷ ys) h =
 -- what holds of each image
 pub mapped-all : {X Y : Type 0} (P : Y → Type 0) (f : X → Y) (xs : List X) → All P (map f xs) → All (λ x. P (f x)) xs
 mapped-all P f xs all = λ k d lt. subst P (get_or-map f xs k d) (all k (f d) (let l = length-map xs f in omega (arith, l, lt)))
+
+-- what is found has what each has that may be found
+pub all-found : {X Y : Type 0} (P : Y → Type 0) (f : X → Option Y) (xs : List X) → ((x : X) (y : Y) → f x ≡ Some y → P y) → All P (filter_map f xs)
+all-found P f [] each = All-nil P
+all-found {Y = Y} P f (x ∷ xs) each = more (f x) (each x) (all-found P f xs each)
+  where
+    more : (o : Option Y) → ((y : Y) → o ≡ Some y → P y) → All P (filter_map f xs) → All P (cons_option o (filter_map f xs))
+    more None here rest = rest
+    more (Some y) here rest = All-cons P y (filter_map f xs) (here y refl) rest

@@ -6,6 +6,7 @@ ghost use Rattle.ndarray.specs.Products.{HasLaneSumsInRange, ShapesMultiply};
 ghost use Rattle.ndarray.specs.WholeValues.{whole_numbers};
 
 use crate::base::array::{ArrayBase, ArrayView};
+use crate::base::axis::Axis;
 use crate::base::dimension::{Ix1, IxDyn, Lengths};
 use crate::base::storage::Data;
 use crate::elements::{IntegerElem, IntegerScalar};
@@ -13,6 +14,7 @@ use crate::linalg::dynamic::inner_lanes;
 use crate::linalg::products::dot_ok;
 use crate::linalg::range_tests::IntegerDot;
 use crate::reduce::dot_fits;
+use crate::reduce::small_products::have_small_products;
 use crate::subviews::lanes::Lanes;
 
 impl<A: IntegerScalar, S: Data<Elem = A>, S2: Data<Elem = A>> IntegerDot<ArrayBase<S2, IxDyn>>
@@ -32,6 +34,10 @@ fn lanes_fit<A: IntegerElem>(x: &ArrayView<'_, A, IxDyn>, y: &ArrayView<'_, A, I
 {
     // Without cells there may be more lanes than could be walked.
     if x.len() == 0 || y.len() == 0 {
+        return true;
+    }
+    let (_left, _right) = (x.raw_dim(), y.raw_dim());
+    if have_small_products(x, y, x.len_of(Axis(x.ndim() - 1))) {
         return true;
     }
     let columns = inner_lanes(y);

@@ -1,13 +1,20 @@
-use Rattle.std.proofs.Common.{◌≡◌, ◌∙◌, ◌⊎◌, All, ap, inl, inr, subst, sym}
+use Rattle.std.proofs.Common.{◌≡◌, ◌∙◌, ◌-◌, ◌⊎◌, ℕ, List, All, ap, inl, inr, map, subst, sym}
+use Rattle.std.specs.Prelude.{pos, slice_index}
 use Rattle.std.proofs.lemmas.List.Elements.{All-nil}
 use Rattle.ndarray.specs.DotRanges.{HasInnerMagnitudeInRange, HasInnerSumInRange}
 use Rattle.ndarray.specs.Index.{size}
+use Rattle.ndarray.specs.Integers.{int_sums}
+use Rattle.ndarray.specs.Products.{lane_products, magnitude_sum}
+use Rattle.ndarray.specs.reduce.SmallProducts.{HaveSmallProducts}
+use Rattle.ndarray.specs.Sums.{IsSummable}
+use Rattle.ndarray.specs.WholeValues.{whole_numbers}
 use Rattle.ndarray.proofs.cells.LanePairs.{EachColumn, rows_of}
 use Rattle.ndarray.proofs.cells.LaneTests.{magnitudes-exact, magnitudes-none, sums-all, sums-none}
+use Rattle.ndarray.proofs.cells.SmallProducts.{small-lanes}
 use Rattle.ndarray.proofs.lists.TestedElements.{one-failed, one-held, one-held_from}
 use Rattle.ndarray.proofs.lists.Decisions.{says_no, says_yes}
 use Rattle.ndarray.proofs.linalg.dynamic_range_tests.lanes_fit.Given.{Over}
-use Rattle.ndarray.proofs.linalg.dynamic_range_tests.lanes_fit.Goals.{then-len-eq0-via-then-len-eq0, then-len-eq0-via-else-len-eq0+then-len-eq0-2}
+use Rattle.ndarray.proofs.linalg.dynamic_range_tests.lanes_fit.Goals.{Then-have_small_products, then-len-eq0-via-then-len-eq0, then-len-eq0-via-else-len-eq0+then-len-eq0-2}
 use Rattle.ndarray.proofs.linalg.dynamic_range_tests.lanes_fit.Goals as goal
 
 -- one of the two arrays has no cells
@@ -24,6 +31,24 @@ returns-then-len-eq0-clause-magnitudes g c =
 pub returns-then-len-eq0-clause-sums : goal.returns-then-len-eq0-clause-sums
 returns-then-len-eq0-clause-sums g c _ =
     sums-none c.args.x.now c.args.y.now c.requires g.A.Number.value g.A.Number.fits (g.met.A.Zero.zero_fits_law g.met.A.Integral.exact_law) (none-there g c)
+
+-- where the cells are small
+small-each : (g : Over) (c : Then-have_small_products g) (is : List ℕ) → g.A.Number.fits (pos (magnitude_sum (lane_products (whole_numbers g.A.Number.value g.A.Number.fits) c.args.x.now c.args.y.now is)))
+    × IsSummable int_sums g.A.Number.fits (lane_products (whole_numbers g.A.Number.value g.A.Number.fits) c.args.x.now c.args.y.now is)
+small-each g c =
+    let v = g.A.Number.value in
+    let fits = g.A.Number.fits in
+    let exact = g.met.A.Integral.exact_law in
+    let x = c.args.x.now in
+    let y = c.args.y.now in
+    let small = subst (λ n. HaveSmallProducts fits n (map v x.cells) (map v y.cells)) (c.len_of.ensures.value ∙ ap (λ n. slice_index x.lengths (n - 1)) c.ndim.ensures.value) (c.have_small_products.ensures c.if-have_small_products.true) in
+    small-lanes v fits (λ l m n. g.A.Number.between_law l m n exact) (g.met.A.Zero.zero_fits_law exact) g.met.A.IntegerElem.negated_fits x y c.raw_dim-left.ensures.whole c.raw_dim-right.ensures.whole c.requires small
+
+pub returns-then-have_small_products-clause-magnitudes : goal.returns-then-have_small_products-clause-magnitudes
+returns-then-have_small_products-clause-magnitudes g c = says_yes _ (λ is _. (small-each g c is).0)
+
+pub returns-then-have_small_products-clause-sums : goal.returns-then-have_small_products-clause-sums
+returns-then-have_small_products-clause-sums g c = λ _ is _. (small-each g c is).1
 
 pub loop-row-init : goal.loop-row-init
 loop-row-init g c =
