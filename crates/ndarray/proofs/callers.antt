@@ -1,4 +1,5 @@
 -- Lemmas for those who prove functions over this library: docs/CALLING.md says which is for which goal.
+pub mod Broadcasting
 pub mod Cells
 pub mod Collecting
 pub mod ColumnOrder

@@ -1,5 +1,5 @@
 -- What the functions of src/callers/range_tests compute.
-use Rattle.std.specs.Prelude.{◌≡◌, ℕ, zero, suc, ℤ, pos, ◌*ℤ◌, ◌≤◌, List, [], ◌∷◌, slice_index, FitsSigned}
+use Rattle.std.specs.Prelude.{◌≡◌, ℕ, zero, suc, ℤ, pos, ◌*ℤ◌, ◌≤◌, List, [], ◌∷◌, Some, slice_index, FitsSigned}
 use Rattle.std.specs.Int.{int_shr, w64}
 use Rattle.ndarray.specs.Grid.{Grid, cell}
 use Rattle.ndarray.specs.Integers.{int_products, int_sums}
@@ -20,6 +20,14 @@ diagonal_product a (suc n) = diagonal_product a n *ℤ whole_number (cell a (n �
 pub record HasDiagonalInRange (a : Grid ℤ) : Type 0 where
   pub square : slice_index a.lengths 0 ≡ slice_index a.lengths 1
   pub fits : (n : ℕ) → n ≤ slice_index a.lengths 0 → FitsSigned w64 (diagonal_product a n)
+
+-- each number of one vector times each number of another is an i64
+abbrev pub AreProductsInRange : Grid ℤ → Grid ℤ → Type 0
+AreProductsInRange x y = (i j : ℕ) (a b : ℤ) → cell x (i ∷ []) ≡ Some a → cell y (j ∷ []) ≡ Some b → FitsSigned w64 (a *ℤ b)
+
+-- the product of the number of one vector at the first index of a list and the number of another at the second
+abbrev pub product_of_two : Grid ℤ → Grid ℤ → List ℕ → ℤ
+product_of_two x y is = whole_number (cell x (slice_index is 0 ∷ [])) *ℤ whole_number (cell y (slice_index is 1 ∷ []))
 
 -- the sample at an index list times a gain, shifted right by a number of bits
 abbrev pub amplified_at : ℤ → ℕ → Grid ℤ → List ℕ → ℤ

@@ -6,21 +6,17 @@ use Rattle.ndarray.specs.Grid.{Grid, IsGrid, array_by, cell}
 use Rattle.ndarray.specs.Index.{InBox}
 use Rattle.ndarray.specs.Joining.{concatenation, concatenation_cell, concatenation_lengths}
 use Rattle.ndarray.specs.Views.{axis_inserted}
-use Rattle.ndarray.proofs.algebra.Stacks.{tabulate-whole}
+use Rattle.ndarray.proofs.callers.Broadcasting.{axis_inserted-cell}
 use Rattle.ndarray.proofs.callers.Elementwise.{array_by-follows}
-use Rattle.ndarray.proofs.cells.Cells.{cell-Some, cell-inside, tabulate-cell}
+use Rattle.ndarray.proofs.cells.Cells.{cell-inside, tabulate-cell}
 
 pub first-and-rest : (ns : List ℕ) → 0 < length ns → ns ≡ slice_index ns 0 ∷ remove ns 0
 first-and-rest [] some = absurd (omega arith)
 first-and-rest (n ∷ ns) some = refl
 
 module _ {A : Type 0} (g row : Grid A) (n : ℕ) (whole : IsGrid row) (long : g.lengths ≡ n ∷ row.lengths) where
-  some : (is : List ℕ) → InBox (1 ∷ row.lengths) is → (x : A) × (cell row (remove is 0) ≡ Some x)
-  some [] b = absurd b
-  some (i ∷ js) b = cell-Some row whole js b.1
-
   inserted : (js : List ℕ) → InBox row.lengths js → cell (axis_inserted row 0) (0 ∷ js) ≡ cell row js
-  inserted js b = tabulate-cell (1 ∷ row.lengths) (λ is. cell row (remove is 0)) (0 ∷ js) (tabulate-whole (1 ∷ row.lengths) (λ is. cell row (remove is 0)) some) (omega arith, b)
+  inserted js b = axis_inserted-cell row whole 0 (omega arith) (0 ∷ js) (omega arith, b)
 
   lengths : concatenation_lengths 0 (g.lengths ∷ (1 ∷ row.lengths) ∷ []) ≡ (n + 1) ∷ row.lengths
   lengths = ap (λ ns. concatenation_lengths 0 (ns ∷ (1 ∷ row.lengths) ∷ [])) long ∙ ap (λ k. k ∷ row.lengths) (omega arith)

@@ -49,7 +49,8 @@ unfolding dot
 dot-none [] = refl
 dot-none (b ∷ bs) = refl
 
-zero_on_unit_axes-all : (ns ms bs cs js : List ℕ) → length ns ≡ length ms → length bs ≡ length ns → length cs ≡ length ms → ((k : ℕ) → k < length ns → ((get_or ns k 0 ≡ 1) × (get_or cs k 0 ≡ 0)) ⊎ ((get_or ns k 0 ≡ get_or ms k 0) × (get_or cs k 0 ≡ get_or bs k 0))) → InBox ms js → InBox ns (zero_on_unit_axes ns js) × (dot cs js ≡ dot bs (zero_on_unit_axes ns js))
+-- With 0 on the axes of length 1, an index list of one box is in another, and lies as far, where on each axis lengths and strides are the same, or are 1 and 0.
+pub zero_on_unit_axes-all : (ns ms bs cs js : List ℕ) → length ns ≡ length ms → length bs ≡ length ns → length cs ≡ length ms → ((k : ℕ) → k < length ns → ((get_or ns k 0 ≡ 1) × (get_or cs k 0 ≡ 0)) ⊎ ((get_or ns k 0 ≡ get_or ms k 0) × (get_or cs k 0 ≡ get_or bs k 0))) → InBox ms js → InBox ns (zero_on_unit_axes ns js) × (dot cs js ≡ dot bs (zero_on_unit_axes ns js))
 unfolding dot
 zero_on_unit_axes-all [] [] bs cs [] l lb lc h b = (tt, dot-none cs ∙ sym (dot-none bs))
 zero_on_unit_axes-all [] [] bs cs (j ∷ js) l lb lc h b = absurd b

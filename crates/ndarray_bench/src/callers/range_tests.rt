@@ -8,15 +8,16 @@ ghost use Rattle.ndarray.specs.Elementwise.{Assigns, CanAssign, CanCombine, CanM
 ghost use Rattle.ndarray.specs.Grid.{array_by};
 ghost use Rattle.ndarray.specs.Index.{size};
 ghost use Rattle.ndarray.specs.Integers.{int_products, int_sums, magnitude_product};
+ghost use Rattle.ndarray.specs.Limits.{IsWithinLimit};
 ghost use Rattle.ndarray.specs.Products.{HasValues, ShapesMultiply, column_entries, column_of, magnitude_sum, matrix_entries, matrix_of, product_of, products_of};
 ghost use Rattle.ndarray.specs.Sums.{IsSummableBy, total, total_by};
 ghost use Rattle.ndarray.specs.WholeValues.{HasMagnitudesInRange, whole_numbers};
-ghost use Rattle.ndarray_bench.specs.RangeTests.{HasDiagonalInRange, MayApplyTwice, amplified_at, applied_twice, diagonal_product, projected_at, whole_i64};
+ghost use Rattle.ndarray_bench.specs.RangeTests.{AreProductsInRange, HasDiagonalInRange, MayApplyTwice, amplified_at, applied_twice, diagonal_product, product_of_two, projected_at, whole_i64};
 
 use ndarray::linalg::entries_fit;
 use ndarray::reduce::{checked_dot, dot_fits};
 use ndarray::{
-    Array, ArrayBase, ArrayView, Data, DataMut, DimMax, Dimension, IntegerScalar, Ix1, Ix2,
+    Array, ArrayBase, ArrayView, Axis, Data, DataMut, DimMax, Dimension, IntegerScalar, Ix1, Ix2,
     Lengths, Valued,
 };
 use std::alloc::{AllocError, Global};
@@ -109,6 +110,31 @@ where
         return Ok(None);
     }
     let products = (table * factors)?;
+    Ok(Some(products))
+}
+
+/// The table of the products of each number of a vector and each one of another, or `None` where one of them is no `i64`. The
+/// error is that there is no memory for it, as where it has more cells than an array may have; it is none where the first vector
+/// has no cells.
+pub fn multiplication_table<S: Data<Elem = i64>, T: Data<Elem = i64>>(
+    alloc: Global,
+    x: &ArrayBase<S, Ix1>,
+    y: &ArrayBase<T, Ix1>,
+) -> Checked<i64, Ix2>
+    ensures when { IfOk result (λ made. IsSome made ↔ AreProductsInRange x.now y.now) }
+    ensures products { IfOk result (λ made. IfSome made (λ t. t ≡ array_by (slice_index x.now.lengths 0 ∷ slice_index y.now.lengths 0 ∷ []) (product_of_two x.now y.now))) }
+    ensures error { IfErr result (λ _. (IsWithinLimit (slice_index x.now.lengths 0 ∷ slice_index y.now.lengths 0 ∷ []) → AreProductsInRange x.now y.now) × (slice_index x.now.lengths 0 ≢ 0)) }
+{
+    let _lengths = (x.raw_dim(), y.raw_dim());
+    let column = x.view().insert_axis(Axis(1));
+    if !column.broadcast_ok(y) {
+        return Err(AllocError);
+    }
+    if !column.mul_fits(y) {
+        return Ok(None);
+    }
+    let copy = column.to_owned(alloc)?;
+    let products = (copy * y)?;
     Ok(Some(products))
 }
 
