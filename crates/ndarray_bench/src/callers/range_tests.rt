@@ -114,7 +114,7 @@ where
 }
 
 /// The table of the products of each number of a vector and each one of another, or `None` where one of them is no `i64`. The
-/// error is that there is no memory for it, as where it has more cells than an array may have; it is none where the first vector
+/// error is that there is no memory for it, as where it has more cells than an array may have; there is none where the first vector
 /// has no cells.
 pub fn multiplication_table<S: Data<Elem = i64>, T: Data<Elem = i64>>(
     alloc: Global,
