@@ -6,6 +6,7 @@ pub mod filters;
 pub mod laws;
 pub mod range_tests;
 pub mod reading;
+pub mod trial;
 pub mod unrolled;
 pub mod updating;
 pub mod writing;
