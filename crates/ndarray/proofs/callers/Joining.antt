@@ -38,6 +38,7 @@ only-memory (Err (Shape s)) error refused none = absurd (let some : error ≡ So
 none-fails : (b c d : Bool) → b ≡ true → c ≡ true → d ≡ true → (if not b then Some OutOfBounds else if not c then Some IncompatibleShape else if not d then Some Overflow else None) ≡ None
 none-fails b c d p q r = rw (p, q, r) refl
 
+-- vectors have the same lengths but along their axis
 same-vectors : (n : ℕ) (nss : List (List ℕ)) → All (λ ns. length ns ≡ 1) nss → list_all (is_same_but_along 0 (n ∷ [])) nss ≡ true
 same-vectors n [] ones = refl
 same-vectors n ([] ∷ nss) ones = absurd (let one = All-head (λ ns. length ns ≡ 1) [] nss ones in omega arith)

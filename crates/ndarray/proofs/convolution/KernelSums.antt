@@ -21,8 +21,9 @@ use Rattle.ndarray.proofs.sums.RowSums.{map-range-below}
 use Rattle.ndarray.proofs.convolution.ProductLists.{filter_map-map}
 use Rattle.ndarray.proofs.convolution.Swapped.{reverse-filter_map}
 use Rattle.ndarray.proofs.convolution.ValueSums.{below-same}
-use Rattle.ndarray.proofs.convolution.WholeWindows.{window-inside, window-whole}
+use Rattle.ndarray.proofs.convolution.WholeWindows.{window-whole}
 use Rattle.ndarray.proofs.lists.Elements.{filter_map-from_map, map-same}
+use Rattle.ndarray.proofs.pieces.Windows.{window-inside}
 use Rattle.ndarray.proofs.sums.Rearrangements.{total-rearranged}
 
 -- the index list counted from the other end stays in the box, and twice is the list itself

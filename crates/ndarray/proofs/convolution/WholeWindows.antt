@@ -1,19 +1,17 @@
 -- Whole arrays have their cells in row order, and so have their windows.
-use Rattle.std.proofs.Common.{◌≡◌, ℕ, ◌+◌, ◌-◌, ◌*◌, ◌<◌, ◌≤◌, inl, inr, suc, zero, List, [], ◌∷◌, length, map, reverse, Some, sym, ap, ◌∙◌, arith}
-use Rattle.std.proofs.Math.Nat.{div-zero}
-use Rattle.std.proofs.lemmas.Bool.{cases_lt}
+use Rattle.std.proofs.Common.{◌≡◌, ℕ, List, length, map, reverse, Some, sym, ap, ◌∙◌}
 use Rattle.std.proofs.lemmas.List.{length-replicate, length-reverse}
 use Rattle.ndarray.specs.Algebra.{CommutativeMonoid}
 use Rattle.ndarray.specs.Convolution.{single_steps, valid_convolution_by, valid_products}
 use Rattle.ndarray.specs.Grid.{Grid, IsGrid, cell, cells_by}
 use Rattle.ndarray.specs.Index.{InBox, row_order}
 use Rattle.ndarray.specs.Products.{products_of}
-use Rattle.ndarray.specs.Subviews.{window, window_count, window_counts, window_index, windows_of}
+use Rattle.ndarray.specs.Subviews.{window, window_counts, window_index, windows_of}
 use Rattle.ndarray.specs.Sums.{total}
 use Rattle.ndarray.proofs.cells.Cells.{all-cells, along-row_order, cell-Some}
 use Rattle.ndarray.proofs.lists.Elements.{length-filter_map_all, map-from_filter_map}
 use Rattle.ndarray.proofs.boxes.Orders.{length-row_order, row_order-is}
-use Rattle.ndarray.proofs.pieces.Windows.{none, some, window-fits}
+use Rattle.ndarray.proofs.pieces.Windows.{window-inside}
 use Rattle.ndarray.proofs.convolution.Mirrors.{HasCellsInRows, valid_products-reversed}
 use Rattle.ndarray.proofs.convolution.OverWindows.{valid-over_windows}
 
@@ -22,30 +20,8 @@ in_rows g whole =
     map-from_filter_map (cell g) (row_order g.lengths) (all-cells g whole (row_order g.lengths) (row_order-is g.lengths).within)
     ∙ ap (map Some) (along-row_order g whole)
 
--- a window at a position lies within the axis; at steps of 0 there is one position
-within : (n w s p : ℕ) → p < window_count n w s → p * s + w ≤ n
-within n w zero p lt =
-    elim (cases_lt n w) [
-      | inl below ↦ (let z = none n w 0 below in absurd (omega arith))
-      | inr le ↦ (let c = some n w 0 le in let d = div-zero (n - w) in omega arith)
-    ]
-within n w (suc s) p lt = window-fits n w (suc s) p (omega arith) lt
-
--- an index list of a window lies in the array
-pub window-inside : (ns ws ss ps js : List ℕ) → length ws ≡ length ns → length ss ≡ length ns → InBox (window_counts ns ws ss) ps → InBox ws js → InBox ns (window_index ss ps js)
-window-inside [] [] [] ps js p q b c = tt
-window-inside [] (w ∷ ws) [] ps js p q b c = absurd (omega arith)
-window-inside [] ws (s ∷ ss) ps js p q b c = absurd (omega arith)
-window-inside (n ∷ ns) [] ss ps js p q b c = absurd (omega arith)
-window-inside (n ∷ ns) (w ∷ ws) [] ps js p q b c = absurd (omega arith)
-window-inside (n ∷ ns) (w ∷ ws) (s ∷ ss) [] js p q b c = absurd b
-window-inside (n ∷ ns) (w ∷ ws) (s ∷ ss) (x ∷ ps) [] p q b c = absurd c
-window-inside (n ∷ ns) (w ∷ ws) (s ∷ ss) (x ∷ ps) (j ∷ js) p q b c =
-    let fits = within n w s x b.0 in
-    let below : j < w = c.0 in
-    (omega (arith, fits, below), window-inside ns ws ss ps js (omega arith) (omega arith) b.1 c.1)
-
 module _ {A : Type 0} (g : Grid A) (whole : IsGrid g) where
+  -- a window at a position, of any lengths and at any steps, is whole
   pub window-whole : (ws ss ps : List ℕ) → length ws ≡ length g.lengths → length ss ≡ length g.lengths → InBox (window_counts g.lengths ws ss) ps → IsGrid (window g ws ss ps)
   unfolding cells_by
   window-whole ws ss ps same steps b =
@@ -54,6 +30,7 @@ module _ {A : Type 0} (g : Grid A) (whole : IsGrid g) where
       ∙ length-row_order ws
 
   module _ {C : Type 0} (plus times : CommutativeMonoid C) (value : A → C) (kernel : Grid A) (whole_kernel : IsGrid kernel) (axes : length kernel.lengths ≡ length g.lengths) where
+    -- the windows of the kernel's lengths are whole
     own-window : (ps : List ℕ) → InBox (window_counts g.lengths kernel.lengths (single_steps g.lengths)) ps → IsGrid (window g kernel.lengths (single_steps g.lengths) ps)
     own-window ps b = window-whole kernel.lengths (single_steps g.lengths) ps axes (length-replicate (length g.lengths) 1) b
 

@@ -25,9 +25,9 @@ use Rattle.ndarray.proofs.cells.Cells.{all-cells, cell-Some, tabulate-cell}
 use Rattle.ndarray.proofs.cells.Matrices.{below-same}
 use Rattle.ndarray.proofs.convolution.KernelSums.{both-some}
 use Rattle.ndarray.proofs.convolution.Mirrors.{products-along}
-use Rattle.ndarray.proofs.convolution.WholeWindows.{in_rows, window-inside, window-whole}
+use Rattle.ndarray.proofs.convolution.WholeWindows.{in_rows, window-whole}
 use Rattle.ndarray.proofs.lists.Elements.{filter_map-from_map, map-from_filter_map, map-same}
-use Rattle.ndarray.proofs.pieces.Windows.{length-window_counts}
+use Rattle.ndarray.proofs.pieces.Windows.{length-window_counts, window-inside}
 use Rattle.ndarray.proofs.strides.Rows.{row-first}
 use Rattle.ndarray.proofs.sums.RowSums.{first-left, row-added, row-can_add, values-alike, values-are}
 
