@@ -13,5 +13,5 @@ returns g c =
     (λ b i q t.
     let there : cell a i ≡ Some t.0.now = rw first at t.1 in
     let answer : q.1 ≡ max b t.0.now = search (rules, t.2) in
-    (t.0.now, there, search (rules, t.2), answer))
+    (t.0.now, there, search rules, answer))
     _ _ _ _ (ap (λ v. v.lengths) first) turns

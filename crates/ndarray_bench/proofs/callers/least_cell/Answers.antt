@@ -17,7 +17,7 @@ least-is c =
     (λ b i q t.
     let there : cell a i ≡ Some t.0.now = rw first at t.1 in
     let answer : q.1 ≡ int_min b t.0.now = search (rules, t.2) in
-    (t.0.now, there, search (rules, t.2), answer))
+    (t.0.now, there, search rules, answer))
     _ _ _ _ (ap (λ v. v.lengths) first) turns
     ∙ ap (λ z. fold int_min z a.cells) read
 
