@@ -16,6 +16,7 @@ pub mod Mapping
 pub mod MatrixPowers
 pub mod Maxima
 pub mod PartialFolds
+pub mod Parts
 pub mod ProductChains
 pub mod Products
 pub mod RowOrder

@@ -4,4 +4,3 @@ pub mod Filters
 pub mod PairedProducts
 pub mod Updating
 pub mod RangeTests
-pub mod Trial

@@ -6,14 +6,13 @@ pub mod filters;
 pub mod laws;
 pub mod range_tests;
 pub mod reading;
-pub mod trial;
 pub mod unrolled;
 pub mod updating;
 pub mod writing;
 
-ghost use Rattle.std.specs.Prelude.{◌≡◌, ◌≢◌, ◌↔◌, ◌<◌, ◌≤◌, ◌^◌, ◌∷◌, [], ◌++◌, ◌+ℤ◌, ◌-ℤ◌, ◌/◌, ◌*◌, ℕ, ℤ, List, Some, length, map, max, nat_lt, pos, replicate, slice_index, false, IfErr, IfOk, IfSome, IsOk, IsSome, IsTrue, FitsSigned};
+ghost use Rattle.std.specs.Prelude.{◌≡◌, ◌≢◌, ◌↔◌, ◌<◌, ◌≤◌, ◌≤ℤ◌, ◌^◌, ◌∷◌, [], ◌++◌, ◌+ℤ◌, ◌-ℤ◌, ◌/◌, ◌*◌, ℕ, ℤ, List, Some, drop, int_lt, length, map, max, nat_lt, pos, replicate, slice_index, take, false, All, Contains, IfErr, IfOk, IfSome, IsOk, IsSome, IsTrue, FitsSigned};
 ghost use Rattle.std.specs.Int.{w64};
-ghost use Rattle.std.specs.List.{fold, list_all, list_any};
+ghost use Rattle.std.specs.List.{count_by, fold, list_all, list_any};
 ghost use Rattle.ndarray.specs.AlongAxis.{Cumulates, IsDifference, one_further};
 ghost use Rattle.ndarray.specs.Broadcast.{BroadcastsTo, broadcast_lengths};
 ghost use Rattle.ndarray.specs.Chains.{HasColumn, HasMatrix};
@@ -26,6 +25,7 @@ ghost use Rattle.ndarray.specs.Products.{column_entries, column_of, magnitude_su
 ghost use Rattle.ndarray.specs.Subviews.{window_counts};
 ghost use Rattle.ndarray.specs.Sums.{IsSummable, total, total_by};
 ghost use Rattle.ndarray.specs.WholeValues.{HasMagnitudesInRange};
+ghost use Rattle.ndarray.specs.declared.stacking.error.StackError.TheVariants.{Memory};
 ghost use Rattle.ndarray_bench.specs.Callers.{greater_at, greatest_in_square, half_at, multiple_added, off_diagonal, product_added, rest_at, row_total, sum_at, sum_below};
 ghost use Rattle.residue.specs.Residue.{Below, modulus, modulus_pos, residue_products, residue_sums};
 
@@ -130,6 +130,24 @@ pub fn greatest<S: Data<Elem = u64>, D: Lengths>(a: &ArrayBase<S, D>) -> u64
     ensures { result ≡ fold max 0 a.now.cells }
 {
     Zip::from(a.view()).fold(0, |most, x| most.max(*x))
+}
+
+/// The least cell of a table, and 0 where it has none.
+pub fn least_cell(a: &ArrayView<'_, i64, Ix2>) -> i64
+    ensures bounds { All (λ y. result ≤ℤ y) a.now.cells }
+    ensures reached { length a.now.cells ≢ 0 → Contains a.now.cells result }
+{
+    let Some(first) = a.iter().next() else {
+        return 0;
+    };
+    Zip::from(a.view()).fold(*first, |least, x| least.min(*x))
+}
+
+/// How many cells are greater than a bound.
+pub fn count_above<S: Data<Elem = i64>, D: Lengths>(a: &ArrayBase<S, D>, bound: i64) -> usize
+    ensures { result ≡ count_by (λ x. int_lt bound x) a.now.cells }
+{
+    a.iter().filter(|x| **x > bound).count()
 }
 
 /// The greatest cell of each view of a producer, as windows or chunks of a table, and 0 where a view has none.
@@ -297,6 +315,26 @@ pub fn join_vectors<S: Data<Elem = i64>, T: Data<Elem = i64>>(
     ensures { IfOk result (λ r. r ≡ one_axis (first.now.cells ++ second.now.cells)) }
 {
     concatenate(alloc, Axis(0), &[first.view(), second.view()])
+}
+
+/// The cells of a vector from the one at `k` on, and behind them the first `k`; or `None`, where the vector has fewer.
+pub fn exchange_halves<S: Data<Elem = i64>>(
+    alloc: Global,
+    x: &ArrayBase<S, Ix1>,
+    k: usize,
+) -> Result<Option<Array<i64, Ix1>>, StackError>
+    ensures when { IfOk result (λ made. IsSome made ↔ (k ≤ length x.now.cells)) }
+    ensures cells { IfOk result (λ made. IfSome made (λ r. r ≡ one_axis (drop k x.now.cells ++ take k x.now.cells))) }
+    ensures error { IfErr result (λ _. (k ≤ length x.now.cells) × (length x.now.cells ≢ 0)) }
+    ensures memory { IfErr result (λ e. (m : AllocError) × (e ≡ Memory m)) }
+{
+    let x = x.view();
+    if x.len_of(Axis(0)) < k {
+        return Ok(None);
+    }
+    let (first, rest) = x.split_at(Axis(0), k);
+    let exchanged = concatenate(alloc, Axis(0), &[rest, first])?;
+    Ok(Some(exchanged))
 }
 
 /// A signal with zeros behind it.

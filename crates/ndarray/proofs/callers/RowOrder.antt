@@ -1,14 +1,15 @@
 -- What does not depend on the order of a walk, as said of the cells in row order.
-use Rattle.std.proofs.Common.{◌≡◌, ℕ, zero, suc, ◌<◌, Bool, true, false, ◌&&◌, ◌||◌, List, [], ◌∷◌, length, map, set, get_or, Option, Some, refl, sym, ap, ◌∙◌, arith}
+use Rattle.std.proofs.Common.{◌≡◌, ℕ, zero, suc, ◌<◌, Bool, true, false, ◌&&◌, ◌||◌, List, [], ◌∷◌, length, map, set, get_or, Option, Some, None, refl, sym, ap, ◌∙◌, arith}
 use Rattle.std.specs.Prelude.{IsPermutation}
-use Rattle.std.specs.List.{swap, fold, list_all, list_any}
+use Rattle.std.specs.List.{FoldsTo, swap, fold, list_all, list_any}
 use Rattle.std.proofs.lemmas.List.Sorted.{IsPermutation-keeps, list_any-IsPermutation}
 use Rattle.ndarray.specs.Index.{row_order}
 use Rattle.ndarray.specs.Grid.{Grid, IsGrid, cell}
-use Rattle.ndarray.specs.Orders.{box_in}
+use Rattle.ndarray.specs.Orders.{box_in, cells_in}
 use Rattle.ndarray.specs.declared.base.shape.Order.{Order}
 use Rattle.ndarray.specs.declared.base.shape.Order.TheVariants.{RowMajor}
 use Rattle.ndarray.proofs.boxes.Orders.{row_order-is, box_in-is}
+use Rattle.ndarray.proofs.callers.Folding.{fold-follows}
 use Rattle.ndarray.proofs.cells.Cells.{cells_in-HasInOrder}
 use Rattle.ndarray.proofs.lists.Permutations.{IsBoxIn-rearranges}
 use Rattle.ndarray.proofs.strides.ContiguousCells.{row-cells}
@@ -100,6 +101,17 @@ module _ {A : Type 0} (at : List ℕ → Option A) where
       let rest : list_any t is ≡ list_any p xs = any-along t p same is xs (cc) in
       ap (λ c. c || list_any t is) (same i x first) ∙ ap (λ l. p x || l) rest
 
+-- a step at what may be there
+abbrev stepped : {A B : Type 0} → (B → A → B) → B → Option A → B
+stepped k b None = b
+stepped k b (Some x) = k b x
+
+stepped-commutes : {A B : Type 0} (k : B → A → B) → ((b : B) (x y : A) → k (k b x) y ≡ k (k b y) x) → (b : B) (o p : Option A) → stepped k (stepped k b o) p ≡ stepped k (stepped k b p) o
+stepped-commutes k commutes b None None = refl
+stepped-commutes k commutes b None (Some y) = refl
+stepped-commutes k commutes b (Some x) None = refl
+stepped-commutes k commutes b (Some x) (Some y) = commutes b x y
+
 -- An array's cells are what is at its index lists in row order.
 module _ {A : Type 0} (g : Grid A) (whole : IsGrid g) where
   in_row : map (cell g) (row_order g.lengths) ≡ map Some g.cells
@@ -108,6 +120,32 @@ module _ {A : Type 0} (g : Grid A) (whole : IsGrid g) where
   pub fold-cells : {B : Type 0} (h : B → List ℕ → B) (k : B → A → B) → ((b : B) (i : List ℕ) (x : A) → cell g i ≡ Some x → h b i ≡ k b x)
       → (b : B) → fold h b (row_order g.lengths) ≡ fold k b g.cells
   fold-cells h k same b = fold-along (cell g) h k same (row_order g.lengths) g.cells b in_row
+
+  -- the fold over the box in any order is that over the cells, where two cells may be taken in either order
+  pub fold-over-cells : {B : Type 0} (h : B → List ℕ → B) (k : B → A → B) → ((b : B) (x y : A) → k (k b x) y ≡ k (k b y) x) → ((b : B) (i : List ℕ) (x : A) → cell g i ≡ Some x → h b i ≡ k b x)
+      → (o : Order) (b : B) → fold h b (box_in o g.lengths) ≡ fold k b g.cells
+  fold-over-cells {B} h k commutes same o b =
+      let step = λ (c : B) (i : List ℕ). stepped k c (cell g i) in
+      let at = λ (c : B) (i : List ℕ) (x : A) (there : cell g i ≡ Some x). ap (stepped k c) there in
+      let along = cells_in-HasInOrder o g whole (box_in o g.lengths) (box_in-is o g.lengths) in
+      fold-along (cell g) h k same (box_in o g.lengths) (cells_in o g) b along
+      ∙ (sym (fold-along (cell g) step k at (box_in o g.lengths) (cells_in o g) b along)
+      ∙ (fold-in_row_order step (λ c i j. stepped-commutes k commutes c (cell g i) (cell g j)) o g.lengths b
+      ∙ fold-cells step k at b))
+
+  -- so turns over the box in any order, each of which takes the total by the cell that is there, give the fold over the cells
+  pub turns-over-cells : {F B : Type 0} (turn : F × B → List ℕ → F × B → Type 0) (f : F) (k : B → A → B) → ((b : B) (x y : A) → k (k b x) y ≡ k (k b y) x)
+      → ((b : B) (i : List ℕ) (q : F × B) → turn (f, b) i q → (x : A) × (cell g i ≡ Some x) × (q.0 ≡ f) × (q.1 ≡ k b x))
+      → (o : Order) (init : B) (ns : List ℕ) (q : F × B) → ns ≡ g.lengths → FoldsTo turn (f, init) (box_in o ns) q → q.1 ≡ fold k init g.cells
+  turns-over-cells {F} {B} turn f k commutes each o init ns q own turns =
+      let step = λ (b : B) (i : List ℕ). stepped k b (cell g i) in
+      fold-follows turn f step
+      (λ b i r t.
+      let (x, there, same, gives) = each b i r t in
+      (same, gives ∙ sym (ap (stepped k b) there)))
+      init (box_in o ns) q turns
+      ∙ (ap (λ ms. fold step init (box_in o ms)) own
+      ∙ fold-over-cells step k commutes (λ b i x there. ap (stepped k b) there) o init)
 
   pub list_all-cells : (t : List ℕ → Bool) (p : A → Bool) → ((i : List ℕ) (x : A) → cell g i ≡ Some x → t i ≡ p x) → list_all t (row_order g.lengths) ≡ list_all p g.cells
   list_all-cells t p same = all-along (cell g) t p same (row_order g.lengths) g.cells in_row

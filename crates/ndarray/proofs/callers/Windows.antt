@@ -1,3 +1,4 @@
--- Windows of an array are whole, and how many there are along an axis.
+-- How many windows there are along an axis; a window of a whole array is whole, whatever its lengths and the steps, as at steps of
+-- `1 ∷ 1 ∷ []`, which `windows` has for a table.
 pub use Rattle.ndarray.proofs.convolution.OneAxis.{window_count-valid}
 pub use Rattle.ndarray.proofs.convolution.WholeWindows.{window-whole}

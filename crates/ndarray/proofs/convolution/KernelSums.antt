@@ -1,6 +1,7 @@
 -- The valid convolution by the kernel's own indices: along one axis the sum over the kernel's elements, of two axes over its rows and columns.
 use Rattle.std.proofs.Common.{◌≡◌, ℕ, ◌+◌, ◌-◌, ◌*◌, ◌<◌, List, [], ◌∷◌, filter_map, length, map, replicate, reverse, Some, refl, sym, ap, ◌∙◌, arith}
 use Rattle.std.specs.List.{range_with_len}
+use Rattle.std.proofs.lemmas.List.{length-replicate}
 use Rattle.std.proofs.lemmas.List.Sorted.{IsPermutation-reverse}
 use Rattle.std.proofs.lemmas.Simd.{map-map}
 use Rattle.ndarray.specs.Algebra.{CommutativeMonoid}
@@ -20,8 +21,9 @@ use Rattle.ndarray.proofs.sums.RowSums.{map-range-below}
 use Rattle.ndarray.proofs.convolution.ProductLists.{filter_map-map}
 use Rattle.ndarray.proofs.convolution.Swapped.{reverse-filter_map}
 use Rattle.ndarray.proofs.convolution.ValueSums.{below-same}
-use Rattle.ndarray.proofs.convolution.WholeWindows.{window-inside, window-whole}
+use Rattle.ndarray.proofs.convolution.WholeWindows.{window-whole}
 use Rattle.ndarray.proofs.lists.Elements.{filter_map-from_map, map-same}
+use Rattle.ndarray.proofs.pieces.Windows.{window-inside}
 use Rattle.ndarray.proofs.sums.Rearrangements.{total-rearranged}
 
 -- the index list counted from the other end stays in the box, and twice is the list itself
@@ -62,9 +64,9 @@ module _ {A C : Type 0} (plus times : CommutativeMonoid C) (value : A → C) whe
     term js inside =
         let ms : List ℕ = mirrored ns js in
         let within : InBox ns ms = mirrored-inside ns js inside in
-        let (x, here) = cell-Some g whole (window_index steps ps ms) (window-inside g.lengths ns ps ms axes b within) in
+        let (x, here) = cell-Some g whole (window_index steps ps ms) (window-inside g.lengths ns steps ps ms axes (length-replicate (length g.lengths) 1) b within) in
         let (k, there) = cell-Some kernel whole_kernel js inside in
-        let seen : cell (window g ns steps ps) ms ≡ cell g (window_index steps ps ms) = tabulate-cell ns (λ is. cell g (window_index steps ps is)) ms (window-whole g whole ns ps axes b) within in
+        let seen : cell (window g ns steps ps) ms ≡ cell g (window_index steps ps ms) = tabulate-cell ns (λ is. cell g (window_index steps ps is)) ms (window-whole g whole ns steps ps axes (length-replicate (length g.lengths) 1) b) within in
         ap (λ o. product_of_both times value o (cell kernel (mirrored ns ms))) seen
         ∙ (ap (λ is. product_of_both times value (cell g (window_index steps ps ms)) (cell kernel is)) (mirrored-mirrored ns js inside)
         ∙ both-some g kernel (window_index steps ps ms) js x k here there)

@@ -2,7 +2,7 @@
 use Rattle.std.proofs.Common.{◌≡◌, ℕ, zero, suc, ◌+◌, ◌-◌, ◌<◌, ◌≤◌, List, [], ◌∷◌, ◌++◌, drop, length, reverse, Some, None, refl, sym, ap, ◌∙◌, arith}
 use Rattle.std.specs.Prelude.{filter_map, slice_get, slice_index}
 use Rattle.std.specs.List.{cons_option, range_with_len}
-use Rattle.std.proofs.lemmas.List.{get_or-reverse, length-drop, length-reverse, take_rest}
+use Rattle.std.proofs.lemmas.List.{get_or-reverse, length-drop, length-reverse}
 use Rattle.std.proofs.lemmas.List.Elements.{filter_map-append}
 use Rattle.std.proofs.lemmas.Option.{slice_get-get_or, slice_get_past}
 use Rattle.ndarray.specs.Algebra.{CommutativeMonoid}
@@ -10,14 +10,13 @@ use Rattle.ndarray.specs.Convolution.{convolution_products, product_of_both}
 use Rattle.ndarray.specs.Grid.{Grid, IsGrid}
 use Rattle.ndarray.specs.Products.{products_of}
 use Rattle.ndarray.specs.Views.{axis_part}
-use Rattle.ndarray.proofs.callers.Joining.{one_axis-is}
+use Rattle.ndarray.proofs.callers.Parts.{length-cells, rest-cells}
 use Rattle.ndarray.proofs.convolution.Filters.{slice_get-later}
 use Rattle.ndarray.proofs.convolution.Pairs.{none-along}
 use Rattle.ndarray.proofs.lists.Ranges.{range-append}
 use Rattle.ndarray.proofs.convolution.ProductLists.{filter_map-range, no_second}
 use Rattle.ndarray.proofs.convolution.Windows.{filter_map-none}
 use Rattle.ndarray.proofs.lists.Elements.{slice_get-Some}
-use Rattle.ndarray.proofs.runs.OneAxisProducers.{one_axis-part}
 
 -- a list backwards
 slice_get-reverse : {A : Type 0} (ys : List A) (i : ℕ) → i < length ys → slice_get (reverse ys) i ≡ slice_get ys (length ys - 1 - i)
@@ -70,7 +69,7 @@ module _ {A C : Type 0} (times : CommutativeMonoid C) (value : A → C) where
 pub cells-from : {A : Type 0} (x view rest : Grid A) (first : ℕ) → view ≡ x → length x.lengths ≡ 1 → IsGrid view → first ≤ length x.cells
     → rest ≡ axis_part view 0 first (slice_index view.lengths 0) → rest.cells ≡ drop first x.cells
 cells-from x view rest first same one whole le is_part =
-    let vs = view.cells in
-    let as_many : length vs ≡ length x.cells = ap (λ w. length w.cells) same in
-    ap (λ w. w.cells) (is_part ∙ (ap (λ w. axis_part w 0 first (slice_index w.lengths 0)) (one_axis-is view (ap (λ w. length w.lengths) same ∙ one) whole) ∙ sym (one_axis-part vs first (length vs) (omega arith) (omega arith))))
-    ∙ (take_rest vs first ∙ ap (λ w. drop first w.cells) same)
+    let one_view : length view.lengths ≡ 1 = ap (λ w. length w.lengths) same ∙ one in
+    let as_many : length view.cells ≡ length x.cells = ap (λ w. length w.cells) same in
+    let long = length-cells view one_view whole in
+    ap (λ w. w.cells) is_part ∙ (rest-cells view one_view whole first (omega arith) ∙ ap (λ w. drop first w.cells) same)

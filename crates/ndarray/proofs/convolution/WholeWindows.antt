@@ -1,5 +1,5 @@
 -- Whole arrays have their cells in row order, and so have their windows.
-use Rattle.std.proofs.Common.{◌≡◌, ℕ, ◌<◌, ◌≤◌, suc, zero, List, [], ◌∷◌, length, map, replicate, reverse, Some, sym, ap, ◌∙◌, arith}
+use Rattle.std.proofs.Common.{◌≡◌, ℕ, List, length, map, reverse, Some, sym, ap, ◌∙◌}
 use Rattle.std.proofs.lemmas.List.{length-replicate, length-reverse}
 use Rattle.ndarray.specs.Algebra.{CommutativeMonoid}
 use Rattle.ndarray.specs.Convolution.{single_steps, valid_convolution_by, valid_products}
@@ -11,7 +11,7 @@ use Rattle.ndarray.specs.Sums.{total}
 use Rattle.ndarray.proofs.cells.Cells.{all-cells, along-row_order, cell-Some}
 use Rattle.ndarray.proofs.lists.Elements.{length-filter_map_all, map-from_filter_map}
 use Rattle.ndarray.proofs.boxes.Orders.{length-row_order, row_order-is}
-use Rattle.ndarray.proofs.pieces.Windows.{window-fits}
+use Rattle.ndarray.proofs.pieces.Windows.{window-inside}
 use Rattle.ndarray.proofs.convolution.Mirrors.{HasCellsInRows, valid_products-reversed}
 use Rattle.ndarray.proofs.convolution.OverWindows.{valid-over_windows}
 
@@ -20,52 +20,30 @@ in_rows g whole =
     map-from_filter_map (cell g) (row_order g.lengths) (all-cells g whole (row_order g.lengths) (row_order-is g.lengths).within)
     ∙ ap (map Some) (along-row_order g whole)
 
--- the steps are at least 1
-abbrev AreSteps : List ℕ → Type 0
-AreSteps [] = Unit {0}
-AreSteps (s ∷ ss) = (1 ≤ s) × AreSteps ss
-
-ones : (m : ℕ) → AreSteps (replicate m 1)
-ones zero = tt
-ones (suc m) = (omega arith, ones m)
-
--- an index list of a window lies in the array
-inside : (ns ws ss ps js : List ℕ) → AreSteps ss → length ws ≡ length ns → length ss ≡ length ns → InBox (window_counts ns ws ss) ps → InBox ws js → InBox ns (window_index ss ps js)
-inside [] [] [] ps js a p q b c = tt
-inside [] (w ∷ ws) ss ps js a p q b c = absurd (omega arith)
-inside [] [] (s ∷ ss) ps js a p q b c = absurd (omega arith)
-inside (n ∷ ns) [] ss ps js a p q b c = absurd (omega arith)
-inside (n ∷ ns) (w ∷ ws) [] ps js a p q b c = absurd (omega arith)
-inside (n ∷ ns) (w ∷ ws) (s ∷ ss) [] js a p q b c = absurd b
-inside (n ∷ ns) (w ∷ ws) (s ∷ ss) (x ∷ ps) [] a p q b c = absurd c
-inside (n ∷ ns) (w ∷ ws) (s ∷ ss) (x ∷ ps) (j ∷ js) a p q b c =
-    let fits = window-fits n w s x a.0 b.0 in
-    let below : j < w = c.0 in
-    (omega (arith, fits, below), inside ns ws ss ps js a.1 (omega arith) (omega arith) b.1 c.1)
-
--- of windows one step apart
-pub window-inside : (ns ws ps js : List ℕ) → length ws ≡ length ns → InBox (window_counts ns ws (single_steps ns)) ps → InBox ws js → InBox ns (window_index (single_steps ns) ps js)
-window-inside ns ws ps js same b c = inside ns ws (single_steps ns) ps js (ones (length ns)) same (length-replicate (length ns) 1) b c
-
 module _ {A : Type 0} (g : Grid A) (whole : IsGrid g) where
-  pub window-whole : (ws ps : List ℕ) → length ws ≡ length g.lengths → InBox (window_counts g.lengths ws (single_steps g.lengths)) ps → IsGrid (window g ws (single_steps g.lengths) ps)
+  -- a window at a position, of any lengths and at any steps, is whole
+  pub window-whole : (ws ss ps : List ℕ) → length ws ≡ length g.lengths → length ss ≡ length g.lengths → InBox (window_counts g.lengths ws ss) ps → IsGrid (window g ws ss ps)
   unfolding cells_by
-  window-whole ws ps same b =
-      length-filter_map_all (λ js. cell g (window_index (single_steps g.lengths) ps js)) (row_order ws)
-      (λ k d lt. cell-Some g whole _ (window-inside g.lengths ws ps _ same b ((row_order-is ws).within k d lt)))
+  window-whole ws ss ps same steps b =
+      length-filter_map_all (λ js. cell g (window_index ss ps js)) (row_order ws)
+      (λ k d lt. cell-Some g whole _ (window-inside g.lengths ws ss ps _ same steps b ((row_order-is ws).within k d lt)))
       ∙ length-row_order ws
 
   module _ {C : Type 0} (plus times : CommutativeMonoid C) (value : A → C) (kernel : Grid A) (whole_kernel : IsGrid kernel) (axes : length kernel.lengths ≡ length g.lengths) where
+    -- the windows of the kernel's lengths are whole
+    own-window : (ps : List ℕ) → InBox (window_counts g.lengths kernel.lengths (single_steps g.lengths)) ps → IsGrid (window g kernel.lengths (single_steps g.lengths) ps)
+    own-window ps b = window-whole kernel.lengths (single_steps g.lengths) ps axes (length-replicate (length g.lengths) 1) b
+
     -- the products of the valid convolution at a position are those of the window's cells with the kernel's cells backwards
     pub products-backwards : (ps : List ℕ) → InBox (window_counts g.lengths kernel.lengths (single_steps g.lengths)) ps
         → valid_products times value g kernel ps ≡ products_of times value (window g kernel.lengths (single_steps g.lengths) ps).cells (reverse kernel.cells)
     products-backwards ps b =
-        valid_products-reversed times value g kernel ps (in_rows (window g kernel.lengths (single_steps g.lengths) ps) (window-whole kernel.lengths ps axes b)) (in_rows kernel whole_kernel)
+        valid_products-reversed times value g kernel ps (in_rows (window g kernel.lengths (single_steps g.lengths) ps) (own-window ps b)) (in_rows kernel whole_kernel)
 
     -- the window has as many cells as the kernel
     pub length-window : (ps : List ℕ) → InBox (window_counts g.lengths kernel.lengths (single_steps g.lengths)) ps → length (window g kernel.lengths (single_steps g.lengths) ps).cells ≡ length (reverse kernel.cells)
-    length-window ps b = window-whole kernel.lengths ps axes b ∙ (sym whole_kernel ∙ sym (length-reverse kernel.cells))
+    length-window ps b = own-window ps b ∙ (sym whole_kernel ∙ sym (length-reverse kernel.cells))
 
     -- so the valid convolution goes over the windows, each times the kernel backwards
     pub valid-backwards : (valid_convolution_by plus times value g kernel).cells ≡ map (λ w. total plus (products_of times value w.cells (reverse kernel.cells))) (windows_of g kernel.lengths (single_steps g.lengths)).cells
-    valid-backwards = valid-over_windows plus times value g kernel (λ ps b. in_rows (window g kernel.lengths (single_steps g.lengths) ps) (window-whole kernel.lengths ps axes b)) (in_rows kernel whole_kernel)
+    valid-backwards = valid-over_windows plus times value g kernel (λ ps b. in_rows (window g kernel.lengths (single_steps g.lengths) ps) (own-window ps b)) (in_rows kernel whole_kernel)

@@ -25,9 +25,9 @@ use Rattle.ndarray.proofs.cells.Cells.{all-cells, cell-Some, tabulate-cell}
 use Rattle.ndarray.proofs.cells.Matrices.{below-same}
 use Rattle.ndarray.proofs.convolution.KernelSums.{both-some}
 use Rattle.ndarray.proofs.convolution.Mirrors.{products-along}
-use Rattle.ndarray.proofs.convolution.WholeWindows.{in_rows, window-inside, window-whole}
+use Rattle.ndarray.proofs.convolution.WholeWindows.{in_rows, window-whole}
 use Rattle.ndarray.proofs.lists.Elements.{filter_map-from_map, map-from_filter_map, map-same}
-use Rattle.ndarray.proofs.pieces.Windows.{length-window_counts}
+use Rattle.ndarray.proofs.pieces.Windows.{length-window_counts, window-inside}
 use Rattle.ndarray.proofs.strides.Rows.{row-first}
 use Rattle.ndarray.proofs.sums.RowSums.{first-left, row-added, row-can_add, values-alike, values-are}
 
@@ -71,14 +71,14 @@ module _ {A : Type 0} (e : ValuedGhosts A) where
       index-is ps js b inside = shifted-window g.lengths ps js (as_many ps b) (InBox-length h.lengths js inside ∙ axes)
 
       pub index-inside : (ps js : List ℕ) → InBox counts ps → InBox h.lengths js → InBox g.lengths (shifted_index js ps)
-      index-inside ps js b inside = subst (InBox g.lengths) (sym (index-is ps js b inside)) (window-inside g.lengths h.lengths ps js axes b inside)
+      index-inside ps js b inside = subst (InBox g.lengths) (sym (index-is ps js b inside)) (window-inside g.lengths h.lengths (single_steps g.lengths) ps js axes (length-replicate (length g.lengths) 1) b inside)
 
       -- the products of a window, along the box of the array
       pub products-are : IsGrid h → (ps : List ℕ) → InBox counts ps → window_products e.multiplication e.meaning g h ps ≡ map (product_at ps) (row_order h.lengths)
       products-are whole_h ps b =
           let ns = h.lengths in
           let w : Grid A = window g ns (single_steps g.lengths) ps in
-          let w_whole = window-whole g whole ns ps axes b in
+          let w_whole = window-whole g whole ns (single_steps g.lengths) ps axes (length-replicate (length g.lengths) 1) b in
           let both = λ (js : List ℕ). product_of_both e.multiplication e.meaning (cell w js) (cell h js) in
           let each = λ (js : List ℕ) (inside : InBox ns js).
           (let (x, here) = cell-Some g whole (shifted_index js ps) (index-inside ps js b inside) in

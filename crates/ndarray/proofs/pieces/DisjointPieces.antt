@@ -1,9 +1,8 @@
 -- The pieces of an array that have no place in common, as sub-views to write in.
 use Rattle.std.proofs.Common.{◌≡◌, ℕ, ◌+◌, ◌*◌, ◌/◌, ◌<◌, ◌≤◌, suc, zero, List, [], ◌∷◌, length, get_or, Option, refl, sym, ◌∙◌, ap, arith, subst, inl, inr}
-use Rattle.std.specs.Prelude.{All, insert, remove, ⊤}
+use Rattle.std.specs.Prelude.{insert, remove, ⊤}
 use Rattle.std.proofs.Math.Nat.{mul-le-mul_right}
 use Rattle.std.proofs.lemmas.Bool.{cases_lt}
-use Rattle.std.proofs.lemmas.List.Elements.{All-head, All-tail}
 use Rattle.std.proofs.lemmas.Nat.{div-mul-add}
 use Rattle.std.proofs.lemmas.List.Edits.{get_or-insert_at, length-remove}
 use Rattle.ndarray.specs.Index.{InBox, row_order, IsBefore}
@@ -179,13 +178,13 @@ window_index-differ (n ∷ ns) (c ∷ cs) (x ∷ p) (y ∷ q) (i ∷ is) (j ∷ 
     cc
 
 -- where there is a window, it is no longer than the array
-windows-fit : (ns ws ss p : List ℕ) → length ws ≡ length ns → length ss ≡ length ns → All (λ s. 1 ≤ s) ss → InBox (window_counts ns ws ss) p → (k : ℕ) → k < length ns → get_or ws k 0 ≤ get_or ns k 0
-windows-fit [] ws ss p lw ls h b k lt = absurd (omega arith)
-windows-fit (n ∷ ns) [] ss p lw ls h b k lt = absurd (omega arith)
-windows-fit (n ∷ ns) (w ∷ ws) [] p lw ls h b k lt = absurd (omega arith)
-windows-fit (n ∷ ns) (w ∷ ws) (s ∷ ss) [] lw ls h b k lt = absurd b
-windows-fit (n ∷ ns) (w ∷ ws) (s ∷ ss) (x ∷ p) lw ls h b zero lt = let f = window-fits n w s x (All-head (λ z. 1 ≤ z) s ss h) b.0 in omega arith
-windows-fit (n ∷ ns) (w ∷ ws) (s ∷ ss) (x ∷ p) lw ls h b (suc k) lt = windows-fit ns ws ss p (omega arith) (omega arith) (All-tail (λ z. 1 ≤ z) s ss h) b.1 k (omega arith)
+windows-fit : (ns ws ss p : List ℕ) → length ws ≡ length ns → length ss ≡ length ns → InBox (window_counts ns ws ss) p → (k : ℕ) → k < length ns → get_or ws k 0 ≤ get_or ns k 0
+windows-fit [] ws ss p lw ls b k lt = absurd (omega arith)
+windows-fit (n ∷ ns) [] ss p lw ls b k lt = absurd (omega arith)
+windows-fit (n ∷ ns) (w ∷ ws) [] p lw ls b k lt = absurd (omega arith)
+windows-fit (n ∷ ns) (w ∷ ws) (s ∷ ss) [] lw ls b k lt = absurd b
+windows-fit (n ∷ ns) (w ∷ ws) (s ∷ ss) (x ∷ p) lw ls b zero lt = let f = window-fits n w s x b.0 in omega arith
+windows-fit (n ∷ ns) (w ∷ ws) (s ∷ ss) (x ∷ p) lw ls b (suc k) lt = windows-fit ns ws ss p (omega arith) (omega arith) b.1 k (omega arith)
 
 -- windows whose steps are their lengths
 pub chunks-apart : {A one : Type 0} (at : ℕ → Option A) (ns : List ℕ) (start : ℕ) (bs cs ds : List ℕ) → Reaches one at ns start bs → ArePositive ns cs → AreStepsOf (window_counts ns cs cs) bs cs ds → AreApartImages ns start bs (window_counts ns cs cs) ds cs bs (window_index cs)
@@ -193,6 +192,6 @@ chunks-apart at ns start bs cs ds h pos apart =
     let lc = length-window_counts ns cs cs pos.as_many pos.as_many in
     record {
       images = windows-images at ns start bs cs cs ds h (record { as_many = pos.as_many; none = λ k lt e. absurd (let z = pos.positive k 0 (let l = pos.as_many in omega arith) in omega (arith, z, e)) }) pos apart;
-      nested = λ p b. nested-shorter ns bs cs h.as_many pos.as_many (windows-fit ns cs cs p pos.as_many pos.as_many pos.positive b);
+      nested = λ p b. nested-shorter ns bs cs h.as_many pos.as_many (windows-fit ns cs cs p pos.as_many pos.as_many b);
       differ = λ p q is js bp bq bi bj e. window_index-differ (window_counts ns cs cs) cs p q is js (let l = pos.as_many in omega (arith, l, lc)) bp bq bi bj e;
     }

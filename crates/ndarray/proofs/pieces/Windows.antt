@@ -1,10 +1,8 @@
 -- Windows whose positions are steps apart: where they lie, and how many there are.
 use Rattle.std.proofs.Common.{◌≡◌, ℕ, ◌+◌, ◌-◌, ◌*◌, ◌/◌, ◌%◌, ◌<◌, ◌≤◌, ◌^◌, ◌⊎◌, inl, inr, suc, zero, List, [], ◌∷◌, length, get_or, refl, sym, ◌∙◌, ap, arith, subst, Option}
-use Rattle.std.specs.Prelude.{All}
 use Rattle.std.proofs.lemmas.Bool.{cases_lt}
 use Rattle.std.proofs.lemmas.Bool.Decides.{nat_tests}
-use Rattle.std.proofs.lemmas.List.Elements.{All-head, All-tail}
-use Rattle.std.proofs.Math.Nat.{le-div_iff_mul-le, mod-add-mod, add-mul-mod_self_left, div-le_self}
+use Rattle.std.proofs.Math.Nat.{div-zero, le-div_iff_mul-le, mod-add-mod, add-mul-mod_self_left, div-le_self}
 use Rattle.std.proofs.lemmas.Nat.{div-add-mod'}
 use Rattle.ndarray.specs.Index.{InBox}
 use Rattle.ndarray.specs.Subviews.{ArePositive, window_index, window_count, window_counts}
@@ -22,9 +20,9 @@ none n w s h = grind (arith, nat_tests)
 pub some : (n w s : ℕ) → w ≤ n → window_count n w s ≡ (n - w) / s + 1
 some n w s h = grind (arith, nat_tests)
 
--- a window at a position lies within the axis
-pub window-fits : (n w s p : ℕ) → 1 ≤ s → p < window_count n w s → p * s + w ≤ n
-window-fits n w s p h lt =
+-- a window at a position lies within the axis, at steps that are not 0
+fits-at_steps : (n w s p : ℕ) → 1 ≤ s → p < window_count n w s → p * s + w ≤ n
+fits-at_steps n w s p h lt =
     elim (cases_lt n w) [
       | inl below ↦ (let z = none n w s below in absurd (omega arith))
       | inr le ↦ (
@@ -33,6 +31,15 @@ window-fits n w s p h lt =
           let m : p * s ≤ n - w = (le-div_iff_mul-le h).0 q in
           omega arith)
     ]
+
+-- and at any steps, as there is one position at steps of 0
+pub window-fits : (n w s p : ℕ) → p < window_count n w s → p * s + w ≤ n
+window-fits n w zero p lt =
+    elim (cases_lt n w) [
+      | inl below ↦ (let z = none n w 0 below in absurd (omega arith))
+      | inr le ↦ (let c = some n w 0 le in let d = div-zero (n - w) in omega arith)
+    ]
+window-fits n w (suc s) p lt = fits-at_steps n w (suc s) p (omega arith) lt
 
 -- there are at most as many windows as places, or one where there is no place
 pub window_count-le : (n w s : ℕ) → 1 ≤ s → (w ≡ 0 → n ≡ 0) → (window_count n w s ≤ n) ⊎ (window_count n w s ≤ 1)
@@ -64,25 +71,27 @@ get_or-window_counts (n ∷ ns) (w ∷ ws) (s ∷ ss) zero lw ls lt = refl
 get_or-window_counts (n ∷ ns) (w ∷ ws) (s ∷ ss) (suc k) lw ls lt = get_or-window_counts ns ws ss k (omega arith) (omega arith) (omega arith)
 
 -- an index of a window is an index of the array
-InBox-window_index : (ns ws ss ps js : List ℕ) → length ss ≡ length ns → All (λ s. 1 ≤ s) ss → InBox (window_counts ns ws ss) ps → InBox ws js → length ws ≡ length ns → InBox ns (window_index ss ps js)
-InBox-window_index [] ws [] ps js ls h b c lw = tt
-InBox-window_index [] ws (s ∷ ss) ps js ls h b c lw = absurd (omega arith)
-InBox-window_index (n ∷ ns) [] ss ps js ls h b c lw = absurd (omega arith)
-InBox-window_index (n ∷ ns) (w ∷ ws) [] ps js ls h b c lw = absurd (omega arith)
-InBox-window_index (n ∷ ns) (w ∷ ws) (s ∷ ss) [] js ls h b c lw = absurd b
-InBox-window_index (n ∷ ns) (w ∷ ws) (s ∷ ss) (p ∷ ps) [] ls h b c lw = absurd c
-InBox-window_index (n ∷ ns) (w ∷ ws) (s ∷ ss) (p ∷ ps) (j ∷ js) ls h b c lw =
-    let f = window-fits n w s p (All-head (λ x. 1 ≤ x) s ss h) b.0 in
-    (omega (arith, c.0), InBox-window_index ns ws ss ps js (omega arith) (All-tail (λ x. 1 ≤ x) s ss h) b.1 c.1 (omega arith))
+pub window-inside : (ns ws ss ps js : List ℕ) → length ws ≡ length ns → length ss ≡ length ns → InBox (window_counts ns ws ss) ps → InBox ws js → InBox ns (window_index ss ps js)
+window-inside [] [] [] ps js p q b c = tt
+window-inside [] (w ∷ ws) [] ps js p q b c = absurd (omega arith)
+window-inside [] ws (s ∷ ss) ps js p q b c = absurd (omega arith)
+window-inside (n ∷ ns) [] ss ps js p q b c = absurd (omega arith)
+window-inside (n ∷ ns) (w ∷ ws) [] ps js p q b c = absurd (omega arith)
+window-inside (n ∷ ns) (w ∷ ws) (s ∷ ss) [] js p q b c = absurd b
+window-inside (n ∷ ns) (w ∷ ws) (s ∷ ss) (x ∷ ps) [] p q b c = absurd c
+window-inside (n ∷ ns) (w ∷ ws) (s ∷ ss) (x ∷ ps) (j ∷ js) p q b c =
+    let fits = window-fits n w s x b.0 in
+    let below : j < w = c.0 in
+    (omega (arith, fits, below), window-inside ns ws ss ps js (omega arith) (omega arith) b.1 c.1)
 
 -- so a window is no longer than the array
-window-le : (ns ws ss ps : List ℕ) → length ws ≡ length ns → length ss ≡ length ns → All (λ s. 1 ≤ s) ss → InBox (window_counts ns ws ss) ps → (k : ℕ) → k < length ns → (get_or ws k 0 ≤ get_or ns k 0) ⊎ (get_or ws k 0 ≤ 1)
-window-le [] ws ss ps lw ls h b k lt = absurd (omega arith)
-window-le (n ∷ ns) [] ss ps lw ls h b k lt = absurd (omega arith)
-window-le (n ∷ ns) (w ∷ ws) [] ps lw ls h b k lt = absurd (omega arith)
-window-le (n ∷ ns) (w ∷ ws) (s ∷ ss) [] lw ls h b k lt = absurd b
-window-le (n ∷ ns) (w ∷ ws) (s ∷ ss) (p ∷ ps) lw ls h b zero lt = let f = window-fits n w s p (All-head (λ x. 1 ≤ x) s ss h) b.0 in inl (omega arith)
-window-le (n ∷ ns) (w ∷ ws) (s ∷ ss) (p ∷ ps) lw ls h b (suc k) lt = window-le ns ws ss ps (omega arith) (omega arith) (All-tail (λ x. 1 ≤ x) s ss h) b.1 k (omega arith)
+window-le : (ns ws ss ps : List ℕ) → length ws ≡ length ns → length ss ≡ length ns → InBox (window_counts ns ws ss) ps → (k : ℕ) → k < length ns → (get_or ws k 0 ≤ get_or ns k 0) ⊎ (get_or ws k 0 ≤ 1)
+window-le [] ws ss ps lw ls b k lt = absurd (omega arith)
+window-le (n ∷ ns) [] ss ps lw ls b k lt = absurd (omega arith)
+window-le (n ∷ ns) (w ∷ ws) [] ps lw ls b k lt = absurd (omega arith)
+window-le (n ∷ ns) (w ∷ ws) (s ∷ ss) [] lw ls b k lt = absurd b
+window-le (n ∷ ns) (w ∷ ws) (s ∷ ss) (p ∷ ps) lw ls b zero lt = let f = window-fits n w s p b.0 in inl (omega arith)
+window-le (n ∷ ns) (w ∷ ws) (s ∷ ss) (p ∷ ps) lw ls b (suc k) lt = window-le ns ws ss ps (omega arith) (omega arith) b.1 k (omega arith)
 
 -- a factor modulo m makes no difference modulo m
 mod-factor : (m y p z : ℕ) → (y + p * (z % m)) % m ≡ (y + p * z) % m
@@ -137,8 +146,8 @@ windows-images at ns start bs ws ss ds h aw pos apart =
           let lp = InBox-length (window_counts ns ws ss) p b in
           record {
             as_many = omega arith;
-            limit = let n = nonzero-smaller ws ns lw (window-le ns ws ss p lw ls pos.positive b) in omega arith;
-            image = λ js c. InBox-window_index ns ws ss p js ls pos.positive b c lw;
+            limit = let n = nonzero-smaller ws ns lw (window-le ns ws ss p lw ls b) in omega arith;
+            image = λ js c. window-inside ns ws ss p js lw ls b c;
             same = λ js c.
                 let lj = InBox-length ws js c in
                 let la = apart.as_many in

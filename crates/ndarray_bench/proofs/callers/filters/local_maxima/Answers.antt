@@ -1,7 +1,7 @@
-use Rattle.std.proofs.Common.{◌≡◌, ◌∙◌, ◌<◌, ◌≤◌, ℕ, List, [], ◌∷◌, Some, ap, arith, length, replicate, subst, sym}
+use Rattle.std.proofs.Common.{◌≡◌, ◌≤◌, ℕ, List, [], ◌∷◌, Some, ap, arith, length, subst, sym}
 use Rattle.ndarray.specs.Grid.{Grid, IsGrid, array_by, cell}
 use Rattle.ndarray.specs.Index.{InBox}
-use Rattle.ndarray.specs.Subviews.{window, window_counts}
+use Rattle.ndarray.specs.Subviews.{window_counts}
 use Rattle.ndarray.proofs.callers.Collecting.{array_by-at}
 use Rattle.ndarray.proofs.callers.EachCell.{at-each-cell, some-cell}
 use Rattle.ndarray.proofs.callers.Windows.{window-whole}
@@ -17,13 +17,9 @@ counts g = window_counts g.lengths (3 ∷ 3 ∷ []) (1 ∷ 1 ∷ [])
 -- the greatest cells of the squares of a whole table
 are-maxima : (g : Grid ℕ) → length g.lengths ≡ 2 → IsGrid g → (r : Grid ℕ) → r ≡ array_by (counts g) (greatest_in_square g) → AreLocalMaxima g r
 are-maxima g two whole r made =
-    let ones : replicate (length g.lengths) 1 ≡ 1 ∷ 1 ∷ [] = ap (λ n. replicate n 1) two in
     let lengths : r.lengths ≡ counts g = ap (λ w. w.lengths) made in
-    let whole-square : (is : List ℕ) (x : ℕ) → cell r is ≡ Some x → IsGrid (square g is) = λ is x at.
-    let inside : InBox (counts g) is = subst (λ ns. InBox ns is) lengths (cell-inside r is x at) in
-    subst (λ ss. IsGrid (window g (3 ∷ 3 ∷ []) ss is)) ones
-    (window-whole g whole (3 ∷ 3 ∷ []) is (sym two) (subst (λ ss. InBox (window_counts g.lengths (3 ∷ 3 ∷ []) ss) is) (sym ones) inside))
-    in
+    let whole-square : (is : List ℕ) (x : ℕ) → cell r is ≡ Some x → IsGrid (square g is) =
+    λ is x at. window-whole g whole (3 ∷ 3 ∷ []) (1 ∷ 1 ∷ []) is (sym two) (sym two) (subst (λ ns. InBox ns is) lengths (cell-inside r is x at)) in
     let greatest : (is : List ℕ) (x : ℕ) → cell r is ≡ Some x → x ≡ greatest_in_square g is = λ is x at. array_by-at (counts g) (greatest_in_square g) r is x made (cell-inside r is x at) at in
     record {
       lengths = lengths;
