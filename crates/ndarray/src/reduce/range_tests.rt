@@ -102,6 +102,9 @@ fn add_run<A: Zero + CheckedAdd>(sums: SignedSums<A>, run: Strided<'_, A>) -> Op
     ensures { (whole rest : List ℤ) → AddedApart A.fits whole (map A.value run.entry ++ rest) (A.value sums.up) (A.value sums.down)
         → MatchOption result (A.fits (positive_sum whole) × A.fits (negative_sum whole) → ⊥) (λ more. AddedApart A.fits whole rest (A.value more.up) (A.value more.down)) }
 {
+    if let Some(cells) = run.side_by_side() {
+        return add_cells(sums, cells);
+    }
     let mut sums = sums;
     let mut run = run;
     while let Some(x) = run.next() {
@@ -109,6 +112,23 @@ fn add_run<A: Zero + CheckedAdd>(sums: SignedSums<A>, run: Strided<'_, A>) -> Op
             return None;
         };
         sums = more;
+    }
+    Some(sums)
+}
+
+/// The same of the cells of a slice.
+fn add_cells<A: Zero + CheckedAdd>(sums: SignedSums<A>, cells: &[A]) -> Option<SignedSums<A>>
+    ensures { (whole rest : List ℤ) → AddedApart A.fits whole (map A.value cells.now ++ rest) (A.value sums.up) (A.value sums.down)
+        → MatchOption result (A.fits (positive_sum whole) × A.fits (negative_sum whole) → ⊥) (λ more. AddedApart A.fits whole rest (A.value more.up) (A.value more.down)) }
+{
+    let mut sums = sums;
+    let mut i = 0;
+    'cells: while i < cells.len() {
+        let Some(more) = add_by_sign(sums, &cells[i]) else {
+            return None;
+        };
+        sums = more;
+        i += 1;
     }
     Some(sums)
 }
