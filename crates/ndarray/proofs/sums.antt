@@ -5,10 +5,10 @@ pub mod IntegerSelections
 pub mod MagnitudeSums
 pub mod NonzeroProducts
 pub mod Rearrangements
-pub mod RowPairs
 pub mod RowSums
 pub mod RunningRuns
 pub mod RunningSum
 pub mod Selections
+pub mod SeveralRows
 pub mod SignedSums
 pub mod SmallProducts

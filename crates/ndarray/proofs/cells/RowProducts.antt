@@ -12,7 +12,7 @@ use Rattle.ndarray.specs.Grid.{Grid, IsGrid, cell}
 use Rattle.ndarray.specs.Index.{InBox, row_order, size}
 use Rattle.ndarray.specs.Matrices.{IsSameMatrix, Matrix, inner_products, transpose, values_below}
 use Rattle.ndarray.specs.Products.{HasSumsInRange, HasValues, MakesColumn, MakesRow, ShapesMultiply, column_entries, column_of, matrix_entries, matrix_of, product_of, products_of, row_entries, row_of, value_at, value_or}
-use Rattle.ndarray.specs.linalg.RowSums.{AddsScaledRow, AddsTwoRows, CanAddScaledRow, CanAddTwoRows, CanSumRow, row_sums, row_sums_to}
+use Rattle.ndarray.specs.linalg.RowSums.{AddsRows, CanAddRows, CanSumRow, row_sums, row_sums_to}
 use Rattle.ndarray.specs.Sums.{IsSummable, total}
 use Rattle.ndarray.specs.Views.{axis_item, transpose_of}
 use Rattle.ndarray.specs.declared.elements.Valued.{Ghosts as ValuedGhosts}
@@ -23,8 +23,8 @@ use Rattle.ndarray.proofs.callers.SameMatrices.{lengths-reversed, product-same, 
 use Rattle.ndarray.proofs.cells.Cells.{cell-inside, tabulate-cell}
 use Rattle.ndarray.proofs.cells.Matrices.{below-same, column-values, row-values, two-lengths, vector-values}
 use Rattle.ndarray.proofs.sums.InnerSums.{lists-meet}
-use Rattle.ndarray.proofs.sums.RowPairs.{rows-can_add}
-use Rattle.ndarray.proofs.sums.RowSums.{first-left, map-range-below, row-added, row-can_add, value-at, values-length}
+use Rattle.ndarray.proofs.sums.RowSums.{first-left, map-range-below, value-at, values-length}
+use Rattle.ndarray.proofs.sums.SeveralRows.{AreRows, IsRow, rows-added, rows-can_add}
 
 -- ---- the values of a box of two axes, row by row
 
@@ -75,12 +75,15 @@ module _ {A : Type 0} (e : ValuedGhosts A) where
     numbers : map e.meaning x.cells ≡ values_below (get_or x.lengths 0 0) (λ k. value_at e x (k ∷ []))
     numbers = vector-values e.meaning e.addition.unit x can.whole can.vector
 
-    pub as_many : length x.cells ≡ get_or b.lengths 0 0
+    as_many : length x.cells ≡ get_or b.lengths 0 0
     as_many = values-length e.meaning x.cells _ _ numbers ∙ can.inner
 
-    -- there is a number for each row
-    pub number-for : (i : ℕ) → i < get_or b.lengths 0 0 → drop i x.cells ≡ [] → ⊥
-    number-for i lt none = let many = as_many in let left = length-drop i x.cells in let ended = ap length none in omega (arith, lt, many, left, ended)
+    -- there are numbers for the rows from i on
+    pub as_many-left : (i : ℕ) (from : List A) → from ≡ drop i x.cells → length from ≡ get_or b.lengths 0 0 - i
+    as_many-left i from is = ap length is ∙ (length-drop i x.cells ∙ ap (λ n. n - i) as_many)
+
+    abbrev product_at : ℕ → ℕ → e.Carrier
+    product_at j k = e.multiplication.op (value_at e x (k ∷ [])) (value_at e b (k ∷ j ∷ []))
 
     -- y is the number at i
     module _ (i : ℕ) (y : A) (rest : List A) (left : drop i x.cells ≡ y ∷ rest) where
@@ -92,39 +95,38 @@ module _ {A : Type 0} (e : ValuedGhosts A) where
           ap (λ t. e.multiplication.op t (value_at e b (i ∷ j ∷ [])))
           (ap e.meaning (sym (first-left x.cells i y rest left).1) ∙ value-at e.meaning x.cells (get_or x.lengths 0 0) (λ k. value_at e x (k ∷ [])) i y numbers below)
 
-      -- r is row i of b
-      module _ (r : Grid A) (whole_r : IsGrid r) (is_item : r ≡ axis_item b 0 i) where
-        pub row-meant : map e.meaning r.cells ≡ values_below (get_or b.lengths 1 0) (λ j. value_at e b (i ∷ j ∷ []))
-        row-meant = row-values e.meaning e.addition.unit b r two whole_r i is_item
+      pub row-at : (ys : List A) → ys ≡ (axis_item b 0 i).cells → IsGrid (axis_item b 0 i) → IsRow e (get_or b.lengths 1 0) (get_or x.lengths 0 0) product_at i y ys
+      row-at ys is whole =
+          let meant : map e.meaning ys ≡ values_below (get_or b.lengths 1 0) (λ j. value_at e b (i ∷ j ∷ [])) =
+          ap (map e.meaning) is ∙ row-values e.meaning e.addition.unit b (axis_item b 0 i) two whole i refl in
+          record {
+            within = below;
+            many = values-length e.meaning ys _ _ meant;
+            products = λ j d lt. ap (e.multiplication.op (e.meaning y)) (value-at e.meaning ys _ _ j d meant lt) ∙ products j lt;
+          }
 
-        module _ (sums : List A) (so_far : map e.meaning sums ≡ row_sums_to e i x b) where
-          pub sums-can_add : CanAddScaledRow e y sums r.cells
-          sums-can_add =
-              row-can_add e y (get_or b.lengths 1 0) i (λ j k. e.multiplication.op (value_at e x (k ∷ [])) (value_at e b (k ∷ j ∷ []))) (λ j. value_at e b (i ∷ j ∷ [])) sums r.cells so_far row-meant products
-              (get_or x.lengths 0 0) below (λ j lt. can.sums 0 j (omega arith) lt)
+    -- the rows from i on, with the numbers from some on: those behind them are left
+    abbrev pub NextRows : ℕ → List (A × List A) → List A → List A → Type 0
+    NextRows i [] from left = left ≡ from
+    NextRows i ((y, ys) ∷ rows) from left = (m : ℕ) × (rest : List A) × (m ≡ i) × (from ≡ y ∷ rest) × (ys ≡ (axis_item b 0 m).cells) × IsGrid (axis_item b 0 m) × NextRows (i + 1) rows rest left
 
-          pub sums-added : (new : List A) → AddsScaledRow e y r.cells sums new → map e.meaning new ≡ row_sums_to e (i + 1) x b
-          sums-added = row-added e y (get_or b.lengths 1 0) i (λ j k. e.multiplication.op (value_at e x (k ∷ [])) (value_at e b (k ∷ j ∷ []))) (λ j. value_at e b (i ∷ j ∷ [])) sums r.cells so_far row-meant products
+    pub rows-next : (i : ℕ) (rows : List (A × List A)) (from left : List A) → from ≡ drop i x.cells → NextRows i rows from left
+        → AreRows e (get_or b.lengths 1 0) (get_or x.lengths 0 0) product_at i rows × (left ≡ drop (i + length rows) x.cells)
+    rows-next i [] from left is h = (tt, h ∙ (is ∙ ap (λ k. drop k x.cells) (omega arith)))
+    rows-next i ((y, ys) ∷ rows) from left is (m, rest, here, first, cells, whole, more) =
+        let start = sym is ∙ first in
+        let (are, behind) = rows-next (i + 1) rows rest left (sym (first-left x.cells i y rest start).2) more in (
+          (row-at i y rest start ys (cells ∙ ap (λ k. (axis_item b 0 k).cells) here) (subst (λ k. IsGrid (axis_item b 0 k)) here whole), are),
+          behind ∙ ap (λ k. drop k x.cells) (omega arith),
+        )
 
-    -- y and z are the numbers at i and behind it, and r and s are these rows of b
-    module _ (i : ℕ) (y z : A) (others rest : List A) (left : drop i x.cells ≡ y ∷ others) (next : others ≡ z ∷ rest) (r : Grid A) (whole_r : IsGrid r) (is_item : r ≡ axis_item b 0 i) (s : Grid A) (whole_s : IsGrid s) (is_next : s ≡ axis_item b 0 (i + 1))
+    module _ (i : ℕ) (rows : List (A × List A)) (from left : List A) (is : from ≡ drop i x.cells) (next : NextRows i rows from left)
         (sums : List A) (so_far : map e.meaning sums ≡ row_sums_to e i x b) where
-      behind : drop (i + 1) x.cells ≡ z ∷ rest
-      behind = (first-left x.cells i y others left).2 ∙ next
+      pub sums-can_add : CanAddRows e rows sums
+      sums-can_add = rows-can_add e _ _ product_at i rows (rows-next i rows from left is next).0 sums so_far (λ j lt. can.sums 0 j (omega arith) lt)
 
-      pub pairs-can_add : CanAddTwoRows e y z sums r.cells s.cells
-      pairs-can_add =
-          rows-can_add e y z (get_or b.lengths 1 0) (get_or x.lengths 0 0) i (λ j k. e.multiplication.op (value_at e x (k ∷ [])) (value_at e b (k ∷ j ∷ []))) _ _ sums r.cells s.cells so_far
-          (row-meant i y others left r whole_r is_item) (products i y others left) (row-meant (i + 1) z rest behind s whole_s is_next) (products (i + 1) z rest behind) (below (i + 1) z rest behind) (λ j lt. can.sums 0 j (omega arith) lt)
-
-      pub pairs-added : (new : List A) → AddsTwoRows e y z r.cells s.cells sums new → map e.meaning new ≡ row_sums_to e (i + 2) x b
-      pairs-added new added =
-          let one = sums-added i y others left r whole_r is_item sums so_far added.0 added.1 in
-          let two = sums-added (i + 1) z rest behind s whole_s is_next added.0 one new added.2 in
-          two ∙ ap (λ k. row_sums_to e k x b) (omega arith)
-
-      pub pairs-left : rest ≡ drop (i + 2) x.cells
-      pairs-left = sym (first-left x.cells (i + 1) z rest behind).2 ∙ ap (λ k. drop k x.cells) (omega arith)
+      pub sums-added : (new : List A) → AddsRows e rows sums new → map e.meaning new ≡ row_sums_to e (i + length rows) x b
+      sums-added = rows-added e _ _ product_at i rows (rows-next i rows from left is next).0 sums so_far
 
     -- the numbers of x, and column j of b
     pub column-meets : (xs ys : List A) → xs ≡ x.cells → (j : ℕ) (r : Grid A) → IsGrid r → r ≡ axis_item b 1 j → ys ≡ r.cells

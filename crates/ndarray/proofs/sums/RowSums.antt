@@ -37,11 +37,11 @@ below-split (suc i) (suc n) f lt = let (rest, is) = below-split i n (λ k. f (su
 
 module _ {C : Type 0} (M : CommutativeMonoid C) (P : C → Type 0) (i n : ℕ) (f : ℕ → C) (lt : i < n) (h : IsSummable M P (values_below n f)) where
   -- of a list of which every selection has its sum in range, each value is in range
-  below-in_range : P (f i)
+  pub below-in_range : P (f i)
   below-in_range = let (rest, is) = below-split i n f lt in element-in-range M P (values_below i f) (f i) rest (subst (IsSummable M P) is h)
 
   -- and so is the sum of those before it and it
-  below-added : P (M.op (total M (values_below i f)) (f i))
+  pub below-added : P (M.op (total M (values_below i f)) (f i))
   below-added =
       let (rest, is) = below-split i n f lt in
       subst P (total-more M (values_below i f) (f i))

@@ -1,5 +1,5 @@
 -- Rows of products: the sums of the products of a vector with each column of a matrix, as they are made.
-use Rattle.std.specs.Prelude.{◌≡◌, ℕ, ◌<◌, List, [], ◌∷◌, length, slice_index, slice_index_or}
+use Rattle.std.specs.Prelude.{◌≡◌, ℕ, ◌<◌, ◌≤◌, List, [], ◌∷◌, ⊤, length, map, slice_index, slice_index_or}
 use Rattle.ndarray.specs.Grid.{Grid, IsGrid}
 use Rattle.ndarray.specs.Matrices.{values_below}
 use Rattle.ndarray.specs.Products.{AddsProduct, CanAddProduct, HasSumsInRange, matrix_of, product_of, row_of, value_at}
@@ -32,12 +32,48 @@ module _ {A : Type 0} (e : ValuedGhosts A) where
     pub same : length new ≡ length old
     pub each : (j : ℕ) (d : A) → j < length ys → AddsProduct e x (slice_index_or old j d) (slice_index_or ys j d) (slice_index_or new j d)
 
-  -- the same, and then y times the element of ys may be added to what the sum became
-  pub record CanAddTwoRows (x y : A) (sums xs ys : List A) : Type 0 where
-    pub first : CanAddScaledRow x sums xs
-    pub same : length sums ≡ length ys
-    pub second : (j : ℕ) (d m : A) → j < length ys → AddsProduct e x (slice_index_or sums j d) (slice_index_or xs j d) m → CanAddProduct e y m (slice_index_or ys j d)
+  -- ---- several rows at once, each with its number
 
-  -- both were added, the one after the other
-  abbrev pub AddsTwoRows : A → A → List A → List A → List A → List A → Type 0
-  AddsTwoRows x y xs ys old new = (between : List A) × AddsScaledRow x xs old between × AddsScaledRow y ys between new
+  -- the products of numbers and elements may be added to a value one after another
+  abbrev pub CanAddProducts : List (A × A) → e.Carrier → Type 0
+  CanAddProducts [] s = ⊤
+  CanAddProducts ((x, y) ∷ more) s = e.InRange (e.multiplication.op (e.meaning x) (e.meaning y))
+      × e.InRange (e.addition.op s (e.multiplication.op (e.meaning x) (e.meaning y)))
+      × CanAddProducts more (e.addition.op s (e.multiplication.op (e.meaning x) (e.meaning y)))
+
+  -- the value with them added
+  abbrev pub added : List (A × A) → e.Carrier → e.Carrier
+  added [] s = s
+  added ((x, y) ∷ more) s = added more (e.addition.op s (e.multiplication.op (e.meaning x) (e.meaning y)))
+
+  -- the elements of the rows at place j, each with the number of its row
+  abbrev pub column : ℕ → A → List (A × List A) → List (A × A)
+  column j d rows = map (λ r. (r.0, slice_index_or r.1 j d)) rows
+
+  -- the products may be added to the sum at place j
+  abbrev pub CanAddRowsAt : ℕ → List (A × List A) → List A → Type 0
+  CanAddRowsAt j rows sums = (d : A) → CanAddProducts (column j d rows) (e.meaning (slice_index_or sums j d))
+
+  -- they were added to it
+  abbrev pub AddsRowsAt : ℕ → List (A × List A) → List A → A → Type 0
+  AddsRowsAt j rows sums z = (d : A) → e.meaning z ≡ added (column j d rows) (e.meaning (slice_index_or sums j d))
+
+  -- each row has n elements
+  abbrev pub AreAsLong : ℕ → List (A × List A) → Type 0
+  AreAsLong n [] = ⊤
+  AreAsLong n ((x, ys) ∷ more) = (length ys ≡ n) × AreAsLong n more
+
+  -- rows as long as the sums, and at each place the products may be added
+  pub record CanAddRows (rows : List (A × List A)) (sums : List A) : Type 0 where
+    pub same : AreAsLong (length sums) rows
+    pub each : (j : ℕ) → j < length sums → CanAddRowsAt j rows sums
+
+  -- at the first places they were added, and the other sums are as before
+  pub record AddsRowsTo (places : ℕ) (rows : List (A × List A)) (old new : List A) : Type 0 where
+    pub same : length new ≡ length old
+    pub each : (j : ℕ) (d : A) → j < places → AddsRowsAt j rows old (slice_index_or new j d)
+    pub others : (j : ℕ) (d : A) → places ≤ j → slice_index_or new j d ≡ slice_index_or old j d
+
+  -- they were added at each place
+  abbrev pub AddsRows : List (A × List A) → List A → List A → Type 0
+  AddsRows rows old new = AddsRowsTo (length old) rows old new

@@ -1,93 +1,153 @@
-use Rattle.std.proofs.Common.{◌≡◌, ◌∙◌, ◌+◌, ap, arith, get_or, map, subst, sym}
-use Rattle.ndarray.specs.linalg.RowSums.{AddsScaledRow, AddsTwoRows, CanAddScaledRow, CanAddTwoRows, row_sums_to}
-use Rattle.ndarray.proofs.cells.RowProducts.{number-for, pairs-added, pairs-can_add, pairs-left, sums-added, sums-can_add}
-use Rattle.ndarray.proofs.sums.RowSums.{first-left}
+use Rattle.std.proofs.Common.{◌≡◌, ◌∙◌, ◌+◌, List, [], ◌∷◌, ap, arith, get_or, length, map, refl, subst}
+use Rattle.ndarray.specs.linalg.RowSums.{row_sums_to}
+use Rattle.ndarray.proofs.cells.RowProducts.{NextRows, as_many-left, rows-next, sums-added, sums-can_add}
+use Rattle.ndarray.proofs.sums.SeveralRows.{AddsRows-none, first-can_add, others-added}
 use Rattle.ndarray.proofs.linalg.row_sums.add_rows.Goals as goal
 
-pub unreachable-requires : goal.unreachable-requires
-unreachable-requires g c =
+pub next_row-b-requires-clause-number : goal.next_row-b-requires-clause-number
+next_row-b-requires-clause-number g c κs within =
+    let many = as_many-left g.A.Valued c.args.x.now c.args.right.now c.raw_dim.ensures.axes c.requires.can c.fours.i c.fours.numbers c.fours.invariant.left in
     let rows = ap (λ k. get_or k 0 0) (c.into_pattern-rows.ensures ∙ c.raw_dim.ensures.lengths) in
-    let two = c.pairs-test.true in
-    number-for g.A.Valued c.args.x.now c.args.right.now c.raw_dim.ensures.axes c.requires.can c.pairs.i (omega (arith, rows, two)) (sym c.pairs.invariant.left ∙ c.in_default.ensures.0)
+    let four = c.fours-test.true in
+    let a = ap length c.next_row-a.ensures.number in
+    omega (arith, many, rows, four, a)
 
-pub unreachable-requires-in_default-next : goal.unreachable-requires-in_default-next
-unreachable-requires-in_default-next g c =
-    let i = c.pairs.i in
+pub next_row-c-requires-clause-number : goal.next_row-c-requires-clause-number
+next_row-c-requires-clause-number g c κs within =
+    let many = as_many-left g.A.Valued c.args.x.now c.args.right.now c.raw_dim.ensures.axes c.requires.can c.fours.i c.fours.numbers c.fours.invariant.left in
     let rows = ap (λ k. get_or k 0 0) (c.into_pattern-rows.ensures ∙ c.raw_dim.ensures.lengths) in
-    let two = c.pairs-test.true in
-    let first = first-left c.args.x.now.cells i c.in-Some.number.now c.next.new.self (sym c.pairs.invariant.left ∙ c.in-Some.ensures) in
-    number-for g.A.Valued c.args.x.now c.args.right.now c.raw_dim.ensures.axes c.requires.can (i + 1) (omega (arith, rows, two)) (first.2 ∙ c.in_default-next.ensures.0)
+    let four = c.fours-test.true in
+    let a = ap length c.next_row-a.ensures.number in
+    let b = ap length c.next_row-b.ensures.number in
+    omega (arith, many, rows, four, a, b)
 
-pub add_two_scaled-requires-after_bounds : goal.add_two_scaled-requires-after_bounds
-add_two_scaled-requires-after_bounds g c κs within =
-    let i = c.pairs in
-    let y = c.in-Some.number.now in
-    let z = c.in-Some-next.other.now in
-    let can = pairs-can_add g.A.Valued c.args.x.now c.args.right.now c.raw_dim.ensures.axes c.requires.can
-    i.i y z c.next.new.self c.next-in-pairs.new.self (sym i.invariant.left ∙ c.in-Some.ensures) c.in-Some-next.ensures c.index_axis.result c.index_axis.ensures.whole c.index_axis.ensures.value
-    c.index_axis-in-pairs.result c.index_axis-in-pairs.ensures.whole c.index_axis-in-pairs.ensures.value i.sums i.invariant.sums in
-    subst (λ l. CanAddTwoRows g.A.Valued y z i.sums l c.cells_of-next.result) (sym c.cells_of-row.ensures) (subst (CanAddTwoRows g.A.Valued y z i.sums c.index_axis.result.cells) (sym c.cells_of-next.ensures) can)
+pub next_row-d-requires-clause-number : goal.next_row-d-requires-clause-number
+next_row-d-requires-clause-number g c κs within =
+    let many = as_many-left g.A.Valued c.args.x.now c.args.right.now c.raw_dim.ensures.axes c.requires.can c.fours.i c.fours.numbers c.fours.invariant.left in
+    let rows = ap (λ k. get_or k 0 0) (c.into_pattern-rows.ensures ∙ c.raw_dim.ensures.lengths) in
+    let four = c.fours-test.true in
+    let a = ap length c.next_row-a.ensures.number in
+    let b = ap length c.next_row-b.ensures.number in
+    let c = ap length c.next_row-c.ensures.number in
+    omega (arith, many, rows, four, a, b, c)
 
-pub pairs-preserved : goal.pairs-preserved
-pairs-preserved g c =
+pub add_four-requires-after_bounds : goal.add_four-requires-after_bounds
+add_four-requires-after_bounds g c κs within =
     let v = g.A.Valued in
     let x = c.args.x.now in
-    let i = c.pairs in
-    let y = c.in-Some.number.now in
-    let z = c.in-Some-next.other.now in
-    let two = c.pairs-test.true in
-    let added : AddsTwoRows v y z c.index_axis.result.cells c.index_axis-in-pairs.result.cells i.sums c.add_two_scaled.new.sums =
-    subst (λ l. AddsTwoRows v y z l c.index_axis-in-pairs.result.cells i.sums c.add_two_scaled.new.sums) c.cells_of-row.ensures
-    (subst (λ l. AddsTwoRows v y z c.cells_of-row.result l i.sums c.add_two_scaled.new.sums) c.cells_of-next.ensures c.add_two_scaled.ensures) in
-    record {
-      in_range = omega (arith, two);
-      left =
-          pairs-left v x c.args.right.now c.raw_dim.ensures.axes c.requires.can
-          i.i y z c.next.new.self c.next-in-pairs.new.self (sym i.invariant.left ∙ c.in-Some.ensures) c.in-Some-next.ensures c.index_axis.result c.index_axis.ensures.whole c.index_axis.ensures.value
-          c.index_axis-in-pairs.result c.index_axis-in-pairs.ensures.whole c.index_axis-in-pairs.ensures.value i.sums i.invariant.sums;
-      sums =
-          pairs-added v x c.args.right.now c.raw_dim.ensures.axes c.requires.can
-          i.i y z c.next.new.self c.next-in-pairs.new.self (sym i.invariant.left ∙ c.in-Some.ensures) c.in-Some-next.ensures c.index_axis.result c.index_axis.ensures.whole c.index_axis.ensures.value
-          c.index_axis-in-pairs.result c.index_axis-in-pairs.ensures.whole c.index_axis-in-pairs.ensures.value i.sums i.invariant.sums c.add_two_scaled.new.sums added;
-    }
+    let b = c.args.right.now in
+    let axes = c.raw_dim.ensures.axes in
+    let can = c.requires.can in
+    let i = c.fours in
+    let rows : List (g.row.A.Denot × List g.row.A.Denot) =
+    (c.next_row-a.result.number, c.next_row-a.result.cells) ∷ (c.next_row-b.result.number, c.next_row-b.result.cells) ∷ (c.next_row-c.result.number, c.next_row-c.result.cells) ∷ (c.next_row-d.result.number, c.next_row-d.result.cells) ∷ [] in
+    let next : NextRows v x b axes can i.i rows i.numbers c.next_row-d.new.numbers = (
+      i.i,
+      c.next_row-a.new.numbers,
+      refl,
+      c.next_row-a.ensures.number,
+      c.next_row-a.ensures.cells,
+      c.next_row-a.ensures.whole,
+      (
+        i.i + 1,
+        c.next_row-b.new.numbers,
+        refl,
+        c.next_row-b.ensures.number,
+        c.next_row-b.ensures.cells,
+        c.next_row-b.ensures.whole,
+        (
+          i.i + 2,
+          c.next_row-c.new.numbers,
+          omega arith,
+          c.next_row-c.ensures.number,
+          c.next_row-c.ensures.cells,
+          c.next_row-c.ensures.whole,
+          (i.i + 3, c.next_row-d.new.numbers, omega arith, c.next_row-d.ensures.number, c.next_row-d.ensures.cells, c.next_row-d.ensures.whole, refl),
+        ),
+      ),
+    ) in
+    sums-can_add v x b axes can i.i rows i.numbers c.next_row-d.new.numbers i.invariant.left next i.sums i.invariant.sums
 
-pub unreachable-requires-in_default-next-2 : goal.unreachable-requires-in_default-next-2
-unreachable-requires-in_default-next-2 g c =
-    let rows = ap (λ k. get_or k 0 0) (c.into_pattern-rows.ensures ∙ c.raw_dim.ensures.lengths) in
-    let lt = c.if-i-rows.true in
-    number-for g.A.Valued c.args.x.now c.args.right.now c.raw_dim.ensures.axes c.requires.can c.pairs.i (omega (arith, rows, lt)) (sym c.pairs.invariant.left ∙ c.in_default-next-2.ensures.0)
+pub fours-preserved : goal.fours-preserved
+fours-preserved g c =
+    let v = g.A.Valued in
+    let x = c.args.x.now in
+    let b = c.args.right.now in
+    let axes = c.raw_dim.ensures.axes in
+    let can = c.requires.can in
+    let i = c.fours in
+    let rows : List (g.row.A.Denot × List g.row.A.Denot) =
+    (c.next_row-a.result.number, c.next_row-a.result.cells) ∷ (c.next_row-b.result.number, c.next_row-b.result.cells) ∷ (c.next_row-c.result.number, c.next_row-c.result.cells) ∷ (c.next_row-d.result.number, c.next_row-d.result.cells) ∷ [] in
+    let next : NextRows v x b axes can i.i rows i.numbers c.next_row-d.new.numbers = (
+      i.i,
+      c.next_row-a.new.numbers,
+      refl,
+      c.next_row-a.ensures.number,
+      c.next_row-a.ensures.cells,
+      c.next_row-a.ensures.whole,
+      (
+        i.i + 1,
+        c.next_row-b.new.numbers,
+        refl,
+        c.next_row-b.ensures.number,
+        c.next_row-b.ensures.cells,
+        c.next_row-b.ensures.whole,
+        (
+          i.i + 2,
+          c.next_row-c.new.numbers,
+          omega arith,
+          c.next_row-c.ensures.number,
+          c.next_row-c.ensures.cells,
+          c.next_row-c.ensures.whole,
+          (i.i + 3, c.next_row-d.new.numbers, omega arith, c.next_row-d.ensures.number, c.next_row-d.ensures.cells, c.next_row-d.ensures.whole, refl),
+        ),
+      ),
+    ) in
+    record {
+      in_range = (let four = c.fours-test.true in omega (arith, four));
+      left = (rows-next v x b axes can i.i rows i.numbers c.next_row-d.new.numbers i.invariant.left next).1;
+      sums = sums-added v x b axes can i.i rows i.numbers c.next_row-d.new.numbers i.invariant.left next i.sums i.invariant.sums c.add_four.new.sums c.add_four.ensures;
+    }
 
 pub add_scaled-requires-after_bounds : goal.add_scaled-requires-after_bounds
 add_scaled-requires-after_bounds g c κs within =
-    let i = c.pairs in
-    let y = c.in-Some-next-2.number.now in
-    let can = sums-can_add g.A.Valued c.args.x.now c.args.right.now c.raw_dim.ensures.axes c.requires.can
-    i.i y c.next-then-i-rows.new.self (sym i.invariant.left ∙ c.in-Some-next-2.ensures) c.index_axis-then-i-rows.result c.index_axis-then-i-rows.ensures.whole c.index_axis-then-i-rows.ensures.value i.sums i.invariant.sums in
-    subst (CanAddScaledRow g.A.Valued y i.sums) (sym c.cells_of.ensures) can
-
-pub returns-in-Some-next-2 : goal.returns-in-Some-next-2
-returns-in-Some-next-2 g c =
     let v = g.A.Valued in
     let x = c.args.x.now in
-    let i = c.pairs in
-    let y = c.in-Some-next-2.number.now in
-    let sums = sums-added v x c.args.right.now c.raw_dim.ensures.axes c.requires.can
-    i.i y c.next-then-i-rows.new.self (sym i.invariant.left ∙ c.in-Some-next-2.ensures) c.index_axis-then-i-rows.result c.index_axis-then-i-rows.ensures.whole c.index_axis-then-i-rows.ensures.value i.sums i.invariant.sums c.add_scaled.new.sums
-    (subst (λ l. AddsScaledRow v y l i.sums c.add_scaled.new.sums) c.cells_of.ensures c.add_scaled.ensures) in
-    let rows = ap (λ k. get_or k 0 0) (c.into_pattern-rows.ensures ∙ c.raw_dim.ensures.lengths) in
-    let off = c.pairs-test.false in
-    let lt = c.if-i-rows.true in
-    let inner = c.requires.can.inner in
-    let all : i.i + 1 ≡ get_or x.lengths 0 0 = omega (arith, rows, off, lt, inner) in
-    sums ∙ ap (λ k. row_sums_to v k x c.args.right.now) all
+    let b = c.args.right.now in
+    let axes = c.raw_dim.ensures.axes in
+    let can = c.requires.can in
+    let i = c.others in
+    let r = c.next_row-a-in-others in
+    let rows : List (g.row.A.Denot × List g.row.A.Denot) = (r.result.number, r.result.cells) ∷ [] in
+    let next : NextRows v x b axes can i.i rows i.numbers r.new.numbers = (i.i, r.new.numbers, refl, r.ensures.number, r.ensures.cells, r.ensures.whole, refl) in
+    let may = sums-can_add v x b axes can i.i rows i.numbers r.new.numbers i.invariant.left next i.sums i.invariant.sums in
+    first-can_add v r.result.number r.result.cells [] i.sums may
 
-pub returns-else-i-rows : goal.returns-else-i-rows
-returns-else-i-rows g c =
+pub others-preserved : goal.others-preserved
+others-preserved g c =
     let v = g.A.Valued in
     let x = c.args.x.now in
+    let b = c.args.right.now in
+    let axes = c.raw_dim.ensures.axes in
+    let can = c.requires.can in
+    let i = c.others in
+    let r = c.next_row-a-in-others in
+    let rows : List (g.row.A.Denot × List g.row.A.Denot) = (r.result.number, r.result.cells) ∷ [] in
+    let next : NextRows v x b axes can i.i rows i.numbers r.new.numbers = (i.i, r.new.numbers, refl, r.ensures.number, r.ensures.cells, r.ensures.whole, refl) in
+    let may = sums-can_add v x b axes can i.i rows i.numbers r.new.numbers i.invariant.left next i.sums i.invariant.sums in
+    record {
+      in_range = (let lt = c.others-test.true in omega (arith, lt));
+      left = (rows-next v x b axes can i.i rows i.numbers r.new.numbers i.invariant.left next).1;
+      sums =
+          sums-added v x b axes can i.i rows i.numbers r.new.numbers i.invariant.left next i.sums i.invariant.sums c.add_scaled.new.sums
+          (others-added v r.result.number r.result.cells [] i.sums may c.add_scaled.new.sums c.add_scaled.ensures c.add_scaled.new.sums (AddsRows-none v c.add_scaled.new.sums));
+    }
+
+pub returns : goal.returns
+returns g c =
     let rows = ap (λ k. get_or k 0 0) (c.into_pattern-rows.ensures ∙ c.raw_dim.ensures.lengths) in
-    let off = c.if-i-rows.false in
-    let le = c.pairs.invariant.in_range in
+    let off = c.others-test.false in
+    let le = c.others.invariant.in_range in
     let inner = c.requires.can.inner in
-    let all : c.pairs.i ≡ get_or x.lengths 0 0 = omega (arith, rows, off, le, inner) in
-    subst (λ k. map v.meaning c.pairs.sums ≡ row_sums_to v k x c.args.right.now) all c.pairs.invariant.sums
+    let all : c.others.i ≡ get_or c.args.x.now.lengths 0 0 = omega (arith, rows, off, le, inner) in
+    subst (λ k. map g.A.Valued.meaning c.others.sums ≡ row_sums_to g.A.Valued k c.args.x.now c.args.right.now) all c.others.invariant.sums

@@ -1,0 +1,13 @@
+-- The places so far were added.
+use Rattle.std.proofs.Common.{◌-◌, ◌≤◌, [], ◌∷◌, length}
+use Rattle.ndarray.specs.linalg.RowSums.{AddsRowsTo}
+use Rattle.ndarray.proofs.linalg.row_sums.add_four_slices.Given as goal
+
+abbrev pub invariant-cells : goal.invariant-cells
+invariant-cells g l = record {
+  in_range : l.j ≤ length l.fn.sums;
+  added : AddsRowsTo g.A.Valued l.j ((l.a.number, l.a.cells.now) ∷ (l.b.number, l.b.cells.now) ∷ (l.c.number, l.c.cells.now) ∷ (l.d.number, l.d.cells.now) ∷ []) l.fn.sums l.sums;
+}
+
+abbrev pub decreases-cells : goal.decreases-cells
+decreases-cells g l = length l.sums - l.j
