@@ -173,9 +173,9 @@ fn push_row<A: Clone + Zero, D: Lengths>(
     let diagonal = column_minus_row(index);
     let from = columns_below(first, diagonal, columns);
     let to = columns_up_to(last, diagonal, columns).max(from);
-    push_zeros(kept, from);
+    kept.push_zeros(from);
     push_cells(kept, array, index, from, to - from)?;
-    push_zeros(kept, columns - to);
+    kept.push_zeros(columns - to);
     Ok(())
 }
 
@@ -227,16 +227,6 @@ fn columns_up_to(bound: isize, diagonal: isize, columns: usize) -> usize
     }
     let apart = bound.abs_diff(diagonal);
     if apart < columns { apart + 1 } else { columns }
-}
-
-/// Pushes zeros.
-fn push_zeros<A: Zero, D: Lengths>(kept: &mut ArrayBuilder<A, D>, many: usize)
-    requires { length kept.old.cells + many ≤ size kept.old.lengths }
-    ensures { kept.new ≡ pushed_all kept.old (replicate many A.zero) }
-{
-    for _ in 0..many {
-        kept.push(A::zero());
-    }
 }
 
 /// The last index less the one before it.

@@ -9,7 +9,7 @@ AreUpTo fits m zs = All (λ z. fits z × (unsigned_abs z ≤ m)) zs
 abbrev pub AreBetween : (ℤ → Type 0) → ℤ → ℤ → List ℤ → Type 0
 AreBetween fits least greatest zs = All (λ z. fits z × (least ≤ℤ z) × (z ≤ℤ greatest)) zs
 
--- least and greatest are extremes of zero and of the numbers of whole that are not in rest, and these fit: with those of rest between wider ones, all of whole are
+-- least and greatest are bounds of zero and of the numbers of whole that are not in rest, and these fit: where those of rest lie between wider bounds and fit, so do all of whole
 pub record ExtremesSoFar (fits : ℤ → Type 0) (whole rest : List ℤ) (least greatest : ℤ) : Type 0 where
   pub up_to_zero : least ≤ℤ pos 0
   pub from_zero : pos 0 ≤ℤ greatest

@@ -1,6 +1,6 @@
 //! Arrays that are filled one cell after another.
 
-ghost use Rattle.std.specs.Prelude.{◌≡◌, ◌<◌, ◌≤◌, ◌+◌, ◌-◌, ◌++◌, ◌∷◌, [], length, slice_index_or, IfOk, IsOk};
+ghost use Rattle.std.specs.Prelude.{◌≡◌, ◌<◌, ◌≤◌, ◌+◌, ◌-◌, ◌++◌, ◌∷◌, [], length, replicate, slice_index_or, IfOk, IsOk};
 ghost use Rattle.ndarray.specs.base.Builder.{pushed_all, pushed_to};
 ghost use Rattle.ndarray.specs.Elementwise.{ClonesAreEqual};
 ghost use Rattle.ndarray.specs.Grid.{IsGrid};
@@ -13,6 +13,7 @@ use crate::base::dimension::Lengths;
 use crate::base::shape::Order;
 use crate::base::storage::DataOwned;
 use crate::base::strided::Strided;
+use num_traits::Zero;
 use std::alloc::{AllocError, Global};
 use std::marker::Model;
 
@@ -78,6 +79,20 @@ impl<A: Drop, D: Lengths> ArrayBuilder<A, D> {
     {
         let ArrayBuilder { items, dim, order } = self;
         ArrayBase::from_elements(dim, order, items)
+    }
+}
+
+impl<A: Zero + Drop, D: Lengths> ArrayBuilder<A, D> {
+    /// Pushes zeros.
+    pub(crate) fn push_zeros(&mut self, many: usize)
+        requires { length self.old.cells + many ≤ size self.old.lengths }
+        ensures { self.new ≡ pushed_all self.old (replicate many A.zero) }
+    {
+        let before = self.items.len();
+        // By their number in the array, so that no other count is kept.
+        while self.items.len() - before < many {
+            self.push(A::zero());
+        }
     }
 }
 

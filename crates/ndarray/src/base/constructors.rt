@@ -245,9 +245,7 @@ impl<A: Zero + Drop, S: DataOwned<Elem = A>, D: Dimension> ArrayBase<S, D> {
         let Shape { dim, order } = shape.into_shape_with_order();
         let size = dim.size();
         let mut builder = ArrayBuilder::with_capacity(alloc, dim, order)?;
-        for _ in 0..size {
-            builder.push(A::zero());
-        }
+        builder.push_zeros(size);
         Ok(builder.finish())
     }
 }

@@ -67,7 +67,7 @@ push_zeros-requires-2 g c =
     let more = length-append c.args.kept.now.cells (replicate from g.A.Zero.zero) in
     let many = length-replicate from g.A.Zero.zero in
     let cells = ap (λ p. length p.cells) c.in_ok-push_cells.ensures.pushed in
-    let next = length-append c.push_zeros.new.kept.cells (filter_map (cell c.args.array.now) part) in
+    let next = length-append c.push_zeros.new.self.cells (filter_map (cell c.args.array.now) part) in
     let most = length-filter_map-most (cell c.args.array.now) part in
     let long = length-row_from (row_at is (length is - 1) from) (length is - 1) (c.max-to.result - from) in
     let same = ap (λ p. size p.lengths) c.in_ok-push_cells.ensures.pushed ∙ ap (λ p. size p.lengths) c.push_zeros.ensures in
@@ -114,7 +114,7 @@ returns g c =
     (before-kept c.args.first c.args.last d columns from up below above inside past)
     (between-kept c.args.first c.args.last d columns from up below above inside past to (omega (arith, most, within, reach)) (λ k le lt. omega (arith, most, le, lt)))
     (after-kept c.args.first c.args.last d columns from up below above inside past to (omega (arith, most)) (omega (arith, most))) in
-    let whole : c.push_zeros-2.new.kept ≡ pushed_all c.args.kept.now (replicate from zero ++ (part ++ replicate (columns - to) zero)) =
+    let whole : c.push_zeros-2.new.self ≡ pushed_all c.args.kept.now (replicate from zero ++ (part ++ replicate (columns - to) zero)) =
     c.push_zeros-2.ensures
     ∙ (ap (λ p. pushed_all p (replicate (columns - to) zero)) (c.in_ok-push_cells.ensures.pushed ∙ ap (λ p. pushed_all p part) c.push_zeros.ensures)
     ∙ (ap (λ p. pushed_all p (replicate (columns - to) zero)) (pushed-more c.args.kept.now (replicate from zero) part)
