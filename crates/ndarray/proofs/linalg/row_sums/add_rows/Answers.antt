@@ -1,7 +1,8 @@
 use Rattle.std.proofs.Common.{◌≡◌, ◌∙◌, ◌+◌, List, [], ◌∷◌, ap, arith, get_or, length, map, refl, subst}
-use Rattle.ndarray.specs.linalg.RowSums.{row_sums_to}
+use Rattle.ndarray.specs.linalg.RowSums.{CanAddRows, row_sums_to}
 use Rattle.ndarray.proofs.cells.RowProducts.{NextRows, as_many-left, rows-next, sums-added, sums-can_add}
 use Rattle.ndarray.proofs.sums.SeveralRows.{AddsRows-none, first-can_add, others-added}
+use Rattle.ndarray.proofs.linalg.row_sums.add_rows.Goals.{After-next_row-a-in-others, After-next_row-d}
 use Rattle.ndarray.proofs.linalg.row_sums.add_rows.Goals as goal
 
 pub next_row-b-requires-clause-number : goal.next_row-b-requires-clause-number
@@ -31,42 +32,47 @@ next_row-d-requires-clause-number g c κs within =
     let c = ap length c.next_row-c.ensures.number in
     omega (arith, many, rows, four, a, b, c)
 
-pub add_four-requires-after_bounds : goal.add_four-requires-after_bounds
-add_four-requires-after_bounds g c κs within =
-    let v = g.A.Valued in
-    let x = c.args.x.now in
-    let b = c.args.right.now in
-    let axes = c.raw_dim.ensures.axes in
-    let can = c.requires.can in
-    let i = c.fours in
-    let rows : List (g.row.A.Denot × List g.row.A.Denot) =
-    (c.next_row-a.result.number, c.next_row-a.result.cells) ∷ (c.next_row-b.result.number, c.next_row-b.result.cells) ∷ (c.next_row-c.result.number, c.next_row-c.result.cells) ∷ (c.next_row-d.result.number, c.next_row-d.result.cells) ∷ [] in
-    let next : NextRows v x b axes can i.i rows i.numbers c.next_row-d.new.numbers = (
-      i.i,
-      c.next_row-a.new.numbers,
+-- the four rows, and their numbers
+abbrev four_rows : (g : _) → After-next_row-d g → List (g.row.A.Denot × List g.row.A.Denot)
+four_rows g c =
+    (c.next_row-a.result.number, c.next_row-a.result.cells) ∷ (c.next_row-b.result.number, c.next_row-b.result.cells) ∷ (c.next_row-c.result.number, c.next_row-c.result.cells) ∷ (c.next_row-d.result.number, c.next_row-d.result.cells) ∷ []
+
+four : (g : _) (c : After-next_row-d g) → NextRows g.A.Valued c.args.x.now c.args.right.now c.raw_dim.ensures.axes c.requires.can c.fours.i (four_rows g c) c.fours.numbers c.next_row-d.new.numbers
+four g c =
+    let i = c.fours.i in
+    let a = c.next_row-a in
+    let b = c.next_row-b in
+    let d = c.next_row-c in
+    let e = c.next_row-d in (
+      i,
+      a.new.numbers,
       refl,
-      c.next_row-a.ensures.number,
-      c.next_row-a.ensures.cells,
-      c.next_row-a.ensures.whole,
+      a.ensures.number,
+      a.ensures.cells,
+      a.ensures.whole,
       (
-        i.i + 1,
-        c.next_row-b.new.numbers,
+        i + 1,
+        b.new.numbers,
         refl,
-        c.next_row-b.ensures.number,
-        c.next_row-b.ensures.cells,
-        c.next_row-b.ensures.whole,
+        b.ensures.number,
+        b.ensures.cells,
+        b.ensures.whole,
         (
-          i.i + 2,
-          c.next_row-c.new.numbers,
+          i + 2,
+          d.new.numbers,
           omega arith,
-          c.next_row-c.ensures.number,
-          c.next_row-c.ensures.cells,
-          c.next_row-c.ensures.whole,
-          (i.i + 3, c.next_row-d.new.numbers, omega arith, c.next_row-d.ensures.number, c.next_row-d.ensures.cells, c.next_row-d.ensures.whole, refl),
+          d.ensures.number,
+          d.ensures.cells,
+          d.ensures.whole,
+          (i + 3, e.new.numbers, omega arith, e.ensures.number, e.ensures.cells, e.ensures.whole, refl),
         ),
       ),
-    ) in
-    sums-can_add v x b axes can i.i rows i.numbers c.next_row-d.new.numbers i.invariant.left next i.sums i.invariant.sums
+    )
+
+pub add_four-requires-after_bounds : goal.add_four-requires-after_bounds
+add_four-requires-after_bounds g c κs within =
+    let here = (goal.at.add_four-requires-after_bounds g c).After-next_row-d in
+    sums-can_add g.A.Valued c.args.x.now c.args.right.now c.raw_dim.ensures.axes c.requires.can c.fours.i (four_rows g here) c.fours.numbers c.next_row-d.new.numbers c.fours.invariant.left (four g here) c.fours.sums c.fours.invariant.sums
 
 pub fours-preserved : goal.fours-preserved
 fours-preserved g c =
@@ -76,52 +82,27 @@ fours-preserved g c =
     let axes = c.raw_dim.ensures.axes in
     let can = c.requires.can in
     let i = c.fours in
-    let rows : List (g.row.A.Denot × List g.row.A.Denot) =
-    (c.next_row-a.result.number, c.next_row-a.result.cells) ∷ (c.next_row-b.result.number, c.next_row-b.result.cells) ∷ (c.next_row-c.result.number, c.next_row-c.result.cells) ∷ (c.next_row-d.result.number, c.next_row-d.result.cells) ∷ [] in
-    let next : NextRows v x b axes can i.i rows i.numbers c.next_row-d.new.numbers = (
-      i.i,
-      c.next_row-a.new.numbers,
-      refl,
-      c.next_row-a.ensures.number,
-      c.next_row-a.ensures.cells,
-      c.next_row-a.ensures.whole,
-      (
-        i.i + 1,
-        c.next_row-b.new.numbers,
-        refl,
-        c.next_row-b.ensures.number,
-        c.next_row-b.ensures.cells,
-        c.next_row-b.ensures.whole,
-        (
-          i.i + 2,
-          c.next_row-c.new.numbers,
-          omega arith,
-          c.next_row-c.ensures.number,
-          c.next_row-c.ensures.cells,
-          c.next_row-c.ensures.whole,
-          (i.i + 3, c.next_row-d.new.numbers, omega arith, c.next_row-d.ensures.number, c.next_row-d.ensures.cells, c.next_row-d.ensures.whole, refl),
-        ),
-      ),
-    ) in
+    let here = (goal.at.fours-preserved g c).After-next_row-d in
     record {
       in_range = (let four = c.fours-test.true in omega (arith, four));
-      left = (rows-next v x b axes can i.i rows i.numbers c.next_row-d.new.numbers i.invariant.left next).1;
-      sums = sums-added v x b axes can i.i rows i.numbers c.next_row-d.new.numbers i.invariant.left next i.sums i.invariant.sums c.add_four.new.sums c.add_four.ensures;
+      left = (rows-next v x b axes can i.i (four_rows g here) i.numbers c.next_row-d.new.numbers i.invariant.left (four g here)).1;
+      sums = sums-added v x b axes can i.i (four_rows g here) i.numbers c.next_row-d.new.numbers i.invariant.left (four g here) i.sums i.invariant.sums c.add_four.new.sums c.add_four.ensures;
     }
+
+-- one of the others, and its number
+abbrev one_row : (g : _) → After-next_row-a-in-others g → List (g.row.A.Denot × List g.row.A.Denot)
+one_row g c = (c.next_row-a-in-others.result.number, c.next_row-a-in-others.result.cells) ∷ []
+
+one : (g : _) (c : After-next_row-a-in-others g) → NextRows g.A.Valued c.args.x.now c.args.right.now c.raw_dim.ensures.axes c.requires.can c.others.i (one_row g c) c.others.numbers c.next_row-a-in-others.new.numbers
+one g c = let r = c.next_row-a-in-others in (c.others.i, r.new.numbers, refl, r.ensures.number, r.ensures.cells, r.ensures.whole, refl)
+
+one-can_add : (g : _) (c : After-next_row-a-in-others g) → CanAddRows g.A.Valued (one_row g c) c.others.sums
+one-can_add g c = sums-can_add g.A.Valued c.args.x.now c.args.right.now c.raw_dim.ensures.axes c.requires.can c.others.i (one_row g c) c.others.numbers c.next_row-a-in-others.new.numbers c.others.invariant.left (one g c) c.others.sums c.others.invariant.sums
 
 pub add_scaled-requires-after_bounds : goal.add_scaled-requires-after_bounds
 add_scaled-requires-after_bounds g c κs within =
-    let v = g.A.Valued in
-    let x = c.args.x.now in
-    let b = c.args.right.now in
-    let axes = c.raw_dim.ensures.axes in
-    let can = c.requires.can in
-    let i = c.others in
-    let r = c.next_row-a-in-others in
-    let rows : List (g.row.A.Denot × List g.row.A.Denot) = (r.result.number, r.result.cells) ∷ [] in
-    let next : NextRows v x b axes can i.i rows i.numbers r.new.numbers = (i.i, r.new.numbers, refl, r.ensures.number, r.ensures.cells, r.ensures.whole, refl) in
-    let may = sums-can_add v x b axes can i.i rows i.numbers r.new.numbers i.invariant.left next i.sums i.invariant.sums in
-    first-can_add v r.result.number r.result.cells [] i.sums may
+    let r = c.next_row-a-in-others.result in
+    first-can_add g.A.Valued r.number r.cells [] c.others.sums (one-can_add g (goal.at.add_scaled-requires-after_bounds g c).After-next_row-a-in-others)
 
 pub others-preserved : goal.others-preserved
 others-preserved g c =
@@ -132,15 +113,13 @@ others-preserved g c =
     let can = c.requires.can in
     let i = c.others in
     let r = c.next_row-a-in-others in
-    let rows : List (g.row.A.Denot × List g.row.A.Denot) = (r.result.number, r.result.cells) ∷ [] in
-    let next : NextRows v x b axes can i.i rows i.numbers r.new.numbers = (i.i, r.new.numbers, refl, r.ensures.number, r.ensures.cells, r.ensures.whole, refl) in
-    let may = sums-can_add v x b axes can i.i rows i.numbers r.new.numbers i.invariant.left next i.sums i.invariant.sums in
+    let here = (goal.at.others-preserved g c).After-next_row-a-in-others in
     record {
       in_range = (let lt = c.others-test.true in omega (arith, lt));
-      left = (rows-next v x b axes can i.i rows i.numbers r.new.numbers i.invariant.left next).1;
+      left = (rows-next v x b axes can i.i (one_row g here) i.numbers r.new.numbers i.invariant.left (one g here)).1;
       sums =
-          sums-added v x b axes can i.i rows i.numbers r.new.numbers i.invariant.left next i.sums i.invariant.sums c.add_scaled.new.sums
-          (others-added v r.result.number r.result.cells [] i.sums may c.add_scaled.new.sums c.add_scaled.ensures c.add_scaled.new.sums (AddsRows-none v c.add_scaled.new.sums));
+          sums-added v x b axes can i.i (one_row g here) i.numbers r.new.numbers i.invariant.left (one g here) i.sums i.invariant.sums c.add_scaled.new.sums
+          (others-added v r.result.number r.result.cells [] i.sums (one-can_add g here) c.add_scaled.new.sums c.add_scaled.ensures c.add_scaled.new.sums (AddsRows-none v c.add_scaled.new.sums));
     }
 
 pub returns : goal.returns
