@@ -178,7 +178,7 @@ fn add_four_slices<A: LinalgScalar>(
     ensures { AddsRows A.Valued ((a.entry.number, a.entry.cells.now) ∷ (b.entry.number, b.entry.cells.now) ∷ (c.entry.number, c.entry.cells.now) ∷ (d.entry.number, d.entry.cells.now) ∷ []) sums.old sums.new }
 {
     let mut j = 0;
-    // A processor without a vector multiplication of 64 bits takes the cells one by one, and then four sums at a time are faster.
+    // Numbers of eight bytes and more are multiplied one by one, and then four sums at a time are faster; narrower ones as vectors.
     if size_of_val(&a.number) >= 8 {
         j = add_in_fours(sums, &a, &b, &c, &d);
     }
