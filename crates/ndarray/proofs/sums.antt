@@ -12,3 +12,4 @@ pub mod Selections
 pub mod SeveralRows
 pub mod SignedSums
 pub mod SmallProducts
+pub mod TwoSums

@@ -1,6 +1,6 @@
 //! Elements that lie a step apart, one after another: for `base`, `iter` and `linalg`.
 
-ghost use Rattle.std.specs.Prelude.{◌≡◌, [], ◌<◌, All, length, filter_map, IfSome};
+ghost use Rattle.std.specs.Prelude.{◌≡◌, [], ◌∷◌, ◌<◌, All, length, filter_map, IfSome, MatchOption};
 ghost use Rattle.std.specs.Iterator.{YieldsFirstRef, YieldsLastRef, item_count};
 ghost use Rattle.ndarray.specs.Grid.{cell};
 ghost use Rattle.ndarray.specs.Index.{InBox};
@@ -66,6 +66,21 @@ impl<'a, A> Strided<'a, A> {
         self.left -= 1;
         self.place = place.wrapping_add(self.step);
         Some(self.storage.get(place))
+    }
+
+    /// The next two elements, where there are two. Both steps are taken at once.
+    #[inline(always)]
+    pub(crate) fn next_two(&mut self) -> Option<(&'a A, &'a A)>
+        ensures { MatchOption result ((length self.old < 2) × (self.new ≡ self.old)) (λ p. self.old ≡ p.0.now ∷ p.1.now ∷ self.new) }
+    {
+        if self.left < 2 {
+            return None;
+        }
+        let first = self.place;
+        let second = first.wrapping_add(self.step);
+        self.left -= 2;
+        self.place = first.wrapping_add(self.step.wrapping_add(self.step));
+        Some((self.storage.get(first), self.storage.get(second)))
     }
 
     /// The last element.

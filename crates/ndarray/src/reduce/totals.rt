@@ -142,10 +142,16 @@ fn total_of_run<T: TotalOperation<A>, A: Copy>(cells: Strided<'_, A>) -> A
     }
     let mut cells = cells;
     let mut total = T::of_none();
-    while let Some(x) = cells.next() {
+    // By two sums, neither of which waits for the other.
+    let mut others = T::of_none();
+    while let Some((x, y)) = cells.next_two() {
         total = T::of_two(total, *x);
+        others = T::of_two(others, *y);
     }
-    total
+    match cells.next() {
+        Some(x) => T::of_two(T::of_two(total, *x), others),
+        None => T::of_two(total, others),
+    }
 }
 
 /// The total of each lane along an axis: by lanes where their cells lie nearer to one another than those of the items along the
