@@ -1,7 +1,7 @@
 //! Whether the cells of two arrays are so small that no sum of so many of their products leaves the integer type: one walk over each
 //! array, in place of one over each row and column of a product.
 
-ghost use Rattle.std.specs.Prelude.{◌≡◌, ◌++◌, ◌∷◌, ◌*◌, ◌≤ℤ◌, [], ℕ, ℤ, List, IfSome, IsTrue, map, pos};
+ghost use Rattle.std.specs.Prelude.{◌≡◌, ◌++◌, ◌∷◌, ◌*◌, ◌≤ℤ◌, [], ℕ, ℤ, List, IfSome, IsTrue, length, map, pos};
 ghost use Rattle.ndarray.specs.reduce.SmallProducts.{AreUpTo, ExtremesSoFar, HaveSmallProducts};
 
 use crate::base::array::ArrayView;
@@ -22,15 +22,17 @@ pub(crate) fn have_small_products<A: IntegerElem, D: Lengths, E: Lengths>(
     are_small(&extremes_of_array(a), &extremes_of_array(b), count)
 }
 
-/// The same of two lists of cells.
+/// The same of two lists of as many cells.
 pub(crate) fn lists_have_small_products<A: IntegerElem>(
     left: Strided<'_, A>,
     right: Strided<'_, A>,
     count: usize,
 ) -> bool
+    requires { length left ≡ length right }
     ensures { IsTrue result → HaveSmallProducts A.fits count (map A.value left.entry) (map A.value right.entry) }
 {
-    are_small(&extremes_of_list(left), &extremes_of_list(right), count)
+    let (x, y) = extremes_of_lists(left, right);
+    are_small(&x, &y, count)
 }
 
 /// The least and the greatest of some numbers and zero.
@@ -100,11 +102,42 @@ fn extremes_of_array<A: IntegerElem, D: Lengths>(array: &ArrayView<'_, A, D>) ->
     extremes
 }
 
-/// Those of a list of cells.
-fn extremes_of_list<A: IntegerElem>(cells: Strided<'_, A>) -> Extremes<A>
-    ensures { ExtremesSoFar A.fits (map A.value cells.entry) [] (A.value result.least) (A.value result.greatest) }
+/// Those of two lists of as many cells.
+fn extremes_of_lists<A: IntegerElem>(
+    left: Strided<'_, A>,
+    right: Strided<'_, A>,
+) -> (Extremes<A>, Extremes<A>)
+    requires { length left ≡ length right }
+    ensures left { ExtremesSoFar A.fits (map A.value left.entry) [] (A.value result.0.least) (A.value result.0.greatest) }
+    ensures right { ExtremesSoFar A.fits (map A.value right.entry) [] (A.value result.1.least) (A.value result.1.greatest) }
 {
-    with_run(no_extremes(), cells)
+    if let Some(xs) = left.side_by_side() {
+        if let Some(ys) = right.side_by_side() {
+            return extremes_of_slices(xs, ys);
+        }
+    }
+    (
+        with_run(no_extremes(), left),
+        with_run(no_extremes(), right),
+    )
+}
+
+/// Those of two slices of one length, a block of each in turn: where both are the same memory, it is read once.
+fn extremes_of_slices<A: IntegerElem>(xs: &[A], ys: &[A]) -> (Extremes<A>, Extremes<A>)
+    requires { length xs.now ≡ length ys.now }
+    ensures left { ExtremesSoFar A.fits (map A.value xs.now) [] (A.value result.0.least) (A.value result.0.greatest) }
+    ensures right { ExtremesSoFar A.fits (map A.value ys.now) [] (A.value result.1.least) (A.value result.1.greatest) }
+{
+    let mut first = no_extremes();
+    let mut second = no_extremes();
+    let mut i = 0;
+    'turns: while i < xs.len() {
+        let end = i + (xs.len() - i).min(4096);
+        first = with_slice(first, &xs[i..end]);
+        second = with_slice(second, &ys[i..end]);
+        i = end;
+    }
+    (first, second)
 }
 
 /// Those of no numbers.
