@@ -1,9 +1,9 @@
--- Several rows at once added to sums, each with its number: one place more, one row after another, and the sums over some rows more.
+-- Several rows at once added to sums, each with its number: one row after another, and the sums over some rows more.
 use Rattle.std.proofs.Common.{◌≡◌, ◌∙◌, ℕ, ◌+◌, ◌<◌, List, [], ◌∷◌, add-one, ap, arith, get_or, length, map, refl, subst, sym}
 use Rattle.std.specs.Prelude.{⊤}
 use Rattle.std.proofs.lemmas.List.{get_or_default, get_or_past}
 use Rattle.ndarray.specs.Matrices.{values_below}
-use Rattle.ndarray.specs.linalg.RowSums.{AddsRows, AddsScaledRow, AreAsLong, CanAddProducts, CanAddRows, CanAddScaledRow, added, column}
+use Rattle.ndarray.specs.linalg.RowSums.{AddsRows, AddsScaledRow, AreAsLong, CanAddProducts, CanAddRows, CanAddScaledRow, column_with_numbers, sum_with_products}
 use Rattle.ndarray.specs.Sums.{IsSummable, total}
 use Rattle.ndarray.specs.declared.elements.Valued.{Ghosts as ValuedGhosts}
 use Rattle.ndarray.proofs.sums.Fronts.{total-more}
@@ -27,7 +27,7 @@ module _ {A : Type 0} (e : ValuedGhosts A) where
         same = subst (λ n. AreAsLong e n rows) (sym done.same) can.same.1;
         each = λ j lt d.
             let inside : j < length sums = let same = done.same in omega (arith, same, lt) in
-            subst (CanAddProducts e (column e j d rows)) (sym (done.each j d (let long = can.same.0 in omega (arith, long, inside)))) (can.each j inside d).2;
+            subst (CanAddProducts e (column_with_numbers e j d rows)) (sym (done.each j d (let long = can.same.0 in omega (arith, long, inside)))) (can.each j inside d).2;
       }
 
       pub others-added : (all : List A) → AddsRows e rows new all → AddsRows e ((x, ys) ∷ rows) sums all
@@ -35,7 +35,7 @@ module _ {A : Type 0} (e : ValuedGhosts A) where
         same = more.same ∙ done.same;
         each = λ j d lt c.
             let here : j < length ys = let long = can.same.0 in omega (arith, long, lt) in
-            more.each j d (let same = done.same in omega (arith, same, lt)) c ∙ ap (added e (column e j c rows)) (done.each j c here);
+            more.each j d (let same = done.same in omega (arith, same, lt)) c ∙ ap (sum_with_products e (column_with_numbers e j c rows)) (done.each j c here);
         others = λ j d le.
             let long : length all ≡ length sums = more.same ∙ done.same in
             get_or_past all j d (omega (arith, long, le)) ∙ sym (get_or_past sums j d le);
@@ -68,7 +68,7 @@ module _ {A : Type 0} (e : ValuedGhosts A) where
         ∙ sym (rw add-one (ap (total e.addition) (below-more i (f j)) ∙ total-more e.addition (values_below i (f j)) (f j i))))
 
     column-can : (rows : List (A × List A)) (i j : ℕ) (d : A) (s : e.Carrier) → AreRows i rows → j < n → IsSummable e.addition e.InRange (values_below k (f j))
-        → s ≡ total e.addition (values_below i (f j)) → CanAddProducts e (column e j d rows) s
+        → s ≡ total e.addition (values_below i (f j)) → CanAddProducts e (column_with_numbers e j d rows) s
     column-can [] i j d s h lt can so_far = tt
     column-can ((y, ys) ∷ rows) i j d s h lt can so_far =
         let next = one-more i j y ys d s h.0 lt so_far in (
@@ -78,7 +78,7 @@ module _ {A : Type 0} (e : ValuedGhosts A) where
         )
 
     column-added : (rows : List (A × List A)) (i j : ℕ) (d : A) (s : e.Carrier) → AreRows i rows → j < n
-        → s ≡ total e.addition (values_below i (f j)) → added e (column e j d rows) s ≡ total e.addition (values_below (i + length rows) (f j))
+        → s ≡ total e.addition (values_below i (f j)) → sum_with_products e (column_with_numbers e j d rows) s ≡ total e.addition (values_below (i + length rows) (f j))
     column-added [] i j d s h lt so_far = so_far ∙ ap (λ m. total e.addition (values_below m (f j))) (omega arith)
     column-added ((y, ys) ∷ rows) i j d s h lt so_far =
         column-added rows (i + 1) j d _ h.1 lt (one-more i j y ys d s h.0 lt so_far)

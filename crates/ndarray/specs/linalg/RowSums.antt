@@ -42,21 +42,21 @@ module _ {A : Type 0} (e : ValuedGhosts A) where
       × CanAddProducts more (e.addition.op s (e.multiplication.op (e.meaning x) (e.meaning y)))
 
   -- the value with them added
-  abbrev pub added : List (A × A) → e.Carrier → e.Carrier
-  added [] s = s
-  added ((x, y) ∷ more) s = added more (e.addition.op s (e.multiplication.op (e.meaning x) (e.meaning y)))
+  abbrev pub sum_with_products : List (A × A) → e.Carrier → e.Carrier
+  sum_with_products [] s = s
+  sum_with_products ((x, y) ∷ more) s = sum_with_products more (e.addition.op s (e.multiplication.op (e.meaning x) (e.meaning y)))
 
   -- the elements of the rows at place j, each with the number of its row
-  abbrev pub column : ℕ → A → List (A × List A) → List (A × A)
-  column j d rows = map (λ r. (r.0, slice_index_or r.1 j d)) rows
+  abbrev pub column_with_numbers : ℕ → A → List (A × List A) → List (A × A)
+  column_with_numbers j d rows = map (λ r. (r.0, slice_index_or r.1 j d)) rows
 
   -- the products may be added to the sum at place j
   abbrev pub CanAddRowsAt : ℕ → List (A × List A) → List A → Type 0
-  CanAddRowsAt j rows sums = (d : A) → CanAddProducts (column j d rows) (e.meaning (slice_index_or sums j d))
+  CanAddRowsAt j rows sums = (d : A) → CanAddProducts (column_with_numbers j d rows) (e.meaning (slice_index_or sums j d))
 
   -- they were added to it
   abbrev pub AddsRowsAt : ℕ → List (A × List A) → List A → A → Type 0
-  AddsRowsAt j rows sums z = (d : A) → e.meaning z ≡ added (column j d rows) (e.meaning (slice_index_or sums j d))
+  AddsRowsAt j rows sums z = (d : A) → e.meaning z ≡ sum_with_products (column_with_numbers j d rows) (e.meaning (slice_index_or sums j d))
 
   -- each row has n elements
   abbrev pub AreAsLong : ℕ → List (A × List A) → Type 0
