@@ -23,8 +23,8 @@ use crate::places::place_rows::PlaceRow;
 /// How many lanes are scanned side by side at most.
 const TILE: usize = 512;
 
-/// From how many cells on an array does not stay in cache.
-const MANY_CELLS: usize = 1 << 17;
+/// From how many cells on an array does not stay in the first cache, where the cells of a lane can be in each other's way.
+const MANY_CELLS: usize = 1 << 14;
 
 /// Whether lanes are scanned faster in tiles: there are many cells, and those of neighbouring lanes lie no farther apart than
 /// those of one lane. No contract speaks of it.
