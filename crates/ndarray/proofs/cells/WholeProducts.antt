@@ -1,5 +1,6 @@
 -- Inner sums of values that are whole numbers.
 use Rattle.std.proofs.Common.{◌≡◌, ◌∙◌, ℕ, zero, suc, [], ◌∷◌, Option, Some, None, ap, get_or, map, refl, ℤ, pos}
+use Rattle.std.specs.Prelude.{◌+ℤ◌, ◌*ℤ◌}
 use Rattle.ndarray.specs.Grid.{Grid, cell}
 use Rattle.ndarray.specs.Integers.{int_products, int_sums}
 use Rattle.ndarray.specs.Matrices.{values_below}
@@ -13,6 +14,14 @@ module _ {A : Type 0} (e : ValuedGhosts A) (number : A → ℤ) (fits : ℤ → 
   value-whole : (o : Option A) → w.whole (value_or e.meaning e.addition.unit o) ≡ value_or number (pos 0) o
   value-whole None = w.zero
   value-whole (Some x) = w.element x
+
+  pub product-whole : (x y : A) → w.whole (e.multiplication.op (e.meaning x) (e.meaning y)) ≡ number x *ℤ number y
+  product-whole x y = w.product (e.meaning x) (e.meaning y) ∙ (ap (λ t. t *ℤ w.whole (e.meaning y)) (w.element x) ∙ ap (λ t. number x *ℤ t) (w.element y))
+
+  pub added-whole : (sum x y : A) → w.whole (e.addition.op (e.meaning sum) (e.multiplication.op (e.meaning x) (e.meaning y))) ≡ number sum +ℤ (number x *ℤ number y)
+  added-whole sum x y =
+      w.sum (e.meaning sum) (e.multiplication.op (e.meaning x) (e.meaning y))
+      ∙ (ap (λ t. t +ℤ w.whole (e.multiplication.op (e.meaning x) (e.meaning y))) (w.element sum) ∙ ap (λ t. number sum +ℤ t) (product-whole x y))
 
   products-whole : (n : ℕ) (f h : ℕ → Option A)
       → map w.whole (values_below n (λ k. e.multiplication.op (value_or e.meaning e.addition.unit (f k)) (value_or e.meaning e.addition.unit (h k))))

@@ -23,13 +23,13 @@ none-negative : (fits : ℤ → Type 0) → NegativeFits fits (pos 0)
 unfolding NegativeFits
 none-negative fits n e = absurd (cc)
 
-abs-sum : (a b : ℤ) → unsigned_abs (a +ℤ b) ≤ unsigned_abs a + unsigned_abs b
+pub abs-sum : (a b : ℤ) → unsigned_abs (a +ℤ b) ≤ unsigned_abs a + unsigned_abs b
 abs-sum (pos a) (pos b) = omega (arith, ints)
 abs-sum (pos a) (negsuc b) = omega (arith, ints)
 abs-sum (negsuc a) (pos b) = omega (arith, ints)
 abs-sum (negsuc a) (negsuc b) = omega (arith, ints)
 
-negative-sum : (fits : ℤ → Type 0) (a b : ℤ) → NegativeFits fits a → NegativeFits fits b → NegativeFits fits (a +ℤ b)
+pub negative-sum : (fits : ℤ → Type 0) (a b : ℤ) → NegativeFits fits a → NegativeFits fits b → NegativeFits fits (a +ℤ b)
 unfolding NegativeFits
 negative-sum fits (pos a) (pos b) ha hb n e = absurd (omega (arith, ints, e))
 negative-sum fits (pos a) (negsuc b) ha hb n e = hb b refl

@@ -1,8 +1,9 @@
 -- Sums of products of numbers whose absolute values are at most given ones.
-use Rattle.std.proofs.Common.{◌≡◌, ℕ, zero, suc, ◌+◌, ◌-◌, ◌*◌, ◌/◌, ◌≤◌, List, [], ◌∷◌, arith, length, map, subst}
-use Rattle.std.specs.Prelude.{All, ℤ, pos, negsuc, neg_ℤ, ◌*ℤ◌, ◌-ℤ◌, ◌≤ℤ◌, IsPermutation, unsigned_abs}
+use Rattle.std.proofs.Common.{◌≡◌, ◌∙◌, ℕ, zero, suc, ◌+◌, ◌-◌, ◌*◌, ◌/◌, ◌≤◌, List, [], ◌∷◌, ap, arith, inl, length, map, subst, sym}
+use Rattle.std.specs.Prelude.{All, ℤ, pos, negsuc, neg_ℤ, ◌+ℤ◌, ◌*ℤ◌, ◌-ℤ◌, ◌≤ℤ◌, IsPermutation, unsigned_abs}
 use Rattle.std.specs.List.{AllByRecursion}
 use Rattle.std.proofs.lemmas.Int.{ints, unsigned_abs-mul}
+use Rattle.std.proofs.lemmas.List.{nil_from_length}
 use Rattle.std.proofs.lemmas.List.Elements.{All-cons, All-head, All-nil, All-tail, All-weaker}
 use Rattle.std.proofs.lemmas.List.Sorted.{All-permutation, IsPermutation-sym}
 use Rattle.std.proofs.lemmas.Nat.{mul-le}
@@ -10,11 +11,13 @@ use Rattle.ndarray.specs.Integers.{int_products, int_sums}
 use Rattle.ndarray.specs.Matrices.{Matrix, inner_products, values_below}
 use Rattle.ndarray.specs.Products.{magnitude_sum, products_of}
 use Rattle.ndarray.specs.reduce.SignedSums.{NegativeFits}
-use Rattle.ndarray.specs.reduce.SmallProducts.{AreUpTo, ExtremesSoFar, HaveSmallProducts}
-use Rattle.ndarray.specs.Sums.{IsSummable}
+use Rattle.ndarray.specs.reduce.SmallProducts.{AreUpTo, ExtremesSoFar, HaveSmallProducts, IsSumInRange}
+use Rattle.ndarray.specs.Sums.{IsSummable, total}
 use Rattle.ndarray.proofs.cells.EntryTests.{EntriesFit}
 use Rattle.ndarray.proofs.lists.Elements.{mapped-all}
-use Rattle.ndarray.proofs.sums.MagnitudeSums.{magnitudes-summable, negative-of_fits}
+use Rattle.ndarray.proofs.sums.InnerSums.{products-ended, products-next}
+use Rattle.ndarray.proofs.sums.MagnitudeSums.{abs-sum, magnitudes-summable, negative-of_fits, negative-sum, own-negative}
+use Rattle.ndarray.proofs.sums.NonzeroProducts.{within}
 
 -- ---- the least and the greatest
 
@@ -96,8 +99,11 @@ module _ (fits : ℤ → Type 0) {A : Type 0} (v : A → ℤ) (m n : ℕ) where
   )
 
 module _ (fits : ℤ → Type 0) (between : (x y z : ℤ) → fits x → fits z → x ≤ℤ y → y ≤ℤ z → fits y) (zero_fits : fits (pos 0)) where
+  pub below-fits : (m : ℕ) (z : ℤ) → pos m ≤ℤ z → fits z → fits (pos m)
+  below-fits m z le h = between (pos 0) (pos m) z zero_fits h (omega (arith, ints)) le
+
   pub smaller-fits : (m n : ℕ) → m ≤ n → fits (pos n) → fits (pos m)
-  smaller-fits m n le h = between (pos 0) (pos m) (pos n) zero_fits h (omega (arith, ints)) (omega (arith, ints, le))
+  smaller-fits m n le h = below-fits m (pos n) (omega (arith, ints, le)) h
 
   -- two matrices whose numbers are small
   pub small-entries : ((m n : ℕ) → fits (negsuc m) → fits (pos n) → fits (neg_ℤ (pos n))) → (a b : Matrix ℤ) (m n : ℕ) → ((i k : ℕ) → fits (a.cell i k) × (unsigned_abs (a.cell i k) ≤ m)) → ((k j : ℕ) → fits (b.cell k j) × (unsigned_abs (b.cell k j) ≤ n)) → fits (pos (a.columns * (m * n))) → EntriesFit fits a b
@@ -126,3 +132,90 @@ module _ (fits : ℤ → Type 0) (between : (x y z : ℤ) → fits x → fits z 
         small-lists xs ys (length ys) small.left small.right
         (mapped-all (λ z. fits z × (unsigned_abs z ≤ small.left)) v xs small.left_up_to)
         (mapped-all (λ z. fits z × (unsigned_abs z ≤ small.right)) v ys small.right_up_to) (omega arith) small.in_range
+
+-- ---- the products of small numbers of two lists, added up one after another
+
+-- a number between one bound and a number that is at least its negative
+pub small-between : (fits : ℤ → Type 0) (z least most : ℤ) → pos 0 ≤ℤ most → (pos 0 ≤ℤ most → (pos 0 -ℤ most) ≤ℤ least) → fits z → (least ≤ℤ z) × (z ≤ℤ most) → fits z × (unsigned_abs z ≤ unsigned_abs most)
+small-between fits z least most from_zero down f h = let low = down from_zero in (f, omega (arith, ints, from_zero, low, h.0, h.1))
+
+-- sum is what the products before those of ps and qs add up to, and the numbers of these are small
+pub record SmallSum (fits : ℤ → Type 0) {A : Type 0} (v : A → ℤ) (xs ys : List A) (m : ℕ) (ps qs : List A) (sum : ℤ) : Type 0 where
+  pub same : length ps ≡ length qs
+  pub left : All (λ x. fits (v x) × (unsigned_abs (v x) ≤ m)) ps → All (λ x. fits (v x) × (unsigned_abs (v x) ≤ m)) xs
+  pub right : All (λ y. fits (v y) × (unsigned_abs (v y) ≤ m)) qs → All (λ y. fits (v y) × (unsigned_abs (v y) ≤ m)) ys
+  pub size : unsigned_abs sum + length qs * (m * m) ≤ length ys * (m * m)
+  pub sum_fits : fits sum
+  pub sums : sum +ℤ total int_sums (products_of int_products v ps qs) ≡ total int_sums (products_of int_products v xs ys)
+
+module _ (fits : ℤ → Type 0) (between : (x y z : ℤ) → fits x → fits z → x ≤ℤ y → y ≤ℤ z → fits y) (zero_fits : fits (pos 0)) (negated : (m n : ℕ) → fits (negsuc m) → fits (pos n) → fits (neg_ℤ (pos n)))
+    {A : Type 0} (v : A → ℤ) (xs ys : List A) (m : ℕ) where
+  abbrev IsSmall : A → Type 0
+  IsSmall x = fits (v x) × (unsigned_abs (v x) ≤ m)
+
+  pub small-start : (ps qs : List A) (sum : ℤ) → ps ≡ xs → qs ≡ ys → length xs ≡ length ys → sum ≡ pos 0 → SmallSum fits v xs ys m ps qs sum
+  small-start ps qs sum e f same none =
+      let products = ap (λ l. products_of int_products v l qs) e ∙ ap (products_of int_products v xs) f in
+      let many = ap length f in
+      record {
+        same = ap length e ∙ (same ∙ sym many);
+        left = subst (All IsSmall) e;
+        right = subst (All IsSmall) f;
+        size = subst (λ k. unsigned_abs sum + length qs * (m * m) ≤ k * (m * m)) many (let z = ap unsigned_abs none in omega (arith, z));
+        sum_fits = subst fits (sym none) zero_fits;
+        sums = ap (λ z. z +ℤ total int_sums (products_of int_products v ps qs)) none ∙ (int_sums.unit_op (total int_sums (products_of int_products v ps qs)) ∙ ap (total int_sums) products);
+      }
+
+  -- the next two are x and y
+  module _ (all : fits (pos (length ys * (m * m)))) (ps qs ps1 qs1 : List A) (x y : A) (sum : ℤ) (e : ps ≡ x ∷ ps1) (f : qs ≡ y ∷ qs1) (small_x : IsSmall x) (small_y : IsSmall y) (h : SmallSum fits v xs ys m ps qs sum) where
+    product-size : unsigned_abs (v x *ℤ v y) ≤ m * m
+    product-size = let size = unsigned_abs-mul (v x) (v y) in let le = mul-le (unsigned_abs (v x)) (unsigned_abs (v y)) m m small_x.1 small_y.1 in omega (arith, size, le)
+
+    size-left : unsigned_abs sum + length (y ∷ qs1) * (m * m) ≤ length ys * (m * m)
+    size-left = subst (λ l. unsigned_abs sum + length l * (m * m) ≤ length ys * (m * m)) f h.size
+
+    sign : NegativeFits fits (v x *ℤ v y)
+    sign = negative-of_fits fits (v x) (v y) small_x.0 small_y.0
+
+    size-added : unsigned_abs (sum +ℤ (v x *ℤ v y)) + length qs1 * (m * m) ≤ length ys * (m * m)
+    size-added = let a = abs-sum sum (v x *ℤ v y) in let p = product-size in let s = size-left in omega (arith, a, p, s)
+
+    pub small-product : fits (v x *ℤ v y)
+    small-product = within fits between negated zero_fits (v x *ℤ v y) (length ys * (m * m)) (let p = product-size in let s = size-left in omega (arith, p, s)) all sign
+
+    pub small-added : fits (sum +ℤ (v x *ℤ v y))
+    small-added =
+        within fits between negated zero_fits (sum +ℤ (v x *ℤ v y)) (length ys * (m * m)) (let s = size-added in omega (arith, s)) all
+        (negative-sum fits sum (v x *ℤ v y) (own-negative fits sum h.sum_fits) sign)
+
+    pub small-next : (more : ℤ) → more ≡ sum +ℤ (v x *ℤ v y) → SmallSum fits v xs ys m ps1 qs1 more
+    small-next more is =
+        let rest = total int_sums (products_of int_products v ps1 qs1) in
+        record {
+          same = (let s = h.same in let p = ap length e in let q = ap length f in omega (arith, s, p, q));
+          left = λ all_left. h.left (subst (All IsSmall) (sym e) (All-cons IsSmall x ps1 small_x all_left));
+          right = λ all_right. h.right (subst (All IsSmall) (sym f) (All-cons IsSmall y qs1 small_y all_right));
+          size = subst (λ z. unsigned_abs z + length qs1 * (m * m) ≤ length ys * (m * m)) (sym is) size-added;
+          sum_fits = subst fits (sym is) small-added;
+          sums = ap (λ z. z +ℤ rest) is
+              ∙ (int_sums.associates sum (v x *ℤ v y) rest
+              ∙ (ap (λ l. sum +ℤ total int_sums l) (sym (products-next int_products v ps qs ps1 qs1 x y e f)) ∙ h.sums));
+        }
+
+  pub small-end : fits (pos (length ys * (m * m))) → (ps qs : List A) (sum : ℤ) → ps ≡ [] → SmallSum fits v xs ys m ps qs sum → IsSumInRange fits (products_of int_products v xs ys) sum
+  small-end all ps qs sum none h =
+      let ended = products-ended int_products v ps qs (inl none) in
+      let many : length qs ≡ 0 = sym h.same ∙ ap length none in
+      let no_more : qs ≡ [] = nil_from_length qs many in
+      let fit = small-lists fits between zero_fits negated v xs ys (length ys) m m (h.left (subst (All IsSmall) (sym none) (All-nil IsSmall))) (h.right (subst (All IsSmall) (sym no_more) (All-nil IsSmall))) (omega arith) all in
+      record {
+        magnitudes = fit.0;
+        selections = fit.1;
+        sum = sym (int_sums.commutes sum (pos 0) ∙ int_sums.unit_op sum) ∙ (ap (λ l. sum +ℤ total int_sums l) (sym ended) ∙ h.sums);
+      }
+
+-- four times as many squares as of the half
+pub squares-doubled : (count f n : ℕ) (s : ℤ) → count * (f * f) ≤ n → pos (4 * n) ≤ℤ s → pos (count * ((f + f) * (f + f))) ≤ℤ s
+squares-doubled count f n s le more =
+    let four : count * ((f + f) * (f + f)) ≡ 4 * (count * (f * f)) = grind arith in
+    omega (arith, ints, le, more, four)

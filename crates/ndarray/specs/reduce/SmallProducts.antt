@@ -1,5 +1,8 @@
 -- Whole numbers so small that sums of their products fit.
-use Rattle.std.specs.Prelude.{ℕ, ℤ, ◌*◌, ◌≤◌, ◌≤ℤ◌, All, List, pos, unsigned_abs}
+use Rattle.std.specs.Prelude.{◌≡◌, ℕ, ℤ, ◌*◌, ◌≤◌, ◌≤ℤ◌, All, List, pos, unsigned_abs}
+use Rattle.ndarray.specs.Integers.{int_sums}
+use Rattle.ndarray.specs.Products.{magnitude_sum}
+use Rattle.ndarray.specs.Sums.{IsSummable, total}
 
 -- each number fits, and has an absolute value of at most m
 abbrev pub AreUpTo : (ℤ → Type 0) → ℕ → List ℤ → Type 0
@@ -22,3 +25,9 @@ pub record HaveSmallProducts (fits : ℤ → Type 0) (count : ℕ) (xs ys : List
   pub right : ℕ
   pub right_up_to : AreUpTo fits right ys
   pub in_range : fits (pos (count * (left * right)))
+
+-- s is the sum of numbers whose absolute values add up to one that fits, and so does every selection of them
+pub record IsSumInRange (fits : ℤ → Type 0) (zs : List ℤ) (s : ℤ) : Type 0 where
+  pub magnitudes : fits (pos (magnitude_sum zs))
+  pub selections : IsSummable int_sums fits zs
+  pub sum : s ≡ total int_sums zs

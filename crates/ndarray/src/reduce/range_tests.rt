@@ -14,10 +14,9 @@ use crate::base::storage::Data;
 use crate::base::strided::{Strided, cells_of};
 use crate::elements::{IntegerElem, IntegerScalar};
 use crate::iter::runs::CellRuns;
-use crate::linalg::inner::inner_of;
 use crate::order::Order;
 use crate::order::rows::BoxRows;
-use crate::reduce::small_products::lists_have_small_products;
+use crate::reduce::small_products::{lists_have_small_products, sum_of_small_products};
 use crate::zip::pair::PairRun;
 use num_traits::{CheckedAdd, Zero};
 
@@ -258,8 +257,8 @@ pub fn checked_dot<A: IntegerScalar, S: Data<Elem = A>, S2: Data<Elem = A>>(
     let Some((xs, ys)) = cells_in_pairs(x.view(), y.view()) else {
         return None;
     };
-    if lists_have_small_products(xs.again(), ys.again(), ys.len()) {
-        return Some(inner_of(xs, ys));
+    if let Some(sum) = sum_of_small_products(xs.again(), ys.again()) {
+        return Some(sum);
     }
     checked_inner(xs, ys)
 }

@@ -1,13 +1,16 @@
 //! Whether the cells of two arrays are so small that no sum of so many of their products leaves the integer type: one walk over each
 //! array, in place of one over each row and column of a product.
 
-ghost use Rattle.std.specs.Prelude.{◌≡◌, ◌++◌, ◌∷◌, ◌*◌, ◌≤ℤ◌, [], ℕ, ℤ, List, IfSome, IsTrue, length, map, pos};
-ghost use Rattle.ndarray.specs.reduce.SmallProducts.{AreUpTo, ExtremesSoFar, HaveSmallProducts};
+ghost use Rattle.std.specs.Prelude.{◌≡◌, ◌++◌, ◌∷◌, ◌*◌, ◌-ℤ◌, ◌≤ℤ◌, [], ℕ, ℤ, List, IfSome, IsTrue, length, map, pos, unsigned_abs};
+ghost use Rattle.ndarray.specs.Integers.{int_products};
+ghost use Rattle.ndarray.specs.Products.{products_of};
+ghost use Rattle.ndarray.specs.reduce.SmallProducts.{AreUpTo, ExtremesSoFar, HaveSmallProducts, IsSumInRange};
 
 use crate::base::array::ArrayView;
 use crate::base::dimension::Lengths;
 use crate::base::strided::Strided;
-use crate::elements::IntegerElem;
+use crate::elements::sums::add_product;
+use crate::elements::{IntegerElem, IntegerScalar};
 use crate::iter::runs::CellRuns;
 
 /// Whether a number of products, of the largest absolute value of a cell of one array and the largest of another, add up to at most
@@ -22,7 +25,7 @@ pub(crate) fn have_small_products<A: IntegerElem, D: Lengths, E: Lengths>(
     are_small(&extremes_of_array(a), &extremes_of_array(b), count)
 }
 
-/// The same of two lists of as many cells.
+/// The same of two lists of equal length.
 pub(crate) fn lists_have_small_products<A: IntegerElem>(
     left: Strided<'_, A>,
     right: Strided<'_, A>,
@@ -58,25 +61,28 @@ fn are_small<A: IntegerElem>(x: &Extremes<A>, y: &Extremes<A>, count: usize) -> 
     let Some(product) = left.checked_mul(&right) else {
         return false;
     };
-    fits_times(product, count)
+    let Some(_most) = times(product, count) else {
+        return false;
+    };
+    true
 }
 
-/// Whether a number that is not negative is known to fit so many times: where it does when it is doubled as often as the count is
-/// halved.
-fn fits_times<A: IntegerElem>(number: A, count: usize) -> bool
-    ensures { (n : ℕ) → A.value number ≡ pos n → IsTrue result → A.fits (pos (count * n)) }
+/// A number that is at least so many times one that is not negative: that one, doubled as often as the count is halved. `None` where the
+/// type does not have it.
+fn times<A: IntegerElem>(number: A, count: usize) -> Option<A>
+    ensures { (n : ℕ) → A.value number ≡ pos n → IfSome result (λ s. A.fits (A.value s) × (pos (count * n) ≤ℤ A.value s)) }
 {
     number.tell_fits();
     let mut sum = number;
     let mut left = count;
     'halves: while left > 1 {
         let Some(more) = sum.checked_add(&sum) else {
-            return false;
+            return None;
         };
         sum = more;
         left -= left / 2;
     }
-    true
+    Some(sum)
 }
 
 /// The largest absolute value of the numbers, where the type has it.
@@ -102,7 +108,7 @@ fn extremes_of_array<A: IntegerElem, D: Lengths>(array: &ArrayView<'_, A, D>) ->
     extremes
 }
 
-/// Those of two lists of as many cells.
+/// Those of two lists of equal length.
 fn extremes_of_lists<A: IntegerElem>(
     left: Strided<'_, A>,
     right: Strided<'_, A>,
@@ -122,7 +128,7 @@ fn extremes_of_lists<A: IntegerElem>(
     )
 }
 
-/// Those of two slices of one length, a block of each in turn: where both are the same memory, it is read once.
+/// Those of two slices of equal length, a block of each in turn: where both are the same memory, it is read once.
 fn extremes_of_slices<A: IntegerElem>(xs: &[A], ys: &[A]) -> (Extremes<A>, Extremes<A>)
     requires { length xs.now ≡ length ys.now }
     ensures left { ExtremesSoFar A.fits (map A.value xs.now) [] (A.value result.0.least) (A.value result.0.greatest) }
@@ -216,4 +222,73 @@ fn larger<A: IntegerElem>(x: A, y: A) -> A
     ensures { (A.value x ≤ℤ A.value result) × (A.value y ≤ℤ A.value result) }
 {
     if y < x { x } else { y }
+}
+
+/// The sum of the products of two lists of equal length, where each cell is so small that no sum of so many products can leave the type:
+/// the test of a cell goes with its product. `None` says nothing.
+pub(crate) fn sum_of_small_products<A: IntegerScalar>(
+    left: Strided<'_, A>,
+    right: Strided<'_, A>,
+) -> Option<A>
+    requires { length left ≡ length right }
+    ensures { IfSome result (λ s. IsSumInRange A.fits (products_of int_products A.value left.entry right.entry) (A.value s)) }
+{
+    // Of few products each is tested in less time than the bounds are found.
+    if right.len() < 32 {
+        return None;
+    }
+    let most = largest_factor(right.len())?;
+    let least = negative_or_zero(most);
+    let mut sum = A::zero();
+    let mut xs = left;
+    let mut ys = right;
+    while let Some(x) = xs.next() {
+        let Some(y) = ys.next() else { unreachable!() };
+        if !is_between(*x, least, most) || !is_between(*y, least, most) {
+            return None;
+        }
+        sum = add_product(sum, *x, *y);
+    }
+    Some(sum)
+}
+
+/// The largest power of two of which so many squares are known to add up to at most the type's greatest number.
+fn largest_factor<A: IntegerElem>(count: usize) -> Option<A>
+    ensures { IfSome result (λ m. (pos 0 ≤ℤ A.value m) × A.fits (pos (count * (unsigned_abs (A.value m) * unsigned_abs (A.value m))))) }
+{
+    let mut squares = times(A::one(), count)?;
+    let mut factor = A::one();
+    let mut turns = 0usize;
+    'doubles: while turns < 64 {
+        let Some(four_times) = times(squares, 4) else {
+            return Some(factor);
+        };
+        let Some(twice) = factor.checked_add(&factor) else {
+            return Some(factor);
+        };
+        squares = four_times;
+        factor = twice;
+        turns += 1;
+    }
+    Some(factor)
+}
+
+/// The negative of a number that is not negative, where the type has it, else zero.
+fn negative_or_zero<A: IntegerElem>(x: A) -> A
+    ensures { pos 0 ≤ℤ A.value x → (pos 0 -ℤ A.value x) ≤ℤ A.value result }
+{
+    match A::zero().checked_sub(&x) {
+        Some(negative) => negative,
+        None => A::zero(),
+    }
+}
+
+/// Whether a number lies between two others.
+#[inline(always)]
+fn is_between<A: IntegerElem>(x: A, least: A, most: A) -> bool
+    ensures between { IsTrue result → (A.value least ≤ℤ A.value x) × (A.value x ≤ℤ A.value most) }
+    ensures fits { A.fits (A.value x) }
+{
+    x.tell_fits();
+    !(x < least) && !(most < x)
 }

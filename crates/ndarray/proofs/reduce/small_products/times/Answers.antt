@@ -2,8 +2,8 @@ use Rattle.std.proofs.Common.{◌≡◌, ◌∙◌, ◌+◌, ◌*◌, ap, arith,
 use Rattle.std.specs.Prelude.{◌+ℤ◌}
 use Rattle.std.proofs.lemmas.Int.{ints}
 use Rattle.std.proofs.lemmas.Nat.{mul-le}
-use Rattle.ndarray.proofs.sums.SmallProducts.{doubled-more, smaller-fits}
-use Rattle.ndarray.proofs.reduce.small_products.fits_times.Goals as goal
+use Rattle.ndarray.proofs.sums.SmallProducts.{doubled-more}
+use Rattle.ndarray.proofs.reduce.small_products.times.Goals as goal
 
 pub halves-preserved : goal.halves-preserved
 halves-preserved g c =
@@ -20,10 +20,8 @@ halves-preserved g c =
 
 pub returns : goal.returns
 returns g c =
-    let fits = g.A.Number.fits in
-    let exact = g.met.A.Integral.exact_law in
-    λ n is _.
+    λ n is.
     let (s, sum, enough) = c.halves.invariant.enough n is in
     let last = c.halves-test.false in
     let once = mul-le s c.halves.left s 1 (omega arith) (omega (arith, last)) in
-    smaller-fits fits (λ x y z. g.A.Number.between_law x y z exact) (g.met.A.Zero.zero_fits_law exact) (c.args.count * n) s (omega (arith, once, enough)) (subst fits sum c.halves.invariant.sum_fits)
+    (c.halves.invariant.sum_fits, omega (arith, ints, once, enough, sum))

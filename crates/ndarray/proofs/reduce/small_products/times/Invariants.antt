@@ -1,6 +1,6 @@
 -- The sum fits, and it times what is left is as much as the number times the count.
 use Rattle.std.proofs.Common.{◌≡◌, ◌*◌, ◌≤◌, ℕ, pos}
-use Rattle.ndarray.proofs.reduce.small_products.fits_times.Given as goal
+use Rattle.ndarray.proofs.reduce.small_products.times.Given as goal
 
 abbrev pub invariant-halves : goal.invariant-halves
 invariant-halves g l = record {
