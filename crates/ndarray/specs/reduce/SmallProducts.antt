@@ -26,7 +26,7 @@ pub record HaveSmallProducts (fits : ℤ → Type 0) (count : ℕ) (xs ys : List
   pub right_up_to : AreUpTo fits right ys
   pub in_range : fits (pos (count * (left * right)))
 
--- s is the sum of numbers whose absolute values add up to one that fits, and so does every selection of them
+-- s is the sum of the numbers; their absolute values add up to one that fits, and so does every selection of them
 pub record IsSumInRange (fits : ℤ → Type 0) (zs : List ℤ) (s : ℤ) : Type 0 where
   pub magnitudes : fits (pos (magnitude_sum zs))
   pub selections : IsSummable int_sums fits zs

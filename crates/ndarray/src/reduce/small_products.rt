@@ -1,5 +1,5 @@
 //! Whether the cells of two arrays are so small that no sum of so many of their products leaves the integer type: one walk over each
-//! array, in place of one over each row and column of a product.
+//! array, in place of one over each row and column of a product. The sum of the products of two lists of such cells.
 
 ghost use Rattle.std.specs.Prelude.{◌≡◌, ◌++◌, ◌∷◌, ◌*◌, ◌-ℤ◌, ◌≤ℤ◌, [], ℕ, ℤ, List, IfSome, IsTrue, length, map, pos, unsigned_abs};
 ghost use Rattle.ndarray.specs.Integers.{int_products};
