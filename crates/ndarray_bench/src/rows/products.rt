@@ -1,112 +1,205 @@
-//! Products of a table with another, of residues modulo 2^32, so that no sum leaves the range.
+//! Products of a table with another: of residues modulo 2^32, so that no sum leaves the range, and of the numbers themselves,
+//! behind a range test.
 
 use crate::rows::answer::parse_table;
 use crate::rows::layouts::LAYOUTS;
 use crate::rows::operators::push_text;
 use crate::rows::reading::{Asked, kind};
-use crate::rows::text::push_lengths;
-use ndarray::linalg::{Dot, dot_ok, kron, kron_ok};
-use ndarray::{Array, ArrayView, Ix2, IxDyn, Lengths};
+use crate::rows::text::{as_text, push_lengths};
+use ndarray::linalg::{Dot, IntegerDot, dot_ok, entries_fit, kron, kron_ok};
+use ndarray::reduce::checked_dot;
+use ndarray::{Array, ArrayView, ArrayView1, Ix1, Ix2, IxDyn, Lengths};
 use residue::Residue;
 use std::alloc::{AllocError, Global};
 
-/// A view of residues.
-type View<'a> = ArrayView<'a, Residue<0>, IxDyn>;
+/// A view of cells to multiply.
+type View<'a, A> = ArrayView<'a, A, IxDyn>;
 
 /// What a product gives on a table, after calls that view it; `None` where the words spell none.
 ///
 /// It is carried out with each layout of the right table. Answers that differ are joined by `or`.
 pub fn answer(alloc: Global, asked: &Asked<'_>) -> Result<Option<String>, AllocError> {
     match asked.words {
-        ["dot", words @ ..] => compute(alloc, asked, Product::Dot, words).map(Some),
-        ["kron", words @ ..] => compute(alloc, asked, Product::Kron, words).map(Some),
+        ["dot", words @ ..] => compute::<DotOfResidues>(alloc, asked, words).map(Some),
+        ["integer_dot", words @ ..] => compute::<DotOfNumbers>(alloc, asked, words).map(Some),
+        ["kron", words @ ..] => compute::<Kron>(alloc, asked, words).map(Some),
         _ => Ok(None),
     }
 }
 
-/// A product.
-#[derive(Clone, Copy)]
-enum Product {
-    Dot,
-    Kron,
-}
+/// A product of two tables.
+trait Product {
+    /// What is multiplied.
+    type Cell: Drop;
 
-/// The residues of numbers. One that is no `u32` counts as 0.
-fn residues(alloc: Global, numbers: &[i64]) -> Result<Vec<Residue<0>>, AllocError> {
-    let mut residues = Vec::new(alloc);
-    for number in numbers {
-        residues.push(Residue::new(u32::try_from(*number).unwrap_or(0)))?;
-    }
-    Ok(residues)
+    /// A number of a table as a cell.
+    fn cell(number: i64) -> Self::Cell;
+
+    /// What it gives; `refused` where its test says no.
+    fn between(
+        alloc: Global,
+        left: &View<'_, Self::Cell>,
+        right: &View<'_, Self::Cell>,
+    ) -> Result<String, AllocError>;
 }
 
 /// What a product gives on a table, after calls that view it, and the words of its right side.
-fn compute(
+fn compute<P: Product>(
     alloc: Global,
     asked: &Asked<'_>,
-    product: Product,
     words: &[&str],
 ) -> Result<String, AllocError> {
-    let cells = residues(alloc, asked.table.cells.as_slice())?;
+    let cells = cells_of::<P>(alloc, asked.table.cells.as_slice())?;
     match asked.view_of(alloc, cells.as_slice())? {
-        Ok(view) => product.with(alloc, &view, words),
+        Ok(view) => with_tables::<P>(alloc, &view, words),
         Err(refusal) => Ok(refusal),
     }
 }
 
-impl Product {
-    /// What it gives with a table, which these words spell, in each layout of it.
-    fn with(self, alloc: Global, left: &View<'_>, words: &[&str]) -> Result<String, AllocError> {
-        let mut text = String::new(alloc);
-        for layout in LAYOUTS {
-            let Some(table) = parse_table(alloc, words, *layout)? else {
-                return "not understood".to_string(alloc);
-            };
-            let cells = residues(alloc, table.cells.as_slice())?;
-            let answer = match table.view_of(cells.as_slice()) {
-                Ok(right) => self.between(alloc, left, &right)?,
-                Err(error) => kind(alloc, &error)?,
-            };
-            push_text(&mut text, answer.as_str())?;
-        }
-        Ok(text)
+/// Numbers of a table as cells.
+fn cells_of<P: Product>(alloc: Global, numbers: &[i64]) -> Result<Vec<P::Cell>, AllocError> {
+    let mut cells = Vec::new(alloc);
+    for number in numbers {
+        cells.push(P::cell(*number))?;
+    }
+    Ok(cells)
+}
+
+/// What a product gives with a table, which these words spell, in each layout of it.
+fn with_tables<P: Product>(
+    alloc: Global,
+    left: &View<'_, P::Cell>,
+    words: &[&str],
+) -> Result<String, AllocError> {
+    let mut text = String::new(alloc);
+    for layout in LAYOUTS {
+        let Some(table) = parse_table(alloc, words, *layout)? else {
+            return "not understood".to_string(alloc);
+        };
+        let cells = cells_of::<P>(alloc, table.cells.as_slice())?;
+        let answer = match table.view_of(cells.as_slice()) {
+            Ok(right) => P::between(alloc, left, &right)?,
+            Err(error) => kind(alloc, &error)?,
+        };
+        push_text(&mut text, answer.as_str())?;
+    }
+    Ok(text)
+}
+
+/// The residue of a number. One that is no `u32` counts as 0.
+fn residue(number: i64) -> Residue<0> {
+    Residue::new(u32::try_from(number).unwrap_or(0))
+}
+
+/// `dot` of residues.
+struct DotOfResidues;
+
+impl Product for DotOfResidues {
+    type Cell = Residue<0>;
+
+    fn cell(number: i64) -> Residue<0> {
+        residue(number)
     }
 
-    /// What it gives between two tables; `refused` where its test says no.
     fn between(
-        self,
         alloc: Global,
-        left: &View<'_>,
-        right: &View<'_>,
+        left: &View<'_, Residue<0>>,
+        right: &View<'_, Residue<0>>,
     ) -> Result<String, AllocError> {
-        match self {
-            Product::Dot => dot(alloc, left, right),
-            Product::Kron => kronecker(alloc, left, right),
+        if dot_ok(left, right) {
+            text_of(alloc, &Dot::dot(left, alloc, right)?)
+        } else {
+            "refused".to_string(alloc)
         }
     }
 }
 
-/// What `dot` gives.
-fn dot(alloc: Global, left: &View<'_>, right: &View<'_>) -> Result<String, AllocError> {
-    if dot_ok(left, right) {
-        text_of(alloc, &Dot::dot(left, alloc, right)?)
+/// `dot` of the numbers themselves: of two vectors `checked_dot`. A vector and a matrix are `Ix1` and `Ix2`: of `IxDyn` their product goes
+/// another way.
+struct DotOfNumbers;
+
+impl Product for DotOfNumbers {
+    type Cell = i64;
+
+    fn cell(number: i64) -> i64 {
+        number
+    }
+
+    fn between(
+        alloc: Global,
+        left: &View<'_, i64>,
+        right: &View<'_, i64>,
+    ) -> Result<String, AllocError> {
+        if let Ok(x) = left.view().into_dimensionality::<Ix1>() {
+            if let Ok(y) = right.view().into_dimensionality::<Ix1>() {
+                return inner(alloc, &x, &y);
+            }
+            if let Ok(b) = right.view().into_dimensionality::<Ix2>() {
+                return dot(alloc, &x, &b);
+            }
+        }
+        if let Ok(a) = left.view().into_dimensionality::<Ix2>() {
+            if let Ok(x) = right.view().into_dimensionality::<Ix1>() {
+                return dot(alloc, &a, &x);
+            }
+        }
+        dot(alloc, left, right)
+    }
+}
+
+/// What `checked_dot` gives; `refused` for its `None`.
+fn inner(
+    alloc: Global,
+    x: &ArrayView1<'_, i64>,
+    y: &ArrayView1<'_, i64>,
+) -> Result<String, AllocError> {
+    let Some(sum) = checked_dot(x, y) else {
+        return "refused".to_string(alloc);
+    };
+    let mut text = String::new(alloc);
+    write!(&mut text, ". {sum}")?;
+    Ok(text)
+}
+
+/// What `dot` gives; `refused` where `entries_fit` says no.
+fn dot<L: IntegerDot<R, Output = Result<Array<i64, D>, AllocError>>, R, D: Lengths>(
+    alloc: Global,
+    left: &L,
+    right: &R,
+) -> Result<String, AllocError> {
+    if entries_fit(left, right) {
+        as_text(alloc, &left.dot(alloc, right)?.view())
     } else {
         "refused".to_string(alloc)
     }
 }
 
-/// What `kron` gives on tables of two axes.
-fn kronecker(alloc: Global, left: &View<'_>, right: &View<'_>) -> Result<String, AllocError> {
-    let Ok(a) = left.view().into_dimensionality::<Ix2>() else {
-        return "refused".to_string(alloc);
-    };
-    let Ok(b) = right.view().into_dimensionality::<Ix2>() else {
-        return "refused".to_string(alloc);
-    };
-    if kron_ok(&a, &b) {
-        text_of(alloc, &kron(alloc, &a, &b)?)
-    } else {
-        "refused".to_string(alloc)
+/// `kron` of residues.
+struct Kron;
+
+impl Product for Kron {
+    type Cell = Residue<0>;
+
+    fn cell(number: i64) -> Residue<0> {
+        residue(number)
+    }
+
+    fn between(
+        alloc: Global,
+        left: &View<'_, Residue<0>>,
+        right: &View<'_, Residue<0>>,
+    ) -> Result<String, AllocError> {
+        let Ok(a) = left.view().into_dimensionality::<Ix2>() else {
+            return "refused".to_string(alloc);
+        };
+        let Ok(b) = right.view().into_dimensionality::<Ix2>() else {
+            return "refused".to_string(alloc);
+        };
+        if kron_ok(&a, &b) {
+            text_of(alloc, &kron(alloc, &a, &b)?)
+        } else {
+            "refused".to_string(alloc)
+        }
     }
 }
 

@@ -1,6 +1,6 @@
 //! Answers as text.
 
-use ndarray::{ArrayView, IxDyn, Lengths};
+use ndarray::{ArrayView, Lengths};
 use std::alloc::{AllocError, Global};
 
 /// Appends a view, as `2x3 1 2 3 4 5 6`: its lengths, and its cells in row order.
@@ -16,7 +16,10 @@ pub fn push_view<D: Lengths>(
 }
 
 /// A view as text.
-pub fn as_text(alloc: Global, view: &ArrayView<'_, i64, IxDyn>) -> Result<String, AllocError> {
+pub fn as_text<D: Lengths>(
+    alloc: Global,
+    view: &ArrayView<'_, i64, D>,
+) -> Result<String, AllocError> {
     let mut text = String::new(alloc);
     push_view(&mut text, view)?;
     Ok(text)
