@@ -2,7 +2,7 @@
 //! behind a range test.
 
 use crate::rows::answer::parse_table;
-use crate::rows::layouts::LAYOUTS;
+use crate::rows::layouts::{LAYOUTS, Table};
 use crate::rows::operators::push_text;
 use crate::rows::reading::{Asked, kind};
 use crate::rows::text::{as_text, push_lengths};
@@ -20,15 +20,15 @@ type View<'a, A> = ArrayView<'a, A, IxDyn>;
 /// It is carried out with each layout of the right table. Answers that differ are joined by `or`.
 pub fn answer(alloc: Global, asked: &Asked<'_>) -> Result<Option<String>, AllocError> {
     match asked.words {
-        ["dot", words @ ..] => compute::<DotOfResidues>(alloc, asked, words).map(Some),
-        ["integer_dot", words @ ..] => compute::<DotOfNumbers>(alloc, asked, words).map(Some),
-        ["kron", words @ ..] => compute::<Kron>(alloc, asked, words).map(Some),
+        ["dot", words @ ..] => compute(alloc, asked, OfResidues::Dot, words).map(Some),
+        ["kron", words @ ..] => compute(alloc, asked, OfResidues::Kron, words).map(Some),
+        ["integer_dot", words @ ..] => compute(alloc, asked, DotOfNumbers, words).map(Some),
         _ => Ok(None),
     }
 }
 
 /// A product of two tables.
-trait Product {
+trait Product: Copy {
     /// What is multiplied.
     type Cell: Drop;
 
@@ -37,6 +37,7 @@ trait Product {
 
     /// What it gives; `refused` where its test says no.
     fn between(
+        self,
         alloc: Global,
         left: &View<'_, Self::Cell>,
         right: &View<'_, Self::Cell>,
@@ -47,11 +48,12 @@ trait Product {
 fn compute<P: Product>(
     alloc: Global,
     asked: &Asked<'_>,
+    product: P,
     words: &[&str],
 ) -> Result<String, AllocError> {
     let cells = cells_of::<P>(alloc, asked.table.cells.as_slice())?;
     match asked.view_of(alloc, cells.as_slice())? {
-        Ok(view) => with_tables::<P>(alloc, &view, words),
+        Ok(view) => with_tables(alloc, product, &view, words),
         Err(refusal) => Ok(refusal),
     }
 }
@@ -68,54 +70,100 @@ fn cells_of<P: Product>(alloc: Global, numbers: &[i64]) -> Result<Vec<P::Cell>, 
 /// What a product gives with a table, which these words spell, in each layout of it.
 fn with_tables<P: Product>(
     alloc: Global,
+    product: P,
     left: &View<'_, P::Cell>,
     words: &[&str],
 ) -> Result<String, AllocError> {
     let mut text = String::new(alloc);
     for layout in LAYOUTS {
-        let Some(table) = parse_table(alloc, words, *layout)? else {
-            return "not understood".to_string(alloc);
-        };
-        let cells = cells_of::<P>(alloc, table.cells.as_slice())?;
-        let answer = match table.view_of(cells.as_slice()) {
-            Ok(right) => P::between(alloc, left, &right)?,
-            Err(error) => kind(alloc, &error)?,
-        };
-        push_text(&mut text, answer.as_str())?;
+        match parse_table(alloc, words, *layout)? {
+            Some(table) => {
+                let answer = with_table(alloc, product, left, &table)?;
+                push_text(&mut text, answer.as_str())?;
+            }
+            None => return "not understood".to_string(alloc),
+        }
     }
     Ok(text)
 }
 
-/// The residue of a number. One that is no `u32` counts as 0.
-fn residue(number: i64) -> Residue<0> {
-    Residue::new(u32::try_from(number).unwrap_or(0))
+/// What a product gives with a table.
+fn with_table<P: Product>(
+    alloc: Global,
+    product: P,
+    left: &View<'_, P::Cell>,
+    table: &Table,
+) -> Result<String, AllocError> {
+    let cells = cells_of::<P>(alloc, table.cells.as_slice())?;
+    match table.view_of(cells.as_slice()) {
+        Ok(right) => product.between(alloc, left, &right),
+        Err(error) => kind(alloc, &error),
+    }
 }
 
-/// `dot` of residues.
-struct DotOfResidues;
+/// A product of residues.
+#[derive(Clone, Copy)]
+enum OfResidues {
+    Dot,
+    Kron,
+}
 
-impl Product for DotOfResidues {
+impl Product for OfResidues {
     type Cell = Residue<0>;
 
+    /// The residue of a number. One that is no `u32` counts as 0.
     fn cell(number: i64) -> Residue<0> {
-        residue(number)
+        Residue::new(u32::try_from(number).unwrap_or(0))
     }
 
     fn between(
+        self,
         alloc: Global,
         left: &View<'_, Residue<0>>,
         right: &View<'_, Residue<0>>,
     ) -> Result<String, AllocError> {
-        if dot_ok(left, right) {
-            text_of(alloc, &Dot::dot(left, alloc, right)?)
-        } else {
-            "refused".to_string(alloc)
+        match self {
+            OfResidues::Dot => dot_of_residues(alloc, left, right),
+            OfResidues::Kron => kronecker(alloc, left, right),
         }
+    }
+}
+
+/// What `dot` of residues gives.
+fn dot_of_residues(
+    alloc: Global,
+    left: &View<'_, Residue<0>>,
+    right: &View<'_, Residue<0>>,
+) -> Result<String, AllocError> {
+    if dot_ok(left, right) {
+        text_of(alloc, &Dot::dot(left, alloc, right)?)
+    } else {
+        "refused".to_string(alloc)
+    }
+}
+
+/// What `kron` gives on tables of two axes.
+fn kronecker(
+    alloc: Global,
+    left: &View<'_, Residue<0>>,
+    right: &View<'_, Residue<0>>,
+) -> Result<String, AllocError> {
+    let Ok(a) = left.view().into_dimensionality::<Ix2>() else {
+        return "refused".to_string(alloc);
+    };
+    let Ok(b) = right.view().into_dimensionality::<Ix2>() else {
+        return "refused".to_string(alloc);
+    };
+    if kron_ok(&a, &b) {
+        text_of(alloc, &kron(alloc, &a, &b)?)
+    } else {
+        "refused".to_string(alloc)
     }
 }
 
 /// `dot` of the numbers themselves: of two vectors `checked_dot`. A vector and a matrix are `Ix1` and `Ix2`: of `IxDyn` their product goes
 /// another way.
+#[derive(Clone, Copy)]
 struct DotOfNumbers;
 
 impl Product for DotOfNumbers {
@@ -126,6 +174,7 @@ impl Product for DotOfNumbers {
     }
 
     fn between(
+        self,
         alloc: Global,
         left: &View<'_, i64>,
         right: &View<'_, i64>,
@@ -171,35 +220,6 @@ fn dot<L: IntegerDot<R, Output = Result<Array<i64, D>, AllocError>>, R, D: Lengt
         as_text(alloc, &left.dot(alloc, right)?.view())
     } else {
         "refused".to_string(alloc)
-    }
-}
-
-/// `kron` of residues.
-struct Kron;
-
-impl Product for Kron {
-    type Cell = Residue<0>;
-
-    fn cell(number: i64) -> Residue<0> {
-        residue(number)
-    }
-
-    fn between(
-        alloc: Global,
-        left: &View<'_, Residue<0>>,
-        right: &View<'_, Residue<0>>,
-    ) -> Result<String, AllocError> {
-        let Ok(a) = left.view().into_dimensionality::<Ix2>() else {
-            return "refused".to_string(alloc);
-        };
-        let Ok(b) = right.view().into_dimensionality::<Ix2>() else {
-            return "refused".to_string(alloc);
-        };
-        if kron_ok(&a, &b) {
-            text_of(alloc, &kron(alloc, &a, &b)?)
-        } else {
-            "refused".to_string(alloc)
-        }
     }
 }
 
