@@ -1,6 +1,6 @@
 -- Positive and negative whole numbers that are added apart, one after the other.
 use Rattle.std.proofs.Common.{◌≡◌, ◌↔◌, List, [], ◌∷◌, Option, None, Some, map, refl, sym, ap, ◌∙◌, ◌⊎◌, inl, inr, subst, arith}
-use Rattle.std.specs.Prelude.{ℤ, pos, negsuc, ◌+ℤ◌, ◌≤ℤ◌, ◌<ℤ◌, IfSome, IsPermutation, IsTrue}
+use Rattle.std.specs.Prelude.{ℤ, pos, negsuc, ◌+ℤ◌, ◌≤ℤ◌, ◌<ℤ◌, IfSome, IsPermutation, IsTrue, MatchOption}
 use Rattle.std.specs.Option.{is_some}
 use Rattle.num_traits.specs.Laws.{Checks}
 use Rattle.std.proofs.lemmas.Int.{ints}
@@ -109,6 +109,19 @@ module _ (fits : ℤ → Type 0) (whole now rest : List ℤ) (z up down : ℤ) (
     pub AddedApart-excess : (pos 0 ≤ℤ z → fits (up +ℤ z) → ⊥) → (z <ℤ pos 0 → fits (down +ℤ z) → ⊥) → fits (positive_sum whole) × fits (negative_sum whole) → ⊥
     AddedApart-excess positive negative both =
         elim (either-sign z) [ inl p ↦ AddedApart-up_excess p (positive p) both.0 | inr n ↦ AddedApart-down_excess n (negative n) both.1 ]
+
+-- what adding the next number to the sum of its sign gives, where each number between two that fit does fit
+pub AddedApart-added : {S T : Type 0} (fits : ℤ → Type 0) (whole now rest : List ℤ) (z : ℤ) (v : T → ℤ) (up down : T) → now ≡ z ∷ rest → AddedApart fits whole now (v up) (v down)
+    → fits (pos 0) → ((x y z : ℤ) → fits x → fits z → x ≤ℤ y → y ≤ℤ z → fits y)
+    → (up_of down_of : S → T) (r : Option S) → (pos 0 ≤ℤ z → Checks (λ s. v (up_of s)) fits (v up +ℤ z) r × IfSome r (λ s. down_of s ≡ down))
+    → (z <ℤ pos 0 → Checks (λ s. v (down_of s)) fits (v down +ℤ z) r × IfSome r (λ s. up_of s ≡ up))
+    → MatchOption r (fits (positive_sum whole) × fits (negative_sum whole) → ⊥) (λ s. AddedApart fits whole rest (v (up_of s)) (v (down_of s)))
+AddedApart-added fits whole now rest z v up down next h zero_fits between up_of down_of None positive negative =
+    AddedApart-excess fits whole now rest z (v up) (v down) next h zero_fits between (λ p. (positive p).0) (λ n. (negative n).0)
+AddedApart-added fits whole now rest z v up down next h zero_fits between up_of down_of (Some s) positive negative =
+    AddedApart-next fits whole now rest z (v up) (v down) next h (v (up_of s)) (v (down_of s))
+    (λ p. let t = positive p in (t.0, ap v t.1))
+    (λ n. let t = negative n in (t.0, ap v t.1))
 
 -- ---- in another order
 

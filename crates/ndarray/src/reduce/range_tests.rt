@@ -1,6 +1,6 @@
 //! Whether the sums and the products of an array's cells stay in their integer type.
 
-ghost use Rattle.std.specs.Prelude.{◌≡◌, ◌↔◌, ◌+ℤ◌, ◌*ℤ◌, ◌<ℤ◌, ◌≤ℤ◌, ◌++◌, ◌∷◌, [], ℤ, List, IfSome, IsSome, IsTrue, MatchOption, length, map, pos, unsigned_abs};
+ghost use Rattle.std.specs.Prelude.{◌≡◌, ◌↔◌, ◌+ℤ◌, ◌*ℤ◌, ◌<ℤ◌, ◌≤ℤ◌, ◌+◌, ◌<◌, ◌++◌, ◌∷◌, [], ℤ, List, IfSome, IsSome, IsTrue, MatchOption, drop, length, map, pos, unsigned_abs};
 ghost use Rattle.num_traits.specs.Laws.{Checks};
 ghost use Rattle.ndarray.specs.Products.{magnitude_sum, products_of};
 ghost use Rattle.ndarray.specs.reduce.NonzeroProducts.{MultipliedSoFar};
@@ -115,21 +115,39 @@ fn add_run<A: Zero + CheckedAdd>(sums: SignedSums<A>, run: Strided<'_, A>) -> Op
     Some(sums)
 }
 
-/// The same of the cells of a slice.
+/// The same of the cells of a slice, four a turn.
 fn add_cells<A: Zero + CheckedAdd>(sums: SignedSums<A>, cells: &[A]) -> Option<SignedSums<A>>
     ensures { (whole rest : List ℤ) → AddedApart A.fits whole (map A.value cells.now ++ rest) (A.value sums.up) (A.value sums.down)
         → MatchOption result (A.fits (positive_sum whole) × A.fits (negative_sum whole) → ⊥) (λ more. AddedApart A.fits whole rest (A.value more.up) (A.value more.down)) }
 {
     let mut sums = sums;
     let mut i = 0;
-    'cells: while i < cells.len() {
-        let Some(more) = add_by_sign(sums, &cells[i]) else {
-            return None;
-        };
-        sums = more;
+    'fours: while cells.len() - i >= 4 {
+        sums = add_cell(sums, cells, i)?;
+        sums = add_cell(sums, cells, i + 1)?;
+        sums = add_cell(sums, cells, i + 2)?;
+        sums = add_cell(sums, cells, i + 3)?;
+        i += 4;
+    }
+    'others: while i < cells.len() {
+        sums = add_cell(sums, cells, i)?;
         i += 1;
     }
     Some(sums)
+}
+
+/// The same of the cell at a place.
+#[inline(always)]
+fn add_cell<A: Zero + CheckedAdd>(
+    sums: SignedSums<A>,
+    cells: &[A],
+    i: usize,
+) -> Option<SignedSums<A>>
+    requires { i < length cells.now }
+    ensures { (whole rest : List ℤ) → AddedApart A.fits whole (map A.value (drop i cells.now) ++ rest) (A.value sums.up) (A.value sums.down)
+        → MatchOption result (A.fits (positive_sum whole) × A.fits (negative_sum whole) → ⊥) (λ more. AddedApart A.fits whole (map A.value (drop (i + 1) cells.now) ++ rest) (A.value more.up) (A.value more.down)) }
+{
+    add_by_sign(sums, &cells[i])
 }
 
 /// The sum of positive numbers, and that of negative ones.

@@ -161,8 +161,8 @@ fn kronecker(
     }
 }
 
-/// `dot` of the numbers themselves: of two vectors `checked_dot`. A vector and a matrix are `Ix1` and `Ix2`: of `IxDyn` their product goes
-/// another way.
+/// `dot` of the numbers themselves: of two vectors `checked_dot`. Tables of one or two axes are `Ix1` and `Ix2`, whose products and tests go
+/// other ways than those of `IxDyn`.
 #[derive(Clone, Copy)]
 struct DotOfNumbers;
 
@@ -190,6 +190,9 @@ impl Product for DotOfNumbers {
         if let Ok(a) = left.view().into_dimensionality::<Ix2>() {
             if let Ok(x) = right.view().into_dimensionality::<Ix1>() {
                 return dot(alloc, &a, &x);
+            }
+            if let Ok(b) = right.view().into_dimensionality::<Ix2>() {
+                return dot(alloc, &a, &b);
             }
         }
         dot(alloc, left, right)
