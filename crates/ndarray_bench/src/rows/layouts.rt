@@ -112,6 +112,13 @@ impl Table {
         Ok(view)
     }
 
+    /// The table as an array, where these cells lie in memory in place of its own.
+    pub fn array_of<A: Drop>(&self, cells: Vec<A>) -> Result<Array<A, IxDyn>, ShapeError> {
+        let mut array = lay_out(self.layout, self.lengths.copied(), cells)?;
+        cut(&mut array, self.layout);
+        Ok(array)
+    }
+
     /// An array of what lies in memory.
     pub fn into_array(self) -> Result<Array<i64, IxDyn>, ShapeError> {
         let Table {
@@ -119,11 +126,20 @@ impl Table {
             lengths,
             cells,
         } = self;
-        if layout == Layout::ColumnMajor {
-            Array::from_shape_vec(lengths.f(), cells)
-        } else {
-            Array::from_shape_vec(lengths, cells)
-        }
+        lay_out(layout, lengths, cells)
+    }
+}
+
+/// An array of cells as they lie in memory.
+fn lay_out<A: Drop>(
+    layout: Layout,
+    lengths: IxDyn,
+    cells: Vec<A>,
+) -> Result<Array<A, IxDyn>, ShapeError> {
+    if layout == Layout::ColumnMajor {
+        Array::from_shape_vec(lengths.f(), cells)
+    } else {
+        Array::from_shape_vec(lengths, cells)
     }
 }
 

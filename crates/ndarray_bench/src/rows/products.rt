@@ -2,13 +2,16 @@
 //! behind a range test.
 
 use crate::rows::answer::parse_table;
-use crate::rows::layouts::{LAYOUTS, Table};
+use crate::rows::layouts::{LAYOUTS, Layout, Table};
 use crate::rows::operators::push_text;
 use crate::rows::reading::{Asked, kind};
 use crate::rows::text::{as_text, push_lengths};
-use ndarray::linalg::{Dot, IntegerDot, dot_ok, entries_fit, kron, kron_ok};
+use ndarray::linalg::{
+    Dot, IntegerDot, dot_ok, entries_fit, general_mat_mul, general_mat_vec_mul, kron, kron_ok,
+    mat_mul_ok, mat_vec_ok,
+};
 use ndarray::reduce::checked_dot;
-use ndarray::{Array, ArrayView, ArrayView1, Ix1, Ix2, IxDyn, Lengths};
+use ndarray::{Array, ArrayView, ArrayView1, Ix1, Ix2, IxDyn, Lengths, ShapeError};
 use residue::Residue;
 use std::alloc::{AllocError, Global};
 
@@ -22,6 +25,9 @@ pub fn answer(alloc: Global, asked: &Asked<'_>) -> Result<Option<String>, AllocE
     match asked.words {
         ["dot", words @ ..] => compute(alloc, asked, OfResidues::Dot, words).map(Some),
         ["kron", words @ ..] => compute(alloc, asked, OfResidues::Kron, words).map(Some),
+        ["general_product", words @ ..] => {
+            compute(alloc, asked, OfResidues::General, words).map(Some)
+        }
         ["integer_dot", words @ ..] => compute(alloc, asked, DotOfNumbers, words).map(Some),
         _ => Ok(None),
     }
@@ -106,6 +112,7 @@ fn with_table<P: Product>(
 enum OfResidues {
     Dot,
     Kron,
+    General,
 }
 
 impl Product for OfResidues {
@@ -125,6 +132,7 @@ impl Product for OfResidues {
         match self {
             OfResidues::Dot => dot_of_residues(alloc, left, right),
             OfResidues::Kron => kronecker(alloc, left, right),
+            OfResidues::General => general_product(alloc, left, right),
         }
     }
 }
@@ -159,6 +167,80 @@ fn kronecker(
     } else {
         "refused".to_string(alloc)
     }
+}
+
+/// Twice the product of a matrix and a matrix or a vector, and three times a table of ones, added up in that table in each layout of it.
+fn general_product(
+    alloc: Global,
+    left: &View<'_, Residue<0>>,
+    right: &View<'_, Residue<0>>,
+) -> Result<String, AllocError> {
+    let Ok(a) = left.view().into_dimensionality::<Ix2>() else {
+        return "refused".to_string(alloc);
+    };
+    if !dot_ok(left, right) {
+        return "refused".to_string(alloc);
+    }
+    let product = Dot::dot(left, alloc, right)?;
+    let mut text = String::new(alloc);
+    for layout in LAYOUTS {
+        match table_of_ones(alloc, &product, *layout)? {
+            Ok(sums) => {
+                let answer = add_product_to(alloc, &a, right, sums)?;
+                push_text(&mut text, answer.as_str())?;
+            }
+            Err(error) => return kind(alloc, &error),
+        }
+    }
+    Ok(text)
+}
+
+/// A table of ones in a layout, with the lengths of another.
+fn table_of_ones(
+    alloc: Global,
+    other: &Array<Residue<0>, IxDyn>,
+    layout: Layout,
+) -> Result<Result<Array<Residue<0>, IxDyn>, ShapeError>, AllocError> {
+    let mut ones = Vec::new(alloc);
+    for _ in 0..other.len() {
+        ones.push(1)?;
+    }
+    let table = Table::new(alloc, other.raw_dim(), ones, layout)?;
+    let mut cells = Vec::new(alloc);
+    for _ in table.cells.as_slice() {
+        cells.push(Residue::new(1))?;
+    }
+    Ok(table.array_of(cells))
+}
+
+/// Three times the sums and twice the product.
+fn add_product_to(
+    alloc: Global,
+    a: &ArrayView<'_, Residue<0>, Ix2>,
+    right: &View<'_, Residue<0>>,
+    sums: Array<Residue<0>, IxDyn>,
+) -> Result<String, AllocError> {
+    if let Ok(x) = right.view().into_dimensionality::<Ix1>() {
+        let Ok(mut y) = sums.into_dimensionality::<Ix1>() else {
+            return "refused".to_string(alloc);
+        };
+        if !mat_vec_ok(a, &x, &y) {
+            return "refused".to_string(alloc);
+        }
+        general_mat_vec_mul(Residue::new(2), a, &x, Residue::new(3), &mut y);
+        return text_of(alloc, &y);
+    }
+    let Ok(b) = right.view().into_dimensionality::<Ix2>() else {
+        return "refused".to_string(alloc);
+    };
+    let Ok(mut c) = sums.into_dimensionality::<Ix2>() else {
+        return "refused".to_string(alloc);
+    };
+    if !mat_mul_ok(a, &b, &c) {
+        return "refused".to_string(alloc);
+    }
+    general_mat_mul(Residue::new(2), a, &b, Residue::new(3), &mut c);
+    text_of(alloc, &c)
 }
 
 /// `dot` of the numbers themselves: of two vectors `checked_dot`. Tables of one or two axes are `Ix1` and `Ix2`, whose products and tests go
