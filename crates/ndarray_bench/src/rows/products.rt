@@ -175,12 +175,10 @@ fn general_product(
     left: &View<'_, Residue<0>>,
     right: &View<'_, Residue<0>>,
 ) -> Result<String, AllocError> {
-    let Ok(a) = left.view().into_dimensionality::<Ix2>() else {
-        return "refused".to_string(alloc);
+    let a = match left.view().into_dimensionality::<Ix2>() {
+        Ok(a) if dot_ok(left, right) => a,
+        _ => return "refused".to_string(alloc),
     };
-    if !dot_ok(left, right) {
-        return "refused".to_string(alloc);
-    }
     let product = Dot::dot(left, alloc, right)?;
     let mut text = String::new(alloc);
     for layout in LAYOUTS {

@@ -1,28 +1,27 @@
--- The cells so far were added.
-use Rattle.std.proofs.Common.{◌++◌, ◌-◌, ◌≤◌, drop, length, map}
+use Rattle.std.proofs.Common.{ℕ, List, ◌++◌, ◌-◌, ◌≤◌, drop, length, map}
+use Rattle.std.specs.Prelude.{ℤ}
 use Rattle.ndarray.specs.reduce.SignedSums.{AddedApart}
 use Rattle.ndarray.proofs.reduce.range_tests.add_cells.Given as goal
 
+-- from one pair of sums to another the cells before i were added
+abbrev AddedBefore : {T : Type 0} (fits : ℤ → Type 0) (v : T → ℤ) (cells : List T) (i : ℕ) (up down higher lower : T) → Type 0
+AddedBefore fits v cells i up down higher lower =
+    (whole rest : List ℤ) → AddedApart fits whole (map v cells ++ rest) (v up) (v down) → AddedApart fits whole (map v (drop i cells) ++ rest) (v higher) (v lower)
+
 abbrev pub invariant-fours : goal.invariant-fours
-invariant-fours g l =
-    let v = g.A.Number.value in
-    let fits = g.A.Number.fits in
-    record {
-      in_range : l.i ≤ length l.cells;
-      added : (whole rest : _) → AddedApart fits whole (map v l.cells ++ rest) (v l.fn.sums.up) (v l.fn.sums.down) → AddedApart fits whole (map v (drop l.i l.cells) ++ rest) (v l.sums.up) (v l.sums.down);
-    }
+invariant-fours g l = record {
+  in_range : l.i ≤ length l.cells;
+  added : AddedBefore g.A.Number.fits g.A.Number.value l.cells l.i l.fn.sums.up l.fn.sums.down l.sums.up l.sums.down;
+}
 
 abbrev pub decreases-fours : goal.decreases-fours
 decreases-fours g l = length l.cells - l.i
 
 abbrev pub invariant-others : goal.invariant-others
-invariant-others g l =
-    let v = g.A.Number.value in
-    let fits = g.A.Number.fits in
-    record {
-      in_range : l.i ≤ length l.cells;
-      added : (whole rest : _) → AddedApart fits whole (map v l.cells ++ rest) (v l.fn.sums.up) (v l.fn.sums.down) → AddedApart fits whole (map v (drop l.i l.cells) ++ rest) (v l.sums.up) (v l.sums.down);
-    }
+invariant-others g l = record {
+  in_range : l.i ≤ length l.cells;
+  added : AddedBefore g.A.Number.fits g.A.Number.value l.cells l.i l.fn.sums.up l.fn.sums.down l.sums.up l.sums.down;
+}
 
 abbrev pub decreases-others : goal.decreases-others
 decreases-others g l = length l.cells - l.i
