@@ -1,4 +1,4 @@
-use Rattle.std.proofs.Common.{◌≡◌, ◌∙◌, ◌-◌, ℕ, ℤ, List, [], ◌∷◌, Option, None, Some, ap, get_or, length, refl, subst, sym}
+use Rattle.std.proofs.Common.{◌≡◌, ◌∙◌, ◌-◌, ℤ, Option, None, Some, ap, get_or, length, refl, subst, sym}
 use Rattle.std.specs.Prelude.{◌↔◌, FitsSigned, IfSome, IsSome}
 use Rattle.std.specs.Int.{w64}
 use Rattle.ndarray.specs.Chains.{HasColumn}
