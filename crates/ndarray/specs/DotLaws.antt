@@ -1,6 +1,7 @@
 -- The product of arrays of any number of axes, where they are vectors and matrices.
-use Rattle.std.specs.Prelude.{◌≡◌, ◌⊎◌, ◌↔◌, ℕ, ◌-◌, ◌==◌, if◌then◌else◌, List, length, slice_index}
+use Rattle.std.specs.Prelude.{◌≡◌, ◌⊎◌, ◌↔◌, ℕ, ◌-◌, ◌==◌, if◌then◌else◌, List, [], ◌∷◌, ◌++◌, length, slice_index}
 use Rattle.ndarray.specs.Grid.{Grid, IsGrid}
+use Rattle.ndarray.specs.Index.{InBox}
 use Rattle.ndarray.specs.Limits.{IsWithinLimit}
 use Rattle.ndarray.specs.Matrices.{Matrix}
 use Rattle.ndarray.specs.Products.{HasLaneSumsInRange, HasSumsInRange, HasValues, ShapesMultiply, column_of, dot_entries, matrix_of, product_lengths, product_of, row_of}
@@ -49,3 +50,26 @@ module _ {A : Type 0} (e : ValuedGhosts A) where
   abbrev pub DotIsMatrixProduct : Type 0
   DotIsMatrixProduct = (a b r : Grid A) → MultiplyAsMatrices a b
       → HasValues e (product_lengths a.lengths b.lengths) (dot_entries e a b) r → HasValues e (product_lengths a.lengths b.lengths) (product_entries a b) r
+
+  -- vectors or matrices of which the last length of the left is the first of the right; their product may be of any size
+  pub record MeetAsMatrices (a b : Grid A) : Type 0 where
+    pub left : HasOneOrTwoAxes a.lengths
+    pub right : HasOneOrTwoAxes b.lengths
+    pub left_whole : IsGrid a
+    pub right_whole : IsGrid b
+    pub inner : slice_index a.lengths (length a.lengths - 1) ≡ slice_index b.lengths 0
+
+  -- the lengths of the product of the matrices, without that of a left vector's row and of a right vector's column
+  abbrev pub matrix_lengths : Grid A → Grid A → List ℕ
+  matrix_lengths a b = (if length a.lengths == 1 then [] else slice_index a.lengths 0 ∷ []) ++ (if length b.lengths == 1 then [] else slice_index b.lengths 1 ∷ [])
+
+  -- the definition of the product by lanes is that of the product of the matrices: the lengths, each entry, and which entries are sums in range; so an array has the values of the one exactly where it has those of the other
+  pub record DotAgrees (a b : Grid A) : Type 0 where
+    pub lengths : product_lengths a.lengths b.lengths ≡ matrix_lengths a b
+    pub entries : (is : List ℕ) → InBox (product_lengths a.lengths b.lengths) is → dot_entries e a b is ≡ product_entries a b is
+    pub ranges : HasLaneSumsInRange e a b ↔ HasSumsInRange e (left_matrix a) (right_matrix b)
+    pub arrays : (r : Grid A) → HasValues e (product_lengths a.lengths b.lengths) (dot_entries e a b) r ↔ HasValues e (matrix_lengths a b) (product_entries a b) r
+
+  -- it is so of any two that meet
+  abbrev pub DefinitionsOfDotAgree : Type 0
+  DefinitionsOfDotAgree = (a b : Grid A) → MeetAsMatrices a b → DotAgrees a b

@@ -12,7 +12,7 @@
 
 ghost use Rattle.std.specs.Prelude.{◌≡◌};
 ghost use Rattle.ndarray.specs.ConvolutionLaws.{ArrayFiltersCompose, ConvolutionsAssociate, ConvolutionsCommute, FiltersCompose, HaveFullLength, ValidIsPartOfFull};
-ghost use Rattle.ndarray.specs.DotLaws.{DotIsMatrixProduct, LaneSumsAreMatrixSums, ShapesMultiplyAsMatrices};
+ghost use Rattle.ndarray.specs.DotLaws.{DefinitionsOfDotAgree, DotIsMatrixProduct, LaneSumsAreMatrixSums, ShapesMultiplyAsMatrices};
 ghost use Rattle.ndarray.specs.Laws.{AxisSumArraysAddUp, AxisSumsAddUp, AxisSumsStayInRange, CellsHaveEqualTotals, ColumnOrderRearranges, DifferencesAdd, DifferencesCanBeTaken, OrdersHaveEqualTotals, StackIsConcatenation, TriangleSumsAddUp, TrianglesPart};
 ghost use Rattle.ndarray.specs.MatrixLaws.{KroneckersAssociate, KroneckersMultiply, KroneckersTranspose, ProductsAssociate, ProductsTranspose};
 ghost use Rattle.ndarray.specs.MatrixPowers.{IdentityIsNeutral, PowersAdd};
@@ -77,6 +77,8 @@ pub fn kron_mixed<A: LinalgScalar>()
 /// the right and the product is within the limit, the sums of the lanes stay in range where those of the rows and columns do, and
 /// the array that `dot` makes has the values of the product of the matrices.
 ///
+/// Without limits of size the two definitions agree: they have the same lengths and, at each index list, the same entry.
+///
 /// ```
 /// dot_agrees::<i64>(); // then the law holds of `i64` in the proof of the caller
 /// ```
@@ -84,6 +86,7 @@ pub fn dot_agrees<A: LinalgScalar>()
     ensures shapes { ShapesMultiplyAsMatrices }
     ensures ranges { LaneSumsAreMatrixSums A.Valued }
     ensures products { DotIsMatrixProduct A.Valued }
+    ensures definitions { DefinitionsOfDotAgree A.Valued }
 {}
 
 /// The sum of all cells is the sum of the sums of the lanes along an axis, for each axis of the array. Where every selection of

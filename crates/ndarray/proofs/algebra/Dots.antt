@@ -1,10 +1,10 @@
 -- The product of arrays of one or two axes, by their lanes, is that of matrices.
-use Rattle.std.proofs.Common.{◌≡◌, ◌∙◌, ◌+◌, ◌-◌, ◌<◌, ◌≤◌, ◌⊎◌, ℕ, List, [], ◌∷◌, ap, arith, drop, get_or, inl, inr, insert, length, map, refl, remove, subst, sym, take}
+use Rattle.std.proofs.Common.{◌≡◌, ◌∙◌, ◌+◌, ◌-◌, ◌<◌, ◌≤◌, ◌⊎◌, ℕ, List, [], ◌∷◌, ◌++◌, ap, arith, drop, get_or, inl, inr, insert, length, map, refl, remove, subst, sym, take}
 use Rattle.std.specs.Prelude.{◌↔◌, ◌==◌, if◌then◌else◌}
 use Rattle.std.proofs.lemmas.List.{get_or-drop}
 use Rattle.std.proofs.lemmas.List.Edits.{length-remove}
 use Rattle.ndarray.specs.Chains.{HasMatrix}
-use Rattle.ndarray.specs.DotLaws.{DotIsMatrixProduct, HasOneOrTwoAxes, LaneSumsAreMatrixSums, MultiplyAsMatrices, ShapesMultiplyAsMatrices, left_matrix, product_entries, right_matrix}
+use Rattle.ndarray.specs.DotLaws.{DefinitionsOfDotAgree, DotAgrees, DotIsMatrixProduct, HasOneOrTwoAxes, LaneSumsAreMatrixSums, MeetAsMatrices, MultiplyAsMatrices, ShapesMultiplyAsMatrices, left_matrix, product_entries, right_matrix}
 use Rattle.ndarray.specs.Grid.{Grid, IsGrid, cell}
 use Rattle.ndarray.specs.Index.{InBox}
 use Rattle.ndarray.specs.Matrices.{Matrix, inner_products, values_below}
@@ -20,22 +20,23 @@ use Rattle.ndarray.proofs.cells.LaneSums.{length-of_lane}
 use Rattle.ndarray.proofs.cells.Matrices.{below-same, one-length, two-lengths, vector-values}
 use Rattle.ndarray.proofs.sums.InnerSums.{lists-meet}
 
+some-axes : (ks : List ℕ) → HasOneOrTwoAxes ks → 1 ≤ length ks
+some-axes ks (inl one) = omega (arith, one)
+some-axes ks (inr two) = omega (arith, two)
+
+few-axes : (ks : List ℕ) → HasOneOrTwoAxes ks → length ks ≤ 2
+few-axes ks (inl one) = omega (arith, one)
+few-axes ks (inr two) = omega (arith, two)
+
+-- the axis that meets the left's last is the first
+first-meets : (ks : List ℕ) → HasOneOrTwoAxes ks → length ks - 2 ≡ 0
+first-meets ks h = let f = few-axes ks h in omega (arith, f)
+
 pub shapes-as_matrices : ShapesMultiplyAsMatrices
 shapes-as_matrices ns ms left right = (
-  λ s. record { inner = s.inner ∙ ap (λ k. get_or ms k 0) (first right); limit = s.limit },
-  λ s. matrix-shapes ns ms (some ns left) (few ns left) (some ms right) (few ms right) s.inner s.limit,
+  λ s. record { inner = s.inner ∙ ap (λ k. get_or ms k 0) (first-meets ms right); limit = s.limit },
+  λ s. matrix-shapes ns ms (some-axes ns left) (few-axes ns left) (some-axes ms right) (few-axes ms right) s.inner s.limit,
 )
-  where
-    some : (ks : List ℕ) → HasOneOrTwoAxes ks → 1 ≤ length ks
-    some ks (inl one) = omega (arith, one)
-    some ks (inr two) = omega (arith, two)
-
-    few : (ks : List ℕ) → HasOneOrTwoAxes ks → length ks ≤ 2
-    few ks (inl one) = omega (arith, one)
-    few ks (inr two) = omega (arith, two)
-
-    first : HasOneOrTwoAxes ms → length ms - 2 ≡ 0
-    first h = let f = few ms h in omega (arith, f)
 
 -- the values of a lane
 lane-values : {A C : Type 0} (v : A → C) (d : C) (g : Grid A) → IsGrid g → (k : ℕ) → k < length g.lengths → (js : List ℕ) → InBox (remove g.lengths k) js
@@ -169,7 +170,32 @@ module _ {A : Type 0} (e : ValuedGhosts A) (a b : Grid A) where
     | inr x ↦ elim right [ inl y ↦ subst (λ k. Ranges k m) (sym x) (subst (Ranges 2) (sym y) ranges-two_one) | inr y ↦ subst (λ k. Ranges k m) (sym x) (subst (Ranges 2) (sym y) ranges-two_two) ]
   ]
 
-  module _ (both : MultiplyAsMatrices e a b) where
+  pub meets : MultiplyAsMatrices e a b → MeetAsMatrices e a b
+  meets both = record {
+    left = both.left;
+    right = both.right;
+    left_whole = both.left_whole;
+    right_whole = both.right_whole;
+    inner = both.shapes.inner ∙ ap (λ k. get_or b.lengths k 0) (first-meets b.lengths both.right);
+  }
+
+  -- the lengths, by the numbers of axes
+  abbrev lengths-by : ℕ → ℕ → List ℕ
+  lengths-by n m = (if n == 1 then [] else get_or a.lengths 0 0 ∷ []) ++ (if m == 1 then [] else get_or b.lengths 1 0 ∷ [])
+
+  lengths-as : (n m : ℕ) → (n ≡ 1) ⊎ (n ≡ 2) → (m ≡ 1) ⊎ (m ≡ 2) → length a.lengths ≡ n → length b.lengths ≡ m → product_lengths a.lengths b.lengths ≡ lengths-by n m
+  lengths-as n m left right = elim left [
+    | inl x ↦ elim right [
+      | inl y ↦ λ p q. lengths-one_one a.lengths b.lengths (p ∙ x) (q ∙ y) ∙ (ap (λ k. lengths-by k 1) (sym x) ∙ ap (lengths-by n) (sym y))
+      | inr y ↦ λ p q. lengths-one_two a.lengths b.lengths (p ∙ x) (q ∙ y) ∙ (ap (λ k. lengths-by k 2) (sym x) ∙ ap (lengths-by n) (sym y))
+    ]
+    | inr x ↦ elim right [
+      | inl y ↦ λ p q. lengths-two_one a.lengths b.lengths (p ∙ x) (q ∙ y) ∙ (ap (λ k. lengths-by k 1) (sym x) ∙ ap (lengths-by n) (sym y))
+      | inr y ↦ λ p q. lengths-two_two a.lengths b.lengths (p ∙ x) (q ∙ y) ∙ (ap (λ k. lengths-by k 2) (sym x) ∙ ap (lengths-by n) (sym y))
+    ]
+  ]
+
+  module _ (both : MeetAsMatrices e a b) where
     -- the products at an index list are those of a row and a column
     products-agree : (is : List ℕ) → InBox (product_lengths a.lengths b.lengths) is
         → lane_products e a b is ≡ products-by (length a.lengths) (length b.lengths) (row-by (length a.lengths) is) (column-by (length a.lengths) (length b.lengths) is)
@@ -177,13 +203,13 @@ module _ {A : Type 0} (e : ValuedGhosts A) (a b : Grid A) where
         let n = length a.lengths in
         let m = length b.lengths in
         let cut = InBox-cut (remove a.lengths (n - 1)) (remove b.lengths (m - 2)) is inside in
-        let some = both.shapes.left in
+        let some = some-axes a.lengths both.left in
         let short : length (remove a.lengths (n - 1)) ≡ n - 1 = (let l = length-remove a.lengths (n - 1) (omega (arith, some)) in omega (arith, l)) in
         let row = subst (λ k. InBox (remove a.lengths (n - 1)) (take k is)) short cut.0 in
         let column = subst (λ k. InBox (remove b.lengths (m - 2)) (drop k is)) short cut.1 in
         let meet = lists-meet e.multiplication e.meaning (lane a (n - 1) (take (n - 1) is)).cells (lane b (m - 2) (drop (n - 1) is)).cells _ _ _ _
         (left-values both.left_whole n both.left refl is row) (right-values both.right_whole m both.right refl (drop (n - 1) is) column)
-        (left-columns n both.left ∙ (both.shapes.inner ∙ sym (right-rows m both.right))) in
+        (left-columns n both.left ∙ (both.inner ∙ (ap (λ k. get_or b.lengths k 0) (sym (first-meets b.lengths both.right)) ∙ sym (right-rows m both.right)))) in
         let at : get_or (drop (n - 1) is) 0 0 ≡ get_or is (n - 1) 0 = get_or-drop (n - 1) is 0 0 ∙ (let z : n - 1 + 0 ≡ n - 1 = omega arith in ap (λ k. get_or is k 0) z) in
         meet.0 ∙ ap (λ j. products-by n m (row-by n is) (if m == 1 then 0 else j)) at
 
@@ -197,23 +223,34 @@ module _ {A : Type 0} (e : ValuedGhosts A) (a b : Grid A) where
           λ h is inside. subst (IsSummable e.addition e.InRange) (sym (products-agree is inside)) (r.1 h is inside),
         )
 
-    pub dot-agrees : (r : Grid A) → HasValues e (product_lengths a.lengths b.lengths) (dot_entries e a b) r → HasValues e (product_lengths a.lengths b.lengths) (product_entries e a b) r
-    dot-agrees r h = record {
-      lengths = h.lengths;
-      whole = h.whole;
-      cells = λ is z at. h.cells is z at ∙ entries-agree is (subst (λ l. InBox l is) h.lengths (cell-inside r is z at));
-    }
+    pub dot-agrees : DotAgrees e a b
+    dot-agrees =
+        let lens = lengths-as (length a.lengths) (length b.lengths) both.left both.right refl refl in
+        record {
+          lengths = lens;
+          entries = entries-agree;
+          ranges = lane_sums-agree;
+          arrays = λ r. (
+            λ h. record { lengths = h.lengths ∙ lens; whole = h.whole; cells = λ is z at. h.cells is z at ∙ entries-agree is (subst (λ l. InBox l is) h.lengths (cell-inside r is z at)) },
+            λ h. record { lengths = h.lengths ∙ sym lens; whole = h.whole; cells = λ is z at. h.cells is z at ∙ sym (entries-agree is (subst (λ l. InBox l is) (h.lengths ∙ sym lens) (cell-inside r is z at))) },
+          );
+        }
+
+pub definitions-agree : {A : Type 0} (e : ValuedGhosts A) → DefinitionsOfDotAgree e
+definitions-agree e a b both = dot-agrees e a b both
 
 pub lane_sums-are : {A : Type 0} (e : ValuedGhosts A) → LaneSumsAreMatrixSums e
-lane_sums-are e a b both = lane_sums-agree e a b both
+lane_sums-are e a b both = lane_sums-agree e a b (meets e a b both)
 
 pub dot-is : {A : Type 0} (e : ValuedGhosts A) → DotIsMatrixProduct e
-dot-is e a b r both has = dot-agrees e a b both r has
+dot-is e a b r both has =
+    let agrees = dot-agrees e a b (meets e a b both) in
+    subst (λ ns. HasValues e ns (product_entries e a b) r) (sym agrees.lengths) ((agrees.arrays r).0 has)
 
 -- of two matrices
 module _ {A : Type 0} (e : ValuedGhosts A) (a b : Grid A) (two_a : length a.lengths ≡ 2) (two_b : length b.lengths ≡ 2) (whole_a : IsGrid a) (whole_b : IsGrid b) (shapes : ShapesMultiply a.lengths b.lengths) where
-  matrices : MultiplyAsMatrices e a b
-  matrices = record { left = inr two_a; right = inr two_b; left_whole = whole_a; right_whole = whole_b; shapes = shapes }
+  matrices : MeetAsMatrices e a b
+  matrices = meets e a b record { left = inr two_a; right = inr two_b; left_whole = whole_a; right_whole = whole_b; shapes = shapes }
 
   pub matrix-sums : HasLaneSumsInRange e a b → HasSumsInRange e (matrix_of e a) (matrix_of e b)
   matrix-sums sums =
