@@ -206,10 +206,14 @@ fn windows_fit<A: IntegerElem, D: Dimension>(
     ensures selections { IsTrue result → (ps : List ℕ) → InBox (valid_counts a.now.lengths mirrored.now.lengths) ps → IsSummable int_sums A.fits (window_products int_products A.value a.now mirrored.now ps) }
 {
     let _whole = a.raw_dim();
+    let windows = a.windows(mirrored.raw_dim());
+    // Without windows either array may have more cells than could be walked.
+    if windows.raw_dim().size() == 0 {
+        return true;
+    }
     if have_small_products(a, mirrored, mirrored.len()) {
         return true;
     }
-    let windows = a.windows(mirrored.raw_dim());
     all_in_either_order(windows, WindowTest(mirrored.view()))
 }
 

@@ -96,8 +96,8 @@ fn columns_fit<A: IntegerElem>(x: &ArrayView<'_, A, Ix1>, b: &ArrayView<'_, A, I
     ensures sums { IsTrue result → HasSumsInRange (whole_numbers A.value A.fits) (row_of (whole_numbers A.value A.fits) x.now) (matrix_of (whole_numbers A.value A.fits) b.now) }
 {
     let (k, n) = b.raw_dim().into_pattern();
-    // Without cells there may be more columns than could be walked.
-    if k == 0 {
+    // Without sums, or where all are empty, the other axes may be longer than could be walked.
+    if k == 0 || n == 0 {
         return true;
     }
     if have_small_products(x, b, k) {
@@ -121,8 +121,8 @@ fn rows_fit<A: IntegerElem>(a: &ArrayView<'_, A, Ix2>, x: &ArrayView<'_, A, Ix1>
     ensures sums { IsTrue result → HasSumsInRange (whole_numbers A.value A.fits) (matrix_of (whole_numbers A.value A.fits) a.now) (column_of (whole_numbers A.value A.fits) x.now) }
 {
     let (m, k) = a.raw_dim().into_pattern();
-    // Without cells there may be more rows than could be walked.
-    if k == 0 {
+    // As above.
+    if k == 0 || m == 0 {
         return true;
     }
     if have_small_products(a, x, k) {
@@ -149,8 +149,8 @@ fn rows_and_columns_fit<A: IntegerElem>(
 {
     let (m, k) = a.raw_dim().into_pattern();
     let (_, n) = b.raw_dim().into_pattern();
-    // Without cells there may be more rows than could be walked.
-    if k == 0 || n == 0 {
+    // As above.
+    if k == 0 || m == 0 || n == 0 {
         return true;
     }
     if have_small_products(a, b, k) {
