@@ -1,11 +1,13 @@
 //! Products of three and of four arrays, in the order that makes the smaller arrays.
 
-ghost use Rattle.std.specs.Prelude.{◌≡◌, ◌↔◌, ◌*◌, IfOk, IsOk, IsTrue, slice_index};
+ghost use Rattle.std.specs.Prelude.{◌≡◌, ◌↔◌, ◌*◌, ◌∷◌, [], IfOk, IsOk, IsTrue, slice_index};
 ghost use Rattle.ndarray.specs.Chains.{HasColumn, HasMatrix, ShapesChain, ShapesMultiplyInPairs};
+ghost use Rattle.ndarray.specs.Index.{size};
 ghost use Rattle.ndarray.specs.Matrices.{kronecker_product};
 ghost use Rattle.ndarray.specs.Products.{HasProductsInRange, HasSumsInRange, column_of, matrix_of, product_of};
 
 use crate::base::array::{Array, ArrayBase};
+use crate::base::axis::Axis;
 use crate::base::dimension::{Dimension, Ix1, Ix2, Lengths};
 use crate::base::storage::Data;
 use crate::elements::LinalgScalar;
@@ -38,7 +40,7 @@ pub fn chain_ok<S: Data, S2: Data, S3: Data>(
 ///
 /// Requires these lengths, which [`chain_ok`] tests, and that of the products of each inner sum of Bx and of A(Bx) every
 /// selection has its sum in range. Nothing is required of the size of AB, nor of the ranges of its cells. The error is allocation
-/// failure; the arrays are as before.
+/// failure, which is never reported if the result has no cells; the arrays are as before.
 ///
 /// ```
 /// // a = [[2]], b = [[i64::MAX]], x = [0]
@@ -54,10 +56,13 @@ pub fn mat_vec_chain<A: LinalgScalar, S: Data<Elem = A>, S2: Data<Elem = A>, S3:
     requires inner_sums { HasSumsInRange A.Valued (matrix_of A.Valued b.now) (column_of A.Valued x.now) }
     requires outer_sums { HasSumsInRange A.Valued (matrix_of A.Valued a.now) (product_of A.Valued (matrix_of A.Valued b.now) (column_of A.Valued x.now)) }
     ensures product { IfOk result (HasColumn A.Valued (product_of A.Valued (product_of A.Valued (matrix_of A.Valued a.now) (matrix_of A.Valued b.now)) (column_of A.Valued x.now))) }
-    ensures empty { slice_index a.now.lengths 0 ≡ 0 → slice_index b.now.lengths 0 ≡ 0 → IsOk result }
+    ensures empty { slice_index a.now.lengths 0 ≡ 0 → IsOk result }
 {
     mat_assoc::<A>();
     let _lengths = (a.raw_dim(), b.raw_dim(), x.raw_dim());
+    if a.len_of(Axis(0)) == 0 {
+        return Array::zeros(alloc, 0);
+    }
     let y = Dot::dot(b, alloc, x)?;
     Dot::dot(a, alloc, &y)
 }
@@ -90,7 +95,8 @@ pub fn kron_dot_ok<S: Data, S2: Data, S3: Data, S4: Data>(
 ///
 /// Requires these lengths, with AC, BD and the result within the limit, which [`kron_dot_ok`] tests; that of the products
 /// of each inner sum of AC and of BD every selection has its sum in range; and that each product of a cell of AC and one
-/// of BD is in range. Nothing is required of A kron B and of C kron D. The error is allocation failure; the arrays are as before.
+/// of BD is in range. Nothing is required of A kron B and of C kron D. The error is allocation failure, which is never reported if
+/// the result has no cells; the arrays are as before.
 ///
 /// ```
 /// // a = [[i64::MAX]], b = [[i64::MAX]], c = [[0]], d = [[0]]
@@ -114,10 +120,17 @@ pub fn kron_dot<
     requires right_sums { HasSumsInRange A.Valued (matrix_of A.Valued b.now) (matrix_of A.Valued d.now) }
     requires products { HasProductsInRange A.Valued (product_of A.Valued (matrix_of A.Valued a.now) (matrix_of A.Valued c.now)) (product_of A.Valued (matrix_of A.Valued b.now) (matrix_of A.Valued d.now)) }
     ensures product { IfOk result (HasMatrix A.Valued (product_of A.Valued (kronecker_product A.multiplication (matrix_of A.Valued a.now) (matrix_of A.Valued b.now)) (kronecker_product A.multiplication (matrix_of A.Valued c.now) (matrix_of A.Valued d.now)))) }
-    ensures empty { slice_index a.now.lengths 0 * slice_index c.now.lengths 1 ≡ 0 → slice_index b.now.lengths 0 * slice_index d.now.lengths 1 ≡ 0 → IsOk result }
+    ensures empty { size (slice_index a.now.lengths 0 * slice_index b.now.lengths 0 ∷ slice_index c.now.lengths 1 * slice_index d.now.lengths 1 ∷ []) ≡ 0 → IsOk result }
 {
     kron_mixed::<A>();
     let _lengths = (a.raw_dim(), b.raw_dim(), c.raw_dim(), d.raw_dim());
+    let dim = Ix2(
+        a.len_of(Axis(0)) * b.len_of(Axis(0)),
+        c.len_of(Axis(1)) * d.len_of(Axis(1)),
+    );
+    if dim.size() == 0 {
+        return Array::zeros(alloc, dim);
+    }
     let left = Dot::dot(a, alloc, c)?;
     let right = Dot::dot(b, alloc, d)?;
     kron(alloc, &left, &right)
