@@ -2,9 +2,12 @@ pub mod EmptyLanes
 pub mod FaultsPassedOn
 pub mod FirstFaults
 pub mod Neighbours
+pub mod OneFault
+pub mod OneReading
 pub mod Pieces
 pub mod PrintedCells
 pub mod RunningProducts
 pub mod ShapeWords
 pub mod StoredCells
 pub mod WordsRead
+pub mod Written

@@ -10,8 +10,9 @@ use Rattle.std.proofs.lemmas.List.{append_cancel_right, append-nil, length-map}
 use Rattle.std.proofs.lemmas.List.Elements.{All-append}
 use Rattle.std.proofs.lemmas.List.Splits.{slice_split_at, slice_split_none}
 use Rattle.ndarray.specs.Limits.{IsWithinLimit, nonzero_size}
+use Rattle.ndarray.specs.declared.base.shape.Order.{Order}
 use Rattle.ndarray.specs.declared.base.shape.Order.TheVariants.{RowMajor, ColumnMajor}
-use Rattle.ndtables.specs.Spelling.{IsCountWord, IsDigits, SpellsLengths, SpellsNoLengths, SpellsNoShape, none, some}
+use Rattle.ndtables.specs.Spelling.{IsCountWord, IsDigits, SpellsLengths, SpellsNoLengths, SpellsNoShape, SpellsShape, none, some}
 
 -- the byte between two lengths
 abbrev pub is_x : ℕ → Bool
@@ -171,3 +172,14 @@ no-shape_row word no_f not ns ColumnMajor s = no_f s.spelled s.ends
 -- lengths that are beyond the limit are the only ones
 pub beyond-limit : (word ms : List ℕ) → SpellsLengths word ms → (IsWithinLimit ms → ⊥) → SpellsNoLengths word
 beyond-limit word ms spelled not ns s few limit = not (subst IsWithinLimit (one-spelling word ns ms s spelled) limit)
+
+-- a word spells one shape
+pub one-shape : (word ns ms : List ℕ) (p q : Order) → SpellsShape word ns p → SpellsShape word ms q → ns ≡ ms
+one-shape word ns ms RowMajor RowMajor a b =
+    one-spelling word ns ms (subst (λ w. SpellsLengths w ns) (sym (append-nil a.spelled) ∙ sym a.ends) a.lengths) (subst (λ w. SpellsLengths w ms) (sym (append-nil b.spelled) ∙ sym b.ends) b.lengths)
+one-shape word ns ms ColumnMajor ColumnMajor a b =
+    one-spelling a.spelled ns ms a.lengths (subst (λ w. SpellsLengths w ms) (append_cancel_right b.spelled a.spelled (102 ∷ []) (sym b.ends ∙ a.ends)) b.lengths)
+one-shape word ns ms RowMajor ColumnMajor a b =
+    absurd (ends-with_f b.spelled (subst (All NotF) (sym (append-nil a.spelled) ∙ (sym a.ends ∙ b.ends)) (lengths-lack_f a.spelled ns a.lengths)))
+one-shape word ns ms ColumnMajor RowMajor a b =
+    absurd (ends-with_f a.spelled (subst (All NotF) (sym (append-nil b.spelled) ∙ (sym b.ends ∙ a.ends)) (lengths-lack_f b.spelled ms b.lengths)))

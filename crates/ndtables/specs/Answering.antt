@@ -7,7 +7,7 @@ use Rattle.ndtables.specs.Reducing.{ProductsFit, SumsFit}
 use Rattle.ndtables.specs.declared.command.Command.{Command}
 use Rattle.ndtables.specs.declared.command.Command.TheVariants.{Add, Conv, ConvFull, Cumprod, Diff, Dot, Product, ProductAxis, Sum, SumAxis}
 use Rattle.ndtables.specs.declared.fault.Fault.{Fault}
-use Rattle.ndtables.specs.declared.fault.Fault.TheVariants.{Usage}
+use Rattle.ndtables.specs.declared.fault.Fault.TheVariants.{Memory, Usage}
 
 -- the name of a command
 abbrev pub name_of : Command → List ℕ
@@ -63,6 +63,10 @@ NamesNoCommand word = (command : Command) → word ≡ name_of command → ⊥
 abbrev pub ForbidsAnswer : List (List ℕ) → Fault → Type 0
 ForbidsAnswer [] fault = fault ≡ Usage
 ForbidsAnswer (word ∷ arguments) fault = (NamesNoCommand word × (fault ≡ Usage)) ⊎ ((command : Command) × (word ≡ name_of command) × Forbids command arguments fault)
+
+-- the fault is the first that the words have, as they are read from left to right and then computed with
+abbrev pub IsFirstFault : List (List ℕ) → Fault → Type 0
+IsFirstFault words fault = ForbidsAnswer words fault × (fault ≡ Memory → ⊥)
 
 -- some fault is why the words have no answer
 abbrev pub HasFault : List (List ℕ) → Type 0

@@ -8,3 +8,4 @@ pub mod Reading
 pub mod Reducing
 pub mod Spelling
 pub mod Stored
+pub mod Streams

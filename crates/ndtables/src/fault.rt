@@ -4,27 +4,38 @@ ghost use Rattle.ndtables.specs.declared.fault.Fault.TheVariants.{Memory};
 ghost use Rattle.std.specs.Prelude.{◌≡◌};
 
 use std::alloc::{AllocError, AllocFailed};
-use thiserror::Error;
 
-/// A fault of the words, or allocation failure. It prints as its word.
-#[derive(Clone, Copy, PartialEq, Eq, Debug, Error)]
+/// A fault of the words, or allocation failure. It prints as a line with its word.
+#[derive(Clone, Copy, PartialEq, Eq, Debug)]
 pub enum Fault {
     /// No command, an unknown one, a missing word, or a word too many.
-    #[error("usage")]
     Usage,
     /// A word that is no shape word, a shape beyond the limits, or a condition on shapes that does
     /// not hold.
-    #[error("shape")]
     Shape,
     /// A number that is not spelled as one, or does not fit its type.
-    #[error("number")]
     Number,
     /// A result, on the way too, that may not fit its type.
-    #[error("range")]
     Range,
     /// A failed allocation.
-    #[error("memory")]
     Memory,
+}
+
+impl Fault {
+    ghost use Rattle.ndtables.specs.Streams.{line_of};
+
+    /// The line that it prints: `ndtables: `, its word and a newline.
+    pub fn line(self) -> &'static str
+        ensures { result.now ≡ line_of self }
+    {
+        match self {
+            Fault::Usage => "ndtables: usage\n",
+            Fault::Shape => "ndtables: shape\n",
+            Fault::Number => "ndtables: number\n",
+            Fault::Range => "ndtables: range\n",
+            Fault::Memory => "ndtables: memory\n",
+        }
+    }
 }
 
 impl From<AllocError> for Fault {

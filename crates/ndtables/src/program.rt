@@ -1,25 +1,60 @@
 //! The program over any words and any two streams.
 
-ghost use Rattle.std.specs.Prelude.{◌≡◌, ◌⊎◌, ℕ, List, map, IfOk, IfErr, OnOk, string_bytes};
+ghost use Rattle.std.specs.Prelude.{◌≡◌, ◌⊎◌, ℕ, List, map, IfOk, IfErr, OnErr, OnOk, drop, string_bytes};
+ghost use Rattle.std.specs.Result.{IsOkAnd};
 ghost use Rattle.std.specs.Io.KnownBytes.{Appends};
-ghost use Rattle.ndtables.specs.Answering.{Answers, ForbidsAnswer, HasAnswer, HasFault};
+ghost use Rattle.ndtables.specs.Answering.{Answers, ForbidsAnswer, HasAnswer, HasFault, IsFirstFault};
+ghost use Rattle.ndtables.specs.Streams.{AppendsFront, PrintsEither, PrintsFault, PrintsFront, line_of};
 
 use crate::command::Command;
 use crate::fault::Fault;
 use crate::words::Words;
 use std::alloc::Global;
 use std::io;
-use std::io::Write;
+use std::io::{ErrorKind, Write};
+
+/// Answers the words of a command line, of which the first is the program's name, and gives the exit
+/// status, as [`run`] does of the others. Words that could not be had are the fault `memory`.
+pub fn run_line<X: Drop, W: Write, E: Write>(
+    alloc: Global,
+    line: Result<Vec<String>, X>,
+    out: &mut W,
+    err: &mut E,
+) -> u8
+    ensures status { (result ≡ 0) ⊎ (result ≡ 2) }
+    ensures answered { result ≡ 0 → IsOkAnd line (λ words. (text : List ℕ) × Answers (drop 1 (map string_bytes words.items)) text × Appends (W.contents out.old) (W.contents out.new) text × (err.new ≡ err.old)) }
+    ensures first { IfOk line (λ words. (fault : Fault) → IsFirstFault (drop 1 (map string_bytes words.items)) fault → (result ≡ 2) × (out.new ≡ out.old) × PrintsEither fault (E.contents err.old) (E.contents err.new)) }
+    ensures printed { IfOk line (λ words. result ≡ 2 → (PrintsFault (drop 1 (map string_bytes words.items)) (E.contents err.old) (E.contents err.new) × (out.new ≡ out.old)) ⊎ (PrintsFront (drop 1 (map string_bytes words.items)) (W.contents out.old) (W.contents out.new) × (err.new ≡ err.old))) }
+    ensures none { OnErr line ((result ≡ 2) × (out.new ≡ out.old) × AppendsFront (E.contents err.old) (E.contents err.new) (line_of Fault.Memory)) }
+{
+    match line {
+        Ok(words) => run(alloc, after_name(words.as_slice()), out, err),
+        Err(_) => report(Fault::Memory, err),
+    }
+}
+
+/// The words but the first.
+fn after_name(words: &[String]) -> &[String]
+    ensures { map string_bytes result.now ≡ drop 1 (map string_bytes words.now) }
+{
+    match words {
+        [_, rest @ ..] => rest,
+        [] => words,
+    }
+}
 
 /// Answers the words, which are those after the program's name, and gives the exit status.
 ///
-/// The status is 0 where the result is on `out`. Else it is 2: a fault of the words and
-/// allocation failure leave nothing on `out` and one line on `err`, and after a fault of a stream
-/// nothing more is printed on either.
+/// The status is 0 where the result is on `out`. Else it is 2: the first fault of the words, or
+/// allocation failure, leaves nothing on `out` and one line on `err`, and after a fault of a stream,
+/// which has then taken a front of the text, nothing more is printed on either.
 pub fn run<W: Write, E: Write>(alloc: Global, words: &[String], out: &mut W, err: &mut E) -> u8
     ensures status { (result ≡ 0) ⊎ (result ≡ 2) }
     ensures answered { result ≡ 0 → (text : List ℕ) × Answers (map string_bytes words.now) text × Appends (W.contents out.old) (W.contents out.new) text }
     ensures unanswered { result ≡ 2 → (HasFault (map string_bytes words.now) × (out.new ≡ out.old)) ⊎ HasAnswer (map string_bytes words.now) }
+    ensures quiet { result ≡ 0 → err.new ≡ err.old }
+    ensures first { (fault : Fault) → IsFirstFault (map string_bytes words.now) fault → (result ≡ 2) × (out.new ≡ out.old) × PrintsEither fault (E.contents err.old) (E.contents err.new) }
+    ensures printed { result ≡ 2 → (PrintsFault (map string_bytes words.now) (E.contents err.old) (E.contents err.new) × (out.new ≡ out.old)) ⊎ (PrintsFront (map string_bytes words.now) (W.contents out.old) (W.contents out.new) × (err.new ≡ err.old)) }
 {
     match answer(alloc, words) {
         Ok(text) => match print(text.as_str(), out) {
@@ -40,20 +75,34 @@ fn answer(alloc: Global, words: &[String]) -> Result<String, Fault>
     command.answer(alloc, words)
 }
 
-/// Writes a text to a stream.
+/// Writes a text to a stream. After an error the stream has taken a front of it.
 fn print<W: Write>(text: &str, out: &mut W) -> io::Result<()>
-    ensures { OnOk result (Appends (W.contents out.old) (W.contents out.new) text.now) }
+    ensures whole { OnOk result (Appends (W.contents out.old) (W.contents out.new) text.now) }
+    ensures front { AppendsFront (W.contents out.old) (W.contents out.new) text.now }
 {
-    out.write_all(text.as_bytes())?;
-    out.flush()
+    let mut rest = text.as_bytes();
+    for _ in 0..usize::MAX {
+        if rest.is_empty() {
+            return out.flush();
+        }
+        match out.write(rest) {
+            Ok(0) => return Err(io::Error::from(ErrorKind::WriteZero)),
+            Ok(count) => rest = &rest[count..],
+            Err(error) => {
+                if error.kind() != ErrorKind::Interrupted {
+                    return Err(error);
+                }
+            }
+        }
+    }
+    Err(io::Error::from(ErrorKind::Interrupted))
 }
 
 /// Prints a fault as a line of the stream, and gives the exit status.
 pub fn report<E: Write>(fault: Fault, err: &mut E) -> u8
-    ensures { result ≡ 2 }
+    ensures status { result ≡ 2 }
+    ensures line { AppendsFront (E.contents err.old) (E.contents err.new) (line_of fault) }
 {
-    if writeln!(err, "ndtables: {fault}").is_ok() {
-        let _ = err.flush();
-    }
+    let _ = print(fault.line(), err);
     2
 }

@@ -1,0 +1,44 @@
+-- What is written to the two streams.
+use Rattle.std.specs.Prelude.{◌≡◌, ◌⊎◌, ℕ, List, [], ◌∷◌, ◌++◌, Option, codes}
+use Rattle.std.specs.Io.KnownBytes.{Appends}
+use Rattle.ndtables.specs.Answering.{Answers, ForbidsAnswer}
+use Rattle.ndtables.specs.declared.fault.Fault.{Fault}
+use Rattle.ndtables.specs.declared.fault.Fault.TheVariants.{Usage, Shape, Number, Range, Memory}
+
+-- the word of a fault
+abbrev pub word_of : Fault → List ℕ
+word_of Usage = codes "usage"
+word_of Shape = codes "shape"
+word_of Number = codes "number"
+word_of Range = codes "range"
+word_of Memory = codes "memory"
+
+-- the line that a fault prints: `ndtables: `, its word and a newline
+abbrev pub line_of : Fault → List ℕ
+line_of fault = codes "ndtables: " ++ word_of fault ++ 10 ∷ []
+
+-- what a stream holds, where that is known, grows by a front of the text, and the rest is left
+pub record AppendsUpTo (old new : Option (List ℕ)) (text rest : List ℕ) : Type 0 where
+  pub front : List ℕ
+  pub split : text ≡ front ++ rest
+  pub appended : Appends old new front
+
+-- what a stream holds, where that is known, grows by the text, or by the front of it that the stream took before it failed
+abbrev pub AppendsFront : Option (List ℕ) → Option (List ℕ) → List ℕ → Type 0
+AppendsFront old new text = (rest : List ℕ) × AppendsUpTo old new text rest
+
+-- a fault is why the words have no answer, and the stream took its line, or a front of that
+pub record PrintsFault (words : List (List ℕ)) (old new : Option (List ℕ)) : Type 0 where
+  pub fault : Fault
+  pub forbids : ForbidsAnswer words fault
+  pub line : AppendsFront old new (line_of fault)
+
+-- the words have an answer, and the stream took it, or a front of it
+pub record PrintsFront (words : List (List ℕ)) (old new : Option (List ℕ)) : Type 0 where
+  pub text : List ℕ
+  pub answer : Answers words text
+  pub front : AppendsFront old new text
+
+-- the stream took the line of the fault, or of `memory`, or a front of that
+abbrev pub PrintsEither : Fault → Option (List ℕ) → Option (List ℕ) → Type 0
+PrintsEither fault old new = AppendsFront old new (line_of fault) ⊎ AppendsFront old new (line_of Memory)
