@@ -1,20 +1,21 @@
-use Rattle.std.proofs.Common.{◌≡◌, ◌∙◌, Bool, List, ℕ, Some, true, false, ap, map, subst}
+use Rattle.std.proofs.Common.{◌≡◌, ◌∙◌, Bool, List, ℕ, Some, true, false, ap, arith, map, subst, sym}
 use Rattle.std.specs.Prelude.{IsTrue, pos, ◌↔◌}
 use Rattle.ndarray.specs.Convolution.{TestsProducts, single_steps, valid_counts, window_products}
 use Rattle.ndarray.specs.Grid.{Grid, array_by, cell}
-use Rattle.ndarray.specs.Index.{InBox}
+use Rattle.ndarray.specs.Index.{InBox, size}
 use Rattle.ndarray.specs.Integers.{int_products, int_sums}
 use Rattle.ndarray.specs.Products.{magnitude_sum}
 use Rattle.ndarray.specs.reduce.SmallProducts.{HaveSmallProducts}
 use Rattle.ndarray.specs.Subviews.{window, windows_of}
 use Rattle.ndarray.specs.Sums.{IsSummable}
 use Rattle.ndarray.specs.declared.base.shape.Order.TheVariants.{RowMajor, ColumnMajor}
+use Rattle.ndarray.proofs.boxes.Boxes.{InBox-some}
 use Rattle.ndarray.proofs.callers.Testing.{all-decides, may-test}
 use Rattle.ndarray.proofs.convolution.SmallProducts.{small-windows}
 use Rattle.ndarray.proofs.convolution.WindowTests.{not_true, test-at, window-lengths}
 use Rattle.ndarray.proofs.lists.Decisions.{from_yes, says_yes}
 use Rattle.ndarray.proofs.conv.windows_fit.Goals as goal
-use Rattle.ndarray.proofs.conv.windows_fit.Goals.{After-view, Then-have_small_products}
+use Rattle.ndarray.proofs.conv.windows_fit.Goals.{After-view, Then-have_small_products, Then-size-eq0}
 
 module _ (g : _) (c : After-view g) where
   -- the windows of the array's lengths, at each index list the one there
@@ -30,6 +31,22 @@ module _ (g : _) (c : After-view g) where
       → (IsTrue r ↔ g.A.Number.fits (pos (magnitude_sum (window_products int_products g.A.Number.value c.args.a.now c.args.mirrored.now i))))
       × (IsTrue r → IsSummable int_sums g.A.Number.fits (window_products int_products g.A.Number.value c.args.a.now c.args.mirrored.now i))
   tested r i x s test = test-at c.args.a.now c.args.mirrored.now c.view.result c.view.ensures.same c.windows-windows.result windows i x s g.A.Number.value g.A.Number.fits r test
+
+-- where there are none
+no-windows : (g : _) (c : Then-size-eq0 g) (ps : List ℕ) → InBox (valid_counts c.args.a.now.lengths c.args.mirrored.now.lengths) ps → ⊥
+no-windows g c ps inside =
+    let a = c.args.a.now in
+    let counts = valid_counts a.lengths c.args.mirrored.now.lengths in
+    let lengths : c.windows-windows.result.lengths ≡ counts = ap (λ w. w.lengths) (c.windows-windows.ensures ∙ ap (λ ns. windows_of a ns (single_steps a.lengths)) c.raw_dim.ensures.lengths) in
+    let none : size counts ≡ 0 = ap size (sym (c.raw_dim-2.ensures.lengths ∙ lengths)) ∙ (sym c.size.ensures ∙ c.if-size-eq0.true) in
+    let some = InBox-some counts ps inside in
+    omega (arith, some, none)
+
+pub returns-then-size-eq0-clause-magnitudes : goal.returns-then-size-eq0-clause-magnitudes
+returns-then-size-eq0-clause-magnitudes g c = says_yes _ (λ ps inside. absurd (no-windows g (goal.at.returns-then-size-eq0-clause-magnitudes g c).Then-size-eq0 ps inside))
+
+pub returns-then-size-eq0-clause-selections : goal.returns-then-size-eq0-clause-selections
+returns-then-size-eq0-clause-selections g c = λ _ ps inside. absurd (no-windows g (goal.at.returns-then-size-eq0-clause-selections g c).Then-size-eq0 ps inside)
 
 -- where the cells are small
 small-each : (g : _) (c : Then-have_small_products g) (ps : List ℕ) → g.A.Number.fits (pos (magnitude_sum (window_products int_products g.A.Number.value c.args.a.now c.args.mirrored.now ps))) × IsSummable int_sums g.A.Number.fits (window_products int_products g.A.Number.value c.args.a.now c.args.mirrored.now ps)

@@ -1,6 +1,19 @@
+use Rattle.std.proofs.Common.{◌≡◌, ◌∙◌, ◌∷◌, [], ap, get_or, sym}
+use Rattle.ndarray.specs.Index.{size}
+use Rattle.ndarray.specs.Products.{column_entries, column_of, matrix_of, product_of}
 use Rattle.ndarray.proofs.algebra.Chains.{chain-made, chain-shapes, chain-sums}
 use Rattle.ndarray.proofs.callers.Collecting.{if_ok-both}
+use Rattle.ndarray.proofs.cells.Products.{values-none}
 use Rattle.ndarray.proofs.linalg.chains.mat_vec_chain.Goals as goal
+
+pub returns-then-len_of-eq0-clause-product : goal.returns-then-len_of-eq0-clause-product
+returns-then-len_of-eq0-clause-product g c =
+    let e = g.A.Valued in
+    let m = product_of e (product_of e (matrix_of e c.args.a.now) (matrix_of e c.args.b.now)) (column_of e c.args.x.now) in
+    let none : get_or c.args.a.now.lengths 0 0 ≡ 0 = sym c.len_of.ensures.value ∙ c.if-len_of-eq0.true in
+    if_ok-both c.zeros.result _ _ _
+    (λ z lengths whole. values-none e (m.rows ∷ []) (column_entries m) z (lengths ∙ ap (λ n. n ∷ []) (sym none)) whole (ap (λ n. size (n ∷ [])) none))
+    c.zeros.ensures.lengths c.zeros.ensures.whole
 
 pub dot-requires-2-after_bounds : goal.dot-requires-2-after_bounds
 dot-requires-2-after_bounds g c κs within =
