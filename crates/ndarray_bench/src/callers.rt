@@ -194,6 +194,20 @@ pub fn table_sums(a: &Array<i64, Ix2>, b: &Array<i64, Ix2>) -> Result<Array<i64,
     a + b
 }
 
+/// Adds the cells of a table of residues to those of another of one shape, in the other's own storage. Sums of residues never leave the
+/// range, and nothing is allocated: it never fails.
+pub fn add_residues<const M: u32, S: Data<Elem = Residue<M>>>(
+    a: Array<Residue<M>, Ix2>,
+    b: &ArrayBase<S, Ix2>,
+) -> Result<Array<Residue<M>, Ix2>, AllocError>
+    requires { a.lengths ≡ b.now.lengths }
+    ensures ok { IsOk result }
+    ensures sums { IfOk result (Combines a b.now (λ x y z. z ≡ (residue_sums (modulus M) (modulus_pos M)).op x y)) }
+{
+    let _lengths = (a.raw_dim(), b.raw_dim());
+    a + b
+}
+
 /// The array of the sums of the cells of two arrays broadcast together, whatever keeps the cells and however they lie.
 pub fn cell_sums<S: Data<Elem = i64>, T: Data<Elem = i64>, D: DimMax<D>>(
     alloc: Global,
