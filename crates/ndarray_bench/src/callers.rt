@@ -202,7 +202,7 @@ pub fn add_residues<const M: u32, S: Data<Elem = Residue<M>>>(
 ) -> Result<Array<Residue<M>, Ix2>, AllocError>
     requires { a.lengths ≡ b.now.lengths }
     ensures ok { IsOk result }
-    ensures sums { IfOk result (Combines a b.now (λ x y z. z ≡ (residue_sums (modulus M) (modulus_pos M)).op x y)) }
+    ensures sums { IfOk result (Combines a.entry b.now (λ x y z. z ≡ (residue_sums (modulus M) (modulus_pos M)).op x y)) }
 {
     let _lengths = (a.raw_dim(), b.raw_dim());
     a + b

@@ -1,4 +1,3 @@
-use Rattle.std.proofs.Common.{rules}
 use Rattle.ndarray.proofs.callers.Elementwise.{can-combine, lengths-same}
 use Rattle.ndarray_bench.proofs.callers.add_residues.Goals as goal
 
