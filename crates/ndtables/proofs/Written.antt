@@ -1,5 +1,5 @@
 -- A text that is written to a stream in several calls.
-use Rattle.std.proofs.Common.{◌≡◌, ℕ, ◌-◌, ◌≤◌, List, [], ◌++◌, Option, length, take, drop, refl, sym, ap, ◌∙◌, subst, append_assoc, append-nil, take-append-drop, drop_of_length-le, arith}
+use Rattle.std.proofs.Common.{◌≡◌, ℕ, ◌-◌, List, [], ◌++◌, Option, length, take, drop, refl, sym, ap, ◌∙◌, append_assoc, take-append-drop}
 use Rattle.std.proofs.lemmas.List.{take_rest}
 use Rattle.std.specs.Io.KnownBytes.{Appends, Keeps}
 use Rattle.std.proofs.KnownBytes.{Appends-kept, Appends-nil, Appends-trans}
@@ -20,9 +20,3 @@ module _ (a b c : Option (List ℕ)) (text rest : List ℕ) (h : AppendsUpTo a b
     split = h.split ∙ (ap (λ l. h.front ++ l) (sym (take-append-drop n rest)) ∙ (sym (append_assoc h.front (take n rest) (drop n rest)) ∙ ap (λ l. (h.front ++ take n rest) ++ l) (sym (take_rest rest n))));
     appended = Appends-trans a b c h.front (take n rest) h.appended more;
   }
-
-  -- nothing is left
-  pub all-written : length rest ≤ 0 → Appends a b text
-  all-written none =
-      let empty : rest ≡ [] = drop_of_length-le rest {i = 0} none in
-      subst (Appends a b) (sym (h.split ∙ (ap (λ l. h.front ++ l) empty ∙ append-nil h.front))) h.appended

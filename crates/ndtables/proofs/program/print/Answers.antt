@@ -1,5 +1,5 @@
 use Rattle.std.proofs.Common.{rules}
-use Rattle.ndtables.proofs.Written.{all-written, no-more, none-written, some-more}
+use Rattle.ndtables.proofs.Written.{no-more, none-written, some-more}
 use Rattle.ndtables.proofs.program.print.Goals as goal
 use Rattle.ndtables.proofs.program.print.Goals.{in-Ok, in-Err+else-ne}
 
