@@ -15,6 +15,7 @@ pub mod Elementwise
 pub mod EntryTests
 pub mod GeneralProducts
 pub mod IndexedCells
+pub mod KroneckerRanges
 pub mod LaneCells
 pub mod LanePairs
 pub mod LanePlaces

@@ -1,4 +1,5 @@
 -- Sums of lists and of their selections.
+pub mod CornerProducts
 pub mod Fronts
 pub mod InnerSums
 pub mod IntegerSelections

@@ -1,20 +1,21 @@
 -- Sums of products of numbers whose absolute values are at most given ones.
-use Rattle.std.proofs.Common.{◌≡◌, ◌∙◌, ℕ, zero, suc, ◌+◌, ◌-◌, ◌*◌, ◌/◌, ◌≤◌, List, [], ◌∷◌, ap, arith, inl, length, map, subst, sym}
-use Rattle.std.specs.Prelude.{All, ℤ, pos, negsuc, neg_ℤ, ◌+ℤ◌, ◌*ℤ◌, ◌-ℤ◌, ◌≤ℤ◌, IsPermutation, unsigned_abs}
+use Rattle.std.proofs.Common.{◌≡◌, ◌⊎◌, ◌∙◌, ℕ, zero, suc, ◌+◌, ◌-◌, ◌*◌, ◌/◌, ◌≤◌, List, [], ◌∷◌, ap, arith, inl, inr, length, map, subst, sym}
+use Rattle.std.specs.Prelude.{All, Contains, ℤ, pos, negsuc, neg_ℤ, ◌+ℤ◌, ◌*ℤ◌, ◌-ℤ◌, ◌≤ℤ◌, IsPermutation, unsigned_abs}
 use Rattle.std.specs.List.{AllByRecursion}
 use Rattle.std.proofs.lemmas.Int.{ints, unsigned_abs-mul}
 use Rattle.std.proofs.lemmas.List.{nil_from_length}
 use Rattle.std.proofs.lemmas.List.Elements.{All-cons, All-head, All-nil, All-tail, All-weaker}
-use Rattle.std.proofs.lemmas.List.Sorted.{All-permutation, IsPermutation-sym}
+use Rattle.std.proofs.lemmas.List.Sorted.{All-permutation, Contains-permutation, IsPermutation-sym}
 use Rattle.std.proofs.lemmas.Nat.{mul-le}
 use Rattle.ndarray.specs.Integers.{int_products, int_sums}
 use Rattle.ndarray.specs.Matrices.{Matrix, inner_products, values_below}
 use Rattle.ndarray.specs.Products.{magnitude_sum, products_of}
 use Rattle.ndarray.specs.reduce.SignedSums.{NegativeFits}
-use Rattle.ndarray.specs.reduce.SmallProducts.{AreUpTo, ExtremesSoFar, HaveSmallProducts, IsSumInRange}
+use Rattle.ndarray.specs.reduce.SmallProducts.{AreUpTo, ExtremesSoFar, HaveSmallProducts, IsSumInRange, IsZeroOrIn}
 use Rattle.ndarray.specs.Sums.{IsSummable, total}
 use Rattle.ndarray.proofs.cells.EntryTests.{EntriesFit}
 use Rattle.ndarray.proofs.lists.Elements.{mapped-all}
+use Rattle.ndarray.proofs.lists.Pairs.{Contains-first, Contains-later}
 use Rattle.ndarray.proofs.sums.InnerSums.{products-ended, products-next}
 use Rattle.ndarray.proofs.sums.MagnitudeSums.{abs-sum, magnitudes-summable, negative-of_fits, negative-sum, own-negative}
 use Rattle.ndarray.proofs.sums.NonzeroProducts.{within}
@@ -25,9 +26,31 @@ use Rattle.ndarray.proofs.sums.NonzeroProducts.{within}
 within-largest : (z least greatest largest : ℤ) → least ≤ℤ z → z ≤ℤ greatest → (pos 0 -ℤ least) ≤ℤ largest → greatest ≤ℤ largest → unsigned_abs z ≤ unsigned_abs largest
 within-largest z least greatest largest low high down up = omega (arith, ints, low, high, down, up)
 
+-- zero or a number of one list is zero or one of another that has all its numbers
+found-in : (xs ys : List ℤ) (z : ℤ) → ((y : ℤ) → Contains xs y → Contains ys y) → IsZeroOrIn xs z → IsZeroOrIn ys z
+found-in xs ys z all (inl none) = inl none
+found-in xs ys z all (inr there) = inr (all z there)
+
+-- one of two numbers that are so
+found-or : (whole : List ℤ) (z old new : ℤ) → Contains whole z → (new ≡ z) ⊎ (new ≡ old) → IsZeroOrIn whole old → IsZeroOrIn whole new
+found-or whole z old new there (inl is) found = inr (subst (Contains whole) (sym is) there)
+found-or whole z old new there (inr is) found = subst (IsZeroOrIn whole) (sym is) found
+
+-- of elements that are equal so are the numbers
+pub of-one : {A : Type 0} (v : A → ℤ) {r x y : A} → (r ≡ x) ⊎ (r ≡ y) → (v r ≡ v x) ⊎ (v r ≡ v y)
+of-one v (inl is) = inl (ap v is)
+of-one v (inr is) = inr (ap v is)
+
 module _ (fits : ℤ → Type 0) where
   pub extremes-start : (whole : List ℤ) (least greatest : ℤ) → least ≡ pos 0 → greatest ≡ pos 0 → ExtremesSoFar fits whole whole least greatest
-  extremes-start whole least greatest low high = record { up_to_zero = omega (arith, ints, low); from_zero = omega (arith, ints, high); others = λ l h _ _ between. between }
+  extremes-start whole least greatest low high = record {
+    up_to_zero = omega (arith, ints, low);
+    from_zero = omega (arith, ints, high);
+    others = λ l h _ _ between. between;
+    within = λ z there. there;
+    least_found = inl low;
+    greatest_found = inl high;
+  }
 
   -- of the same numbers in another order
   pub extremes-moved : (xs ys rest : List ℤ) (least greatest : ℤ) → IsPermutation xs ys → ExtremesSoFar fits ys rest least greatest → ExtremesSoFar fits xs rest least greatest
@@ -35,15 +58,22 @@ module _ (fits : ℤ → Type 0) where
     up_to_zero = h.up_to_zero;
     from_zero = h.from_zero;
     others = λ low high below above between. All-permutation (λ z. fits z × (low ≤ℤ z) × (z ≤ℤ high)) ys xs (IsPermutation-sym xs ys moved) (h.others low high below above between);
+    within = λ z there. Contains-permutation ys xs z (IsPermutation-sym xs ys moved) (h.within z there);
+    least_found = found-in ys xs least (λ z there. Contains-permutation ys xs z (IsPermutation-sym xs ys moved) there) h.least_found;
+    greatest_found = found-in ys xs greatest (λ z there. Contains-permutation ys xs z (IsPermutation-sym xs ys moved) there) h.greatest_found;
   }
 
-  pub extremes-next : (whole rest : List ℤ) (z least greatest less more : ℤ) → fits z → (less ≤ℤ z) × (less ≤ℤ least) → (z ≤ℤ more) × (greatest ≤ℤ more) → ExtremesSoFar fits whole (z ∷ rest) least greatest → ExtremesSoFar fits whole rest less more
-  extremes-next whole rest z least greatest less more f low high h = record {
+  pub extremes-next : (whole rest : List ℤ) (z least greatest less more : ℤ) → fits z → (less ≤ℤ z) × (less ≤ℤ least) → (less ≡ z) ⊎ (less ≡ least) → (z ≤ℤ more) × (greatest ≤ℤ more) → (more ≡ z) ⊎ (more ≡ greatest)
+      → ExtremesSoFar fits whole (z ∷ rest) least greatest → ExtremesSoFar fits whole rest less more
+  extremes-next whole rest z least greatest less more f low which_low high which_high h = record {
     up_to_zero = omega (arith, ints, h.up_to_zero, low.1);
     from_zero = omega (arith, ints, h.from_zero, high.1);
     others = λ l u below above between.
         h.others l u (omega (arith, ints, below, low.1)) (omega (arith, ints, above, high.1))
         (All-cons (λ y. fits y × (l ≤ℤ y) × (y ≤ℤ u)) z rest (f, omega (arith, ints, below, low.0), omega (arith, ints, above, high.0)) between);
+    within = λ y there. h.within y (Contains-later z rest y there);
+    least_found = found-or whole z least less (h.within z (Contains-first z rest)) which_low h.least_found;
+    greatest_found = found-or whole z greatest more (h.within z (Contains-first z rest)) which_high h.greatest_found;
   }
 
   -- the largest absolute value

@@ -52,7 +52,7 @@ pub(crate) fn lengths_multiply(left: (usize, usize), right: (usize, usize)) -> b
 /// it has the lengths (l * m, n * r), and its cell at (i * m + k, j * r + h) is a(i, j) times b(k, h).
 ///
 /// Requires a result within the limit, which [`kron_ok`] tests, and that each product of a cell of `a` and one of `b` is in
-/// range. The error is allocation failure.
+/// range: of integers check both with [`kron_fits`](crate::linalg::kron_fits). The error is allocation failure.
 ///
 /// ```
 /// // a = [[1, 2]], b = [[3], [4]]

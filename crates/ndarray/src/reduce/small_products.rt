@@ -1,10 +1,11 @@
 //! Whether the cells of two arrays are so small that no sum of so many of their products leaves the integer type: one walk over each
-//! array, in place of one over each row and column of a product. The sum of the products of two lists of such cells.
+//! array, in place of one over each row and column of a product. Whether each product of two cells is in range, by such walks too. The
+//! sum of the products of two lists of such cells.
 
-ghost use Rattle.std.specs.Prelude.{◌≡◌, ◌++◌, ◌∷◌, ◌*◌, ◌-ℤ◌, ◌≤ℤ◌, [], ℕ, ℤ, List, IfSome, IsTrue, length, map, pos, unsigned_abs};
+ghost use Rattle.std.specs.Prelude.{◌≡◌, ◌⊎◌, ◌↔◌, ◌++◌, ◌∷◌, ◌*◌, ◌*ℤ◌, ◌-ℤ◌, ◌≤ℤ◌, [], ℕ, ℤ, List, IfSome, IsTrue, length, map, pos, unsigned_abs};
 ghost use Rattle.ndarray.specs.Integers.{int_products};
 ghost use Rattle.ndarray.specs.Products.{products_of};
-ghost use Rattle.ndarray.specs.reduce.SmallProducts.{AreUpTo, ExtremesSoFar, HaveSmallProducts, IsSumInRange};
+ghost use Rattle.ndarray.specs.reduce.SmallProducts.{AreUpTo, ExtremesSoFar, HaveProductsInRange, HaveSmallProducts, IsSumInRange};
 
 use crate::base::array::ArrayView;
 use crate::base::dimension::Lengths;
@@ -38,6 +39,17 @@ pub(crate) fn lists_have_small_products<A: IntegerElem>(
     are_small(&x, &y, count)
 }
 
+/// Whether the type has the product of each cell of an array and each cell of another: each lies between two products of their least
+/// and greatest cells.
+pub(crate) fn each_product_fits<A: IntegerElem, D: Lengths, E: Lengths>(
+    a: &ArrayView<'_, A, D>,
+    b: &ArrayView<'_, A, E>,
+) -> bool
+    ensures { IsTrue result ↔ HaveProductsInRange A.fits (map A.value a.now.cells) (map A.value b.now.cells) }
+{
+    corner_products_fit(&extremes_of_array(a), &extremes_of_array(b))
+}
+
 /// The least and the greatest of some numbers and zero.
 #[derive(Drop)]
 struct Extremes<A> {
@@ -65,6 +77,22 @@ fn are_small<A: IntegerElem>(x: &Extremes<A>, y: &Extremes<A>, count: usize) -> 
         return false;
     };
     true
+}
+
+/// Whether the type has the product of each number of one list and each number of another.
+fn corner_products_fit<A: IntegerElem>(x: &Extremes<A>, y: &Extremes<A>) -> bool
+    ensures { (xs ys : List ℤ) → ExtremesSoFar A.fits xs [] (A.value x.now.least) (A.value x.now.greatest)
+        → ExtremesSoFar A.fits ys [] (A.value y.now.least) (A.value y.now.greatest)
+        → IsTrue result ↔ HaveProductsInRange A.fits xs ys }
+{
+    both_products_fit(&x.least, y) && both_products_fit(&x.greatest, y)
+}
+
+/// Whether the type has the product of a number and the least of some others, and that of it and the greatest.
+fn both_products_fit<A: IntegerElem>(x: &A, y: &Extremes<A>) -> bool
+    ensures { IsTrue result ↔ (A.fits (A.value x.now *ℤ A.value y.now.least) × A.fits (A.value x.now *ℤ A.value y.now.greatest)) }
+{
+    x.checked_mul(&y.least).is_some() && x.checked_mul(&y.greatest).is_some()
 }
 
 /// A number that is at least so many times one that is not negative: that one, doubled as often as the count is halved. `None` where the
@@ -211,7 +239,7 @@ fn with_number<A: IntegerElem>(extremes: Extremes<A>, x: A) -> Extremes<A>
 /// The smaller of two numbers.
 #[inline(always)]
 fn smaller<A: IntegerElem>(x: A, y: A) -> A
-    ensures { (A.value result ≤ℤ A.value x) × (A.value result ≤ℤ A.value y) }
+    ensures { (A.value result ≤ℤ A.value x) × (A.value result ≤ℤ A.value y) × ((result ≡ x) ⊎ (result ≡ y)) }
 {
     if x < y { x } else { y }
 }
@@ -219,7 +247,7 @@ fn smaller<A: IntegerElem>(x: A, y: A) -> A
 /// The larger of two numbers.
 #[inline(always)]
 fn larger<A: IntegerElem>(x: A, y: A) -> A
-    ensures { (A.value x ≤ℤ A.value result) × (A.value y ≤ℤ A.value result) }
+    ensures { (A.value x ≤ℤ A.value result) × (A.value y ≤ℤ A.value result) × ((result ≡ x) ⊎ (result ≡ y)) }
 {
     if y < x { x } else { y }
 }

@@ -11,4 +11,4 @@ returns g c =
     let size = v c.in-Some.size in
     let is : size ≡ pos 0 -ℤ least = (g.met.A.CheckedSub.checked_sub_law c.zero.result c.args.extremes.now.least (Some c.in-Some.size) c.in-Some.ensures).1
     ∙ ap (λ z. z -ℤ least) (ap v c.zero.ensures ∙ g.met.A.Zero.zero_law exact) in
-    λ whole h. extremes-all g.A.Number.fits whole least (v c.args.extremes.now.greatest) size (v c.larger.result) is c.larger.ensures h
+    λ whole h. extremes-all g.A.Number.fits whole least (v c.args.extremes.now.greatest) size (v c.larger.result) is (c.larger.ensures.0, c.larger.ensures.1) h
