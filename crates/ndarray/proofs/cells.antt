@@ -1,4 +1,5 @@
 -- Arrays and their cells.
+pub mod AccumulationTests
 pub mod AlongAxis
 pub mod Assignments
 pub mod BlockRows

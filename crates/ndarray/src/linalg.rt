@@ -9,6 +9,7 @@ mod dynamic;
 mod dynamic_range_tests;
 mod entries;
 mod general;
+mod general_range_tests;
 pub(crate) mod inner;
 mod kronecker;
 mod kronecker_range_test;
@@ -21,6 +22,7 @@ mod scaled_addition;
 
 pub use crate::linalg::chains::{chain_ok, kron_dot, kron_dot_ok, mat_vec_chain};
 pub use crate::linalg::general::{general_mat_mul, general_mat_vec_mul, mat_mul_ok, mat_vec_ok};
+pub use crate::linalg::general_range_tests::{mat_mul_fits, mat_vec_fits};
 pub use crate::linalg::kronecker::{kron, kron_ok};
 pub use crate::linalg::kronecker_range_test::kron_fits;
 pub use crate::linalg::products::{Dot, dot_ok};
