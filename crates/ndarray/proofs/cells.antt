@@ -20,6 +20,7 @@ pub mod KroneckerRanges
 pub mod LaneCells
 pub mod LanePairs
 pub mod LanePlaces
+pub mod LaneProducts
 pub mod LaneSteps
 pub mod LaneSums
 pub mod LaneTests

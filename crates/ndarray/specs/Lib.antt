@@ -1,5 +1,6 @@
 pub mod Algebra
 pub mod AlongAxis
+pub mod AlongAxisRanges
 pub mod Broadcast
 pub mod Calls
 pub mod Chains

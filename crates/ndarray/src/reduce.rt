@@ -7,6 +7,7 @@ ghost use Rattle.ndarray.specs.Elementwise.{CanMap, MakesMapped};
 ghost use Rattle.ndarray.specs.Subviews.{lanes_of};
 ghost use Rattle.ndarray.specs.Sums.{IsSummableBy, total_by};
 
+mod along_axis_range_tests;
 mod cumprod;
 mod diff;
 pub(crate) mod range_tests;

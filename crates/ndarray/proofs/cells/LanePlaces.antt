@@ -23,7 +23,7 @@ use Rattle.ndarray.proofs.strides.Reach.{cell-at}
 use Rattle.ndarray.proofs.strides.Rows.{length-places_from, length-row_from, row-places}
 
 -- the index list that comes j after the first of a row
-row-get : (n : ℕ) (is : List ℕ) (axis j : ℕ) (d : List ℕ) → j < n → get_or (row_from is axis n) j d ≡ row_at is axis j
+pub row-get : (n : ℕ) (is : List ℕ) (axis j : ℕ) (d : List ℕ) → j < n → get_or (row_from is axis n) j d ≡ row_at is axis j
 row-get zero is axis j d lt = absurd (omega (arith, lt))
 row-get (suc n) is axis zero d lt = sym (row_at-none is axis)
 row-get (suc n) is axis (suc j) d lt =

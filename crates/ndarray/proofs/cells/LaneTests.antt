@@ -16,7 +16,7 @@ use Rattle.ndarray.proofs.cells.LanePairs.{EachColumn, at-index_list, inner, las
 use Rattle.ndarray.proofs.views.Items.{InBox-insert}
 
 -- one axis has no index where there is no index list, but one of the others
-none-along : (ns js : List ℕ) (k : ℕ) → k < length ns → size ns ≡ 0 → InBox (remove ns k) js → get_or ns k 0 ≡ 0
+pub none-along : (ns js : List ℕ) (k : ℕ) → k < length ns → size ns ≡ 0 → InBox (remove ns k) js → get_or ns k 0 ≡ 0
 none-along ns js k lt none inside = elim (cases_eq (get_or ns k 0) 0) [
   | inl zero ↦ zero
   | inr some ↦ (let positive = InBox-some ns (insert js k 0) (InBox-insert ns js k 0 lt (omega arith) inside) in absurd (omega (arith, positive, none)))

@@ -116,7 +116,7 @@ module _ {A B : Type 0} (gives : B → A → B × A → Type 0) (init : B) where
 
 -- the index lists of the first cells of lanes along an axis
 module _ (ns : List ℕ) (k m : ℕ) (lt : k < length ns) (one : m ≤ 1) (most : m ≤ get_or ns k 0) where
-  first-zero : (s : List ℕ) → InBox (set ns k m) s → get_or s k 0 ≡ 0
+  pub first-zero : (s : List ℕ) → InBox (set ns k m) s → get_or s k 0 ≡ 0
   first-zero s b =
       let l = length-set ns k m in
       let h = InBox-get (set ns k m) s k b (omega (arith, l, lt)) in

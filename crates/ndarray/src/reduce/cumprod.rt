@@ -25,8 +25,8 @@ impl<A: Copy + Mul<A, Output = A>, S: Data<Elem = A>, D: Lengths> ArrayBase<S, D
     /// The running products along an axis: at index 0 the cell, and from there on the cell times the product before
     /// it, with the cell on the left.
     ///
-    /// Requires `axis < ndim()`, which `axis_ok` tests, and that each product that is taken is defined. The error is
-    /// allocation failure.
+    /// Requires `axis < ndim()`, which `axis_ok` tests, and that each product that is taken is defined: of integers check both
+    /// with [`cumprod_fits`](Self::cumprod_fits). The error is allocation failure.
     ///
     /// ```
     /// let view = ArrayView::from_shape((2, 3), &[1i64, 2, 3, 4, 5, 6])?;
