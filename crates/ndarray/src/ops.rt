@@ -19,7 +19,7 @@ mod div;
 mod left_scalars;
 mod mul;
 pub(crate) mod operations;
-mod range_tests;
+pub(crate) mod range_tests;
 mod rem;
 mod shl;
 mod shr;

@@ -13,7 +13,7 @@ use crate::base::storage::Data;
 use crate::ops::operations::{Addition, Multiplication, Subtraction};
 use crate::zip::Zip;
 use crate::zip::producer::IntoBroadcast;
-use num_traits::{CheckedAdd, CheckedMul, CheckedNeg, CheckedSub, Num, One, Zero};
+use num_traits::{CheckedAdd, CheckedMul, CheckedNeg, CheckedSub, Num, One, Signed, Zero};
 
 impl<A: Zero + CheckedAdd, S: Data<Elem = A>, D: Lengths> ArrayBase<S, D> {
     /// Whether `self + rhs` may be computed: the shapes broadcast together, as [`broadcast_ok`](Self::broadcast_ok) tests, and
@@ -177,8 +177,8 @@ impl<A: One + CheckedMul, S: Data<Elem = A>, D: Lengths> ArrayBase<S, D> {
     }
 }
 
-impl<A: CheckedNeg, S: Data<Elem = A>, D: Lengths> ArrayBase<S, D> {
-    /// Whether `-self` may be computed: the type has the negative of each cell.
+impl<A: Signed + CheckedNeg, S: Data<Elem = A>, D: Lengths> ArrayBase<S, D> {
+    /// Whether `-self` may be computed: the type has the negative of each cell. For the signed types, as `-` is.
     ///
     /// Requires nothing, and the test allocates nothing.
     ///
@@ -187,14 +187,15 @@ impl<A: CheckedNeg, S: Data<Elem = A>, D: Lengths> ArrayBase<S, D> {
     /// assert!(!ArrayView::from_shape(1, &[-128i8])?.neg_fits());
     /// ```
     pub fn neg_fits(&self) -> bool
-        ensures { IsTrue result ↔ CanMap (λ x. A.fits (neg_ℤ (A.value x))) self.now }
+        ensures exact { IsTrue result ↔ CanMap (λ x. A.fits (neg_ℤ (A.value x))) self.now }
+        ensures defined { IsTrue result → CanMap A.can_neg self.now }
     {
         negatives_fit(&self.view())
     }
 }
 
 /// A test of two numbers: whether the result of an operation on them is a number of their type.
-trait RangeTest<A> {
+pub(crate) trait RangeTest<A> {
     // Whether the type has the result.
     ghost result_fits: { A → A → Type 0 };
 
@@ -291,7 +292,7 @@ fn assignment_fits<O: RangeTest<A>, A, D: Lengths, E: Lengths>(
 }
 
 /// Whether the type has the result at the two cells at each index list of two arrays of the same lengths.
-fn pairs_fit<O: RangeTest<A>, A, R: Lengths>(
+pub(crate) fn pairs_fit<O: RangeTest<A>, A, R: Lengths>(
     left: &ArrayView<'_, A, R>,
     right: &ArrayView<'_, A, R>,
 ) -> bool
