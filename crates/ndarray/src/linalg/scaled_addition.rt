@@ -1,14 +1,18 @@
-//! Adding an array times a number to another.
+//! Adding an array times a number to another, and whether the results are in range.
 
-ghost use Rattle.std.specs.Prelude.{◌≡◌, MatchResult};
+ghost use Rattle.std.specs.Prelude.{◌≡◌, ◌↔◌, ⊤, IsTrue, MatchResult};
 ghost use Rattle.ndarray.specs.Elementwise.{Assigns, CanAssign};
 ghost use Rattle.ndarray.specs.Products.{AddsProduct, CanAddProduct};
+ghost use Rattle.ndarray.specs.WholeValues.{whole_numbers};
 
 use crate::base::array::{ArrayBase, ArrayView};
 use crate::base::dimension::Lengths;
 use crate::base::storage::{Data, DataMut};
-use crate::elements::LinalgScalar;
 use crate::elements::sums::add_product;
+use crate::elements::{IntegerElem, IntegerScalar, LinalgScalar};
+use crate::zip::all_items::all_in_either_order;
+use crate::zip::closures::ItemCall;
+use crate::zip::pair::Pair;
 use crate::zip::producer::IntoBroadcast;
 use crate::zip::updating::{CellCall, try_update};
 use std::alloc::AllocError;
@@ -17,7 +21,7 @@ impl<A: LinalgScalar, S: DataMut<Elem = A>, D: Lengths> ArrayBase<S, D> {
     /// Adds to each cell `alpha` times the cell of another array there, which is broadcast to the shape of this one.
     ///
     /// Requires that `rhs` broadcasts to this shape, which `rhs.broadcast(self.raw_dim())` tests, and that each product and
-    /// each sum is in range. It allocates nothing.
+    /// each sum is in range: of integers check both with [`scaled_add_fits`](Self::scaled_add_fits). It allocates nothing.
     ///
     /// ```
     /// // array = [[1, 2], [3, 4]], row = [1, 2]
@@ -49,5 +53,68 @@ impl<'b, A: LinalgScalar> CellCall<A, &'b A> for ScaledAddition<A> {
 
     fn call(&mut self, cell: &A, item: &'b A) -> Result<A, AllocError> {
         Ok(add_product(*cell, self.alpha, *item))
+    }
+}
+
+impl<A: IntegerScalar, S: Data<Elem = A>, D: Lengths> ArrayBase<S, D> {
+    /// Whether `self.scaled_add(alpha, &rhs)` may be asked for: `rhs` broadcasts to the shape of this array, and the type has
+    /// `alpha` times each cell of it, and the sum of that and the cell there.
+    ///
+    /// Requires nothing, and the test allocates nothing.
+    ///
+    /// ```
+    /// if table.scaled_add_fits(-2, &row) {
+    ///     table.scaled_add(-2, &row);
+    /// }
+    /// ```
+    pub fn scaled_add_fits<S2: Data<Elem = A>, E: Lengths>(
+        &self,
+        alpha: A,
+        rhs: &ArrayBase<S2, E>,
+    ) -> bool
+        ensures exact { IsTrue result ↔ CanAssign (CanAddProduct (whole_numbers A.value A.fits) alpha) self.now rhs.now }
+        ensures defined { IsTrue result → CanAssign (CanAddProduct A.Valued alpha) self.now rhs.now }
+    {
+        scaled_sums_fit(alpha, &self.view(), &rhs.view())
+    }
+}
+
+/// The same of views.
+fn scaled_sums_fit<A: IntegerElem, D: Lengths, E: Lengths>(
+    alpha: A,
+    left: &ArrayView<'_, A, D>,
+    right: &ArrayView<'_, A, E>,
+) -> bool
+    ensures { IsTrue result ↔ CanAssign (CanAddProduct (whole_numbers A.value A.fits) alpha) left.now right.now }
+{
+    let Some(right) = right.broadcast_to(left.raw_dim()) else {
+        return false;
+    };
+    let cells = Pair {
+        first: left.view(),
+        second: right,
+    };
+    all_in_either_order(cells, ScaledSumTest { alpha })
+}
+
+/// Whether the type has `alpha` times an item, and a cell plus that, as a call.
+#[derive(Drop)]
+struct ScaledSumTest<A> {
+    alpha: A,
+}
+
+impl<'a, 'b, A: IntegerElem> ItemCall<(&'a A, &'b A)> for ScaledSumTest<A> {
+    type Out = bool;
+
+    ghost can_call = { λ _ _. ⊤ };
+
+    ghost call_gives = { λ c t r d. (IsTrue r ↔ CanAddProduct (whole_numbers A.value A.fits) c.alpha t.0.now t.1.now) × (d ≡ c) };
+
+    fn call(&mut self, item: (&'a A, &'b A)) -> bool {
+        let (cell, other) = item;
+        let Some(product) = self.alpha.checked_mul(other) else {
+            return false;
+        };
+        cell.checked_add(&product).is_some()
     }
 }
