@@ -51,10 +51,10 @@ module _ {A : Type 0} (number : A → ℤ) (fits : ℤ → Type 0) (alpha beta :
     rows-enough each = (
       λ i j row column. (each i row).0.0,
       λ is u at.
-      let inside = cell-inside y is u at in
-      let long : is ≡ get_or is 0 0 ∷ [] = one-length is (InBox-length y.lengths is inside ∙ ap length lengths) in
-      let row : InBox (get_or a.lengths 0 0 ∷ []) (get_or is 0 0 ∷ []) = subst (λ ns. InBox ns (get_or is 0 0 ∷ [])) lengths (subst (InBox y.lengths) long inside) in
-      (each (get_or is 0 0) row.0).1 u (ap (cell y) (sym long) ∙ at),
+          let inside = cell-inside y is u at in
+          let long : is ≡ get_or is 0 0 ∷ [] = one-length is (InBox-length y.lengths is inside ∙ ap length lengths) in
+          let row : InBox (get_or a.lengths 0 0 ∷ []) (get_or is 0 0 ∷ []) = subst (λ ns. InBox ns (get_or is 0 0 ∷ [])) lengths (subst (InBox y.lengths) long inside) in
+          (each (get_or is 0 0) row.0).1 u (ap (cell y) (sym long) ∙ at),
     )
 
     -- row i asks for the magnitude of its sum and for its cell
@@ -78,10 +78,10 @@ module _ {A : Type 0} (number : A → ℤ) (fits : ℤ → Type 0) (alpha beta :
     columns-enough each = (
       λ i j row column. (each j column i row).0.0,
       λ is u at.
-      let inside = cell-inside c is u at in
-      let long : is ≡ get_or is 0 0 ∷ get_or is 1 0 ∷ [] = two-lengths is (InBox-length c.lengths is inside ∙ two_c) in
-      let there : InBox (get_or a.lengths 0 0 ∷ get_or b.lengths 1 0 ∷ []) (get_or is 0 0 ∷ get_or is 1 0 ∷ []) = subst (λ ns. InBox ns (get_or is 0 0 ∷ get_or is 1 0 ∷ [])) lengths (subst (InBox c.lengths) long inside) in
-      (each (get_or is 1 0) there.1.0 (get_or is 0 0) there.0).1 u (ap (cell c) (sym long) ∙ at),
+          let inside = cell-inside c is u at in
+          let long : is ≡ get_or is 0 0 ∷ get_or is 1 0 ∷ [] = two-lengths is (InBox-length c.lengths is inside ∙ two_c) in
+          let there : InBox (get_or a.lengths 0 0 ∷ get_or b.lengths 1 0 ∷ []) (get_or is 0 0 ∷ get_or is 1 0 ∷ []) = subst (λ ns. InBox ns (get_or is 0 0 ∷ get_or is 1 0 ∷ [])) lengths (subst (InBox c.lengths) long inside) in
+          (each (get_or is 1 0) there.1.0 (get_or is 0 0) there.0).1 u (ap (cell c) (sym long) ∙ at),
     )
 
     -- where there are no cells, nothing is asked
@@ -115,9 +115,9 @@ module _ {A : Type 0} (number : A → ℤ) (fits : ℤ → Type 0) (alpha beta :
       column-needed all = (
         λ i k row _. subst (λ zs. fits (pos (magnitude_sum zs))) (sym (same-products i)) (all.0 i j row column),
         λ is u at.
-        let inside = cell-inside y is u at in
-        let long : is ≡ get_or is 0 0 ∷ [] = one-length is (InBox-length y.lengths is inside ∙ ap length column-lengths) in
-        let there : InBox (get_or a.lengths 0 0 ∷ []) (get_or is 0 0 ∷ []) = subst (λ ns. InBox ns (get_or is 0 0 ∷ [])) column-lengths (subst (InBox y.lengths) long inside) in
-        let here : cell c (get_or is 0 0 ∷ j ∷ []) ≡ Some u = sym (same-cell (get_or is 0 0) there.0) ∙ (ap (cell y) (sym long) ∙ at) in
-        subst (λ zs. CanAddScaled v (number alpha) (number beta) (number u) (total int_sums zs)) (sym (same-products (get_or is 0 0))) (all.1 (get_or is 0 0 ∷ j ∷ []) u here),
+            let inside = cell-inside y is u at in
+            let long : is ≡ get_or is 0 0 ∷ [] = one-length is (InBox-length y.lengths is inside ∙ ap length column-lengths) in
+            let there : InBox (get_or a.lengths 0 0 ∷ []) (get_or is 0 0 ∷ []) = subst (λ ns. InBox ns (get_or is 0 0 ∷ [])) column-lengths (subst (InBox y.lengths) long inside) in
+            let here : cell c (get_or is 0 0 ∷ j ∷ []) ≡ Some u = sym (same-cell (get_or is 0 0) there.0) ∙ (ap (cell y) (sym long) ∙ at) in
+            subst (λ zs. CanAddScaled v (number alpha) (number beta) (number u) (total int_sums zs)) (sym (same-products (get_or is 0 0))) (all.1 (get_or is 0 0 ∷ j ∷ []) u here),
       )

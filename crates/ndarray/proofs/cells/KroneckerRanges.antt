@@ -47,9 +47,9 @@ module _ {A : Type 0} (number : A → ℤ) (fits : ℤ → Type 0) where
     listed-products = (
       λ lists i j k l row column below across. lists _ _ (value-listed g whole_g two_g i j row column) (value-listed h whole_h two_h k l below across),
       λ each x y there also.
-      let (i, j, row, column, left) = value-placed g whole_g two_g x there in
-      let (k, l, below, across, right) = value-placed h whole_h two_h y also in
-      subst (λ z. fits (z *ℤ y)) left (subst (λ z. fits (value_at (whole_numbers number fits) g (i ∷ j ∷ []) *ℤ z)) right (each i j k l row column below across)),
+          let (i, j, row, column, left) = value-placed g whole_g two_g x there in
+          let (k, l, below, across, right) = value-placed h whole_h two_h y also in
+          subst (λ z. fits (z *ℤ y)) left (subst (λ z. fits (value_at (whole_numbers number fits) g (i ∷ j ∷ []) *ℤ z)) right (each i j k l row column below across)),
     )
 
   -- where one of them has no cells, nothing is asked

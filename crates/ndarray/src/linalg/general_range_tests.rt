@@ -128,7 +128,9 @@ fn rows_accumulate<A: IntegerScalar>(
     let (_vector, _into) = (x.raw_dim(), y.raw_dim());
     let (m, _) = a.raw_dim().into_pattern();
     for i in 0..m {
-        let Some(entry) = y.get(i) else { unreachable!() };
+        let Some(entry) = y.get(i) else {
+            unreachable!()
+        };
         let row = a.index_axis(Axis(0), i);
         if !entry_accumulates(alpha, &row, x, beta, *entry) {
             return false;

@@ -39,12 +39,13 @@ loop-i-preserved g c =
     let on = c.if-not-entry_accumulates.false in
     let yes = c.entry_accumulates.ensures.exact.0 on in
     let can = subst (λ zs. CanAddScaled (whole_numbers v fits) (v c.args.alpha) (v c.args.beta) (v c.in-Some.entry.now) (total int_sums zs)) same yes.1 in
-    λ k lt. below-next (RowAccumulates v fits c.args.alpha c.args.beta c.args.a.now c.args.x.now c.args.y.now) c.loop-i.i c.loop-i.invariant
-    (subst (ProductsFit fits) same (yes.0, c.entry_accumulates.ensures.sums on),
-    λ u at.
-    let there = c.in-Some.ensures.value in
-    let is : c.in-Some.entry.now ≡ u = cc in
-    subst (λ z. CanAddScaled (whole_numbers v fits) (v c.args.alpha) (v c.args.beta) (v z) (total int_sums (inner_products int_products (matrix_of (whole_numbers v fits) c.args.a.now) (column_of (whole_numbers v fits) c.args.x.now) c.loop-i.i 0))) is can)
+    λ k lt. below-next (RowAccumulates v fits c.args.alpha c.args.beta c.args.a.now c.args.x.now c.args.y.now) c.loop-i.i c.loop-i.invariant (
+      subst (ProductsFit fits) same (yes.0, c.entry_accumulates.ensures.sums on),
+      λ u at.
+          let there = c.in-Some.ensures.value in
+          let is : c.in-Some.entry.now ≡ u = cc in
+          subst (λ z. CanAddScaled (whole_numbers v fits) (v c.args.alpha) (v c.args.beta) (v z) (total int_sums (inner_products int_products (matrix_of (whole_numbers v fits) c.args.a.now) (column_of (whole_numbers v fits) c.args.x.now) c.loop-i.i 0))) is can,
+    )
     k (omega (arith, lt))
 
 pub returns-clause-exact : goal.returns-clause-exact
