@@ -1,4 +1,13 @@
+pub mod FaultsPassedOn
 pub mod FibonacciTerms
+pub mod Filtered
+pub mod Generations
+pub mod Marks
+pub mod OneLine
+pub mod OneReading
 pub mod Pictures
 pub mod Recurrences
 pub mod Reports
+pub mod Taken
+pub mod Words
+pub mod Written

@@ -1,6 +1,16 @@
+pub mod Answering
+pub mod Commands
+pub mod Faults
 pub mod Fir
+pub mod Inputs
 pub mod Life
 pub mod Picture
+pub mod Pixels
 pub mod Printing
 pub mod Recurrence
 pub mod Report
+pub mod Rows
+pub mod Signal
+pub mod Spelling
+pub mod Streams
+pub mod Words

@@ -1,5 +1,5 @@
 -- How lines, pictures and grids are printed, as bytes.
-use Rattle.std.specs.Prelude.{ℕ, ℤ, Bool, if◌then◌else◌, List, [], ◌∷◌, ◌++◌, codes, decimal, flat_map, map, slice_index}
+use Rattle.std.specs.Prelude.{ℕ, ℤ, Bool, if◌then◌else◌, List, [], ◌∷◌, ◌++◌, codes, decimal, flat_map, length, map, nat_eq, slice_index}
 use Rattle.std.specs.Fmt.{signed_decimal}
 use Rattle.std.specs.List.{zip}
 use Rattle.ndarray.specs.Grid.{Grid}
@@ -18,9 +18,13 @@ line_text (x ∷ xs) = signed_decimal x ++ (others_text xs ++ 10 ∷ [])
 abbrev pub rows_text : List (Grid ℤ) → List ℕ
 rows_text rows = flat_map (λ row. line_text row.cells) rows
 
+-- the rows of a picture, and none where it has no pixels, however many rows it has
+abbrev pub pixels_text : Grid ℤ → List ℕ
+pixels_text g = if nat_eq (length g.cells) 0 then [] else rows_text (lanes_of g 1).cells
+
 -- a grey picture in plain PGM: its form, the numbers of columns and rows, the greatest pixel, and the rows
 abbrev pub picture_text : Grid ℤ → List ℕ
-picture_text g = (codes "P2\n" ++ (decimal (slice_index g.lengths 1) ++ (codes " " ++ (decimal (slice_index g.lengths 0) ++ codes "\n255\n")))) ++ rows_text (lanes_of g 1).cells
+picture_text g = (codes "P2\n" ++ (decimal (slice_index g.lengths 1) ++ (codes " " ++ (decimal (slice_index g.lengths 0) ++ codes "\n255\n")))) ++ pixels_text g
 
 -- a living cell as `#`, a dead one as `.`
 abbrev pub mark_of : Bool → ℕ

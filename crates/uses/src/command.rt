@@ -1,25 +1,24 @@
-//! The commands: each returns the text that it prints for its input.
+//! The commands: the words that spell them, and the text that each prints for its input.
 
-ghost use Rattle.std.specs.Prelude.{◌≡◌, ◌≤◌, ◌∷◌, ◌++◌, [], ℕ, ℤ, decimal, slice_index, IfOk, string_bytes};
-ghost use Rattle.ndarray.specs.Grid.{Grid, array_by};
-ghost use Rattle.ndarray.specs.Integers.{int_sums};
+ghost use Rattle.std.specs.Prelude.{◌≡◌, ◌≤◌, ◌∷◌, ◌++◌, [], ℕ, decimal, length, map, slice_index, IfOk, IfErr, MatchOption, string_bytes};
+ghost use Rattle.std.specs.Str.Parse.{ParsesUnsigned};
 ghost use Rattle.ndarray.specs.Limits.{IsWithinLimit};
-ghost use Rattle.ndarray.specs.Sums.{total};
 ghost use Rattle.residue.specs.Residue.{Below, modulus};
-ghost use Rattle.uses.specs.Fir.{IsFilteredSignal};
-ghost use Rattle.uses.specs.Life.{generation};
-ghost use Rattle.uses.specs.Picture.{HasInnerPixels, edge_pixel, mean_pixel};
-ghost use Rattle.uses.specs.Printing.{grid_text, line_text, picture_text, report_text};
+ghost use Rattle.uses.specs.Answering.{PrintsFiltered, PrintsGeneration, PrintsPicture, PrintsReport, PrintsTerm};
+ghost use Rattle.uses.specs.Faults.{IsFaultOf};
+ghost use Rattle.uses.specs.Inputs.{IsOrder, residue};
+ghost use Rattle.uses.specs.Picture.{blur_kernel, edge_kernel, edge_pixel, mean_pixel};
 ghost use Rattle.uses.specs.Recurrence.{IsRecurrence};
-ghost use Rattle.uses.specs.Report.{column_total, row_total};
 
-use crate::fault::Fault;
+use crate::fault::{Fault, Place};
 use crate::printing::{grid_text, line_text, picture_text, report_text};
 use crate::recurrence::{MODULUS, term};
+use crate::signal::taps_and_signal;
+use crate::spelling::numbers;
 use crate::{fir, life, picture, reading, report};
-use ndarray::{Array, ArrayView1, Ix2, Lengths, Valued};
+use ndarray::{ArrayView1, Ix2, Lengths, Valued};
 use residue::Residue;
-use std::alloc::Global;
+use std::alloc::{AllocError, Global};
 
 /// A command, with its number.
 #[derive(Clone, Copy, PartialEq, Eq, Debug)]
@@ -40,106 +39,161 @@ pub enum Command {
 }
 
 impl Command {
+    ghost use Rattle.uses.specs.Answering.{Prints};
+    ghost use Rattle.uses.specs.Commands.{Spells};
+
     /// The command that words spell.
-    pub fn spelled(words: &[String]) -> Result<Command, Fault> {
+    pub fn spelled(words: &[String]) -> Result<Command, Fault>
+        ensures spelled { IfOk result (Spells (map string_bytes words.now)) }
+        ensures err { IfErr result (IsFaultOf (Spells (map string_bytes words.now))) }
+    {
         match words {
-            [name] => match name.as_str() {
-                "blur" => Ok(Command::Blur),
-                "edges" => Ok(Command::Edges),
-                "report" => Ok(Command::Report),
-                _ => Err(Fault::Usage),
-            },
-            [name, number] => match name.as_str() {
-                "fir" => Ok(Command::Fir(number.parse::<u32>().map_err(|_| Fault::Number)?)),
-                "life" => Ok(Command::Life(number.parse::<u64>().map_err(|_| Fault::Number)?)),
-                "recurrence" => Ok(Command::Recurrence(
-                    number.parse::<u64>().map_err(|_| Fault::Number)?,
-                )),
-                _ => Err(Fault::Usage),
-            },
+            [name] => Command::alone(name.as_str()),
+            [name, number] => Command::with_number(name.as_str(), number.as_str()),
+            _ => Err(Fault::Usage),
+        }
+    }
+
+    /// The command that a name alone spells.
+    fn alone(name: &str) -> Result<Command, Fault>
+        ensures spelled { IfOk result (Spells (name.now ∷ [])) }
+        ensures err { IfErr result (IsFaultOf (Spells (name.now ∷ []))) }
+    {
+        match name {
+            "blur" => Ok(Command::Blur),
+            "edges" => Ok(Command::Edges),
+            "report" => Ok(Command::Report),
+            _ => Err(Fault::Usage),
+        }
+    }
+
+    /// The command that a name and a number spell.
+    fn with_number(name: &str, number: &str) -> Result<Command, Fault>
+        ensures spelled { IfOk result (Spells (name.now ∷ number.now ∷ [])) }
+        ensures err { IfErr result (IsFaultOf (Spells (name.now ∷ number.now ∷ []))) }
+    {
+        match name {
+            "fir" => Ok(Command::Fir(shift(number)?)),
+            "life" => Ok(Command::Life(count(number)?)),
+            "recurrence" => Ok(Command::Recurrence(count(number)?)),
             _ => Err(Fault::Usage),
         }
     }
 
     /// What the command prints for an input.
-    pub fn answer(self, alloc: Global, input: &str) -> Result<String, Fault> {
+    pub fn answer(self, alloc: Global, input: &str) -> Result<String, Fault>
+        ensures text { IfOk result (λ text. Prints self input.now (string_bytes text)) }
+        ensures err { IfErr result (IsFaultOf (Prints self input.now)) }
+    {
         match self {
-            Command::Blur => blur(alloc, &reading::picture(alloc, input)?),
-            Command::Edges => edges(alloc, &reading::picture(alloc, input)?),
+            Command::Blur => blur(alloc, input),
+            Command::Edges => edges(alloc, input),
             Command::Fir(shift) => filtered(alloc, input, shift),
-            Command::Life(steps) => later(alloc, &reading::grid(alloc, input)?, steps),
+            Command::Life(steps) => later(alloc, input, steps),
             Command::Recurrence(n) => nth_term(alloc, input, n),
-            Command::Report => reported(alloc, &reading::table(alloc, input)?),
+            Command::Report => reported(alloc, input),
         }
     }
 }
 
-/// The blur of a picture.
-fn blur(alloc: Global, image: &Array<i64, Ix2>) -> Result<String, Fault>
-    ensures { IfOk result (λ text. (blurred : Grid ℤ) × HasInnerPixels image.now (mean_pixel image.now) blurred × (string_bytes text ≡ picture_text blurred)) }
+/// A word as a number of bits.
+fn shift(word: &str) -> Result<u32, Fault>
+    ensures { ParsesUnsigned 32 10 word.now result }
 {
-    let blurred = picture::blur(alloc, image)?.ok_or(Fault::Range)?;
-    Ok(picture_text(alloc, &blurred.view())?)
+    word.parse::<u32>()
+        .map_err(|_| Fault::Number(Place::Argument))
+}
+
+/// A word as a number of steps or of a term.
+fn count(word: &str) -> Result<u64, Fault>
+    ensures { ParsesUnsigned 64 10 word.now result }
+{
+    word.parse::<u64>()
+        .map_err(|_| Fault::Number(Place::Argument))
+}
+
+/// The blur of a picture.
+fn blur(alloc: Global, input: &str) -> Result<String, Fault>
+    ensures text { IfOk result (λ text. PrintsPicture blur_kernel mean_pixel input.now (string_bytes text)) }
+    ensures err { IfErr result (IsFaultOf (PrintsPicture blur_kernel mean_pixel input.now)) }
+{
+    let image = reading::picture(alloc, input)?;
+    let Some(blurred) = picture::blur(alloc, &image)? else {
+        return Err(Fault::Range);
+    };
+    let text = picture_text(alloc, &blurred.view())?;
+    Ok(text)
 }
 
 /// The edges of a picture.
-fn edges(alloc: Global, image: &Array<i64, Ix2>) -> Result<String, Fault>
-    ensures { IfOk result (λ text. (edges : Grid ℤ) × HasInnerPixels image.now (edge_pixel image.now) edges × (string_bytes text ≡ picture_text edges)) }
+fn edges(alloc: Global, input: &str) -> Result<String, Fault>
+    ensures text { IfOk result (λ text. PrintsPicture edge_kernel edge_pixel input.now (string_bytes text)) }
+    ensures err { IfErr result (IsFaultOf (PrintsPicture edge_kernel edge_pixel input.now)) }
 {
-    let edges = picture::edges(alloc, image)?.ok_or(Fault::Range)?;
-    Ok(picture_text(alloc, &edges.view())?)
+    let image = reading::picture(alloc, input)?;
+    let Some(edges) = picture::edges(alloc, &image)? else {
+        return Err(Fault::Range);
+    };
+    let text = picture_text(alloc, &edges.view())?;
+    Ok(text)
 }
 
 /// A grid after some steps.
-fn later(alloc: Global, grid: &Array<bool, Ix2>, steps: u64) -> Result<String, Fault>
-    ensures { IfOk result (λ text. string_bytes text ≡ grid_text (generation steps grid.now)) }
+fn later(alloc: Global, input: &str, steps: u64) -> Result<String, Fault>
+    ensures text { IfOk result (λ text. PrintsGeneration steps input.now (string_bytes text)) }
+    ensures err { IfErr result (IsFaultOf (PrintsGeneration steps input.now)) }
 {
-    let last = life::after(alloc, grid, steps)?;
-    Ok(grid_text(alloc, &last.view())?)
+    let grid = reading::grid(alloc, input)?;
+    let last = life::after(alloc, &grid, steps)?;
+    let text = grid_text(alloc, &last.view())?;
+    Ok(text)
 }
 
-/// A signal filtered by taps: the second line of an input, and its first.
-fn filtered(alloc: Global, input: &str, shift: u32) -> Result<String, Fault> {
-    let (first, second) = input.split_once('\n').ok_or(Fault::Input)?;
-    let taps = reading::numbers(alloc, first)?;
-    let signal = reading::numbers(alloc, second)?;
-    let (taps, signal) = (taps.as_slice(), signal.as_slice());
-    filtered_line(
-        alloc,
-        &ArrayView1::from(signal),
-        &ArrayView1::from(taps),
-        shift,
-    )
-}
-
-/// A filtered signal as a line.
-fn filtered_line(
-    alloc: Global,
-    signal: &ArrayView1<'_, i64>,
-    taps: &ArrayView1<'_, i64>,
-    shift: u32,
-) -> Result<String, Fault>
-    ensures { IfOk result (λ text. (filtered : Grid ℤ) × IsFilteredSignal signal.now taps.now shift filtered × (string_bytes text ≡ line_text filtered.cells)) }
+/// A signal filtered by taps.
+fn filtered(alloc: Global, input: &str, shift: u32) -> Result<String, Fault>
+    ensures text { IfOk result (λ text. PrintsFiltered shift input.now (string_bytes text)) }
+    ensures err { IfErr result (IsFaultOf (PrintsFiltered shift input.now)) }
 {
-    let filtered = fir::filter(alloc, signal, taps, shift)?.ok_or(Fault::Range)?;
-    Ok(line_text(alloc, &filtered.view())?)
+    let (taps, signal) = taps_and_signal(alloc, input)?;
+    let taps = ArrayView1::from(taps.as_slice());
+    let signal = ArrayView1::from(signal.as_slice());
+    let Some(filtered) = fir::filter(alloc, &signal, &taps, shift)? else {
+        return Err(Fault::Range);
+    };
+    let text = line_text(alloc, &filtered.view())?;
+    Ok(text)
 }
 
 /// Term `n` of the recurrence whose coefficients are the first half of the numbers of an input, and whose first terms are the
 /// second.
-fn nth_term(alloc: Global, input: &str, n: u64) -> Result<String, Fault> {
-    let numbers = residues(alloc, reading::numbers(alloc, input)?.as_slice())?;
-    let order = numbers.len() / 2;
-    if order == 0 || numbers.len() % 2 != 0 || !Ix2(order, order).size_ok() {
-        return Err(Fault::Shape);
+fn nth_term(alloc: Global, input: &str, n: u64) -> Result<String, Fault>
+    ensures text { IfOk result (λ text. PrintsTerm n input.now (string_bytes text)) }
+    ensures err { IfErr result (IsFaultOf (PrintsTerm n input.now)) }
+{
+    let numbers = numbers(alloc, input, 0)?;
+    let Some(order) = order_of(numbers.len()) else {
+        return Err(Fault::Shape(Place::Whole));
+    };
+    let residues = residues(alloc, numbers.as_slice())?;
+    let (coefficients, first) = residues.as_slice().split_at(order);
+    let coefficients = ArrayView1::from(coefficients);
+    let first = ArrayView1::from(first);
+    let text = term_line(alloc, &coefficients, &first, n)?;
+    Ok(text)
+}
+
+/// Half of a count of numbers, where that is the order of a recurrence.
+fn order_of(count: usize) -> Option<usize>
+    ensures { MatchOption result ((order : ℕ) → IsOrder count order → ⊥) (IsOrder count) }
+{
+    let order = count / 2;
+    if order == 0 || count % 2 != 0 {
+        return None;
     }
-    let (coefficients, first) = numbers.as_slice().split_at(order);
-    term_line(
-        alloc,
-        &ArrayView1::from(coefficients),
-        &ArrayView1::from(first),
-        n,
-    )
+    if !Ix2(order, order).size_ok() {
+        return None;
+    }
+    Some(order)
 }
 
 /// Term `n` of a recurrence as a line. Requires what `term` does.
@@ -148,18 +202,21 @@ fn term_line(
     coefficients: &ArrayView1<'_, Residue<MODULUS>>,
     first: &ArrayView1<'_, Residue<MODULUS>>,
     n: u64,
-) -> Result<String, Fault>
+) -> Result<String, AllocError>
     requires order { 1 ≤ slice_index first.now.lengths 0 }
     requires lengths { coefficients.now.lengths ≡ first.now.lengths }
     requires limit { IsWithinLimit (slice_index first.now.lengths 0 ∷ slice_index first.now.lengths 0 ∷ []) }
     ensures { IfOk result (λ text. (s : ℕ → Below (modulus 1000000007)) → IsRecurrence ⟦<Residue<1000000007> as Valued>⟧ coefficients.now first.now s → string_bytes text ≡ decimal (s n).number ++ 10 ∷ []) }
 {
     let number = term(alloc, coefficients, first, n)?.number();
-    Ok(format!(in alloc; "{number}\n")?)
+    let text = format!(in alloc; "{number}\n")?;
+    Ok(text)
 }
 
 /// Numbers as residues.
-fn residues(alloc: Global, numbers: &[i64]) -> Result<Vec<Residue<MODULUS>>, Fault> {
+fn residues(alloc: Global, numbers: &[i64]) -> Result<Vec<Residue<MODULUS>>, AllocError>
+    ensures { IfOk result (λ residues. residues.items ≡ map residue numbers.now) }
+{
     let mut residues = Vec::with_capacity(alloc, numbers.len())?;
     for number in numbers {
         residues.push(Residue::new(number.rem_euclid(MODULUS as i64) as u32))?;
@@ -168,9 +225,14 @@ fn residues(alloc: Global, numbers: &[i64]) -> Result<Vec<Residue<MODULUS>>, Fau
 }
 
 /// A table with the sum of each row behind it, and below it the sum of each column and of all.
-fn reported(alloc: Global, table: &Array<i64, Ix2>) -> Result<String, Fault>
-    ensures { IfOk result (λ text. string_bytes text ≡ report_text table.now (array_by (slice_index table.now.lengths 0 ∷ []) (row_total table.now)) (array_by (slice_index table.now.lengths 1 ∷ []) (column_total table.now)) (total int_sums table.now.cells)) }
+fn reported(alloc: Global, input: &str) -> Result<String, Fault>
+    ensures text { IfOk result (λ text. PrintsReport input.now (string_bytes text)) }
+    ensures err { IfErr result (IsFaultOf (PrintsReport input.now)) }
 {
-    let (rows, columns, all) = report::totals(alloc, table)?.ok_or(Fault::Range)?;
-    Ok(report_text(alloc, &table.view(), &rows.view(), &columns.view(), all)?)
+    let table = reading::table(alloc, input)?;
+    let Some((rows, columns, all)) = report::totals(alloc, &table)? else {
+        return Err(Fault::Range);
+    };
+    let text = report_text(alloc, &table.view(), &rows.view(), &columns.view(), all)?;
+    Ok(text)
 }

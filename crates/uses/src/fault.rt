@@ -4,29 +4,63 @@ ghost use Rattle.uses.specs.declared.fault.Fault.TheVariants.{Memory};
 ghost use Rattle.std.specs.Prelude.{◌≡◌};
 
 use std::alloc::{AllocError, AllocFailed};
-use thiserror::Error;
 
-/// A fault of the words or of the input, or allocation failure. It prints as its word.
-#[derive(Clone, Copy, PartialEq, Eq, Debug, Error)]
+/// Where a fault is. Words and lines are counted from 0.
+#[derive(Clone, Copy, PartialEq, Eq, Debug)]
+pub enum Place {
+    /// In the whole.
+    Whole,
+    /// The number of the command.
+    Argument,
+    /// A line of the input.
+    Line(usize),
+    /// A word of the input, whatever its line.
+    Word(usize),
+    /// The end of the input.
+    End,
+}
+
+/// A fault of the words or of the input, or allocation failure. It prints as a line with its word.
+#[derive(Clone, Copy, PartialEq, Eq, Debug)]
 pub enum Fault {
     /// No command, an unknown one, or a word too few or too many.
-    #[error("usage")]
     Usage,
-    /// An input that is no text, or has not the form that the command reads.
-    #[error("input")]
-    Input,
+    /// An input that cannot be read, is no text, or has not the form that the command reads.
+    Input(Place),
     /// A word that spells no number, or a pixel that is not within its range.
-    #[error("number")]
-    Number,
+    Number(Place),
     /// Rows that are not equally long, or more or fewer numbers than are to be.
-    #[error("shape")]
-    Shape,
+    Shape(Place),
     /// A result, on the way too, that may not fit its type.
-    #[error("range")]
     Range,
     /// Allocation failure.
-    #[error("memory")]
     Memory,
+}
+
+impl Fault {
+    ghost use Rattle.uses.specs.Streams.{word_of};
+
+    /// Its word.
+    pub fn word(self) -> &'static str
+        ensures { result.now ≡ word_of self }
+    {
+        match self {
+            Fault::Usage => "usage",
+            Fault::Input(_) => "input",
+            Fault::Number(_) => "number",
+            Fault::Shape(_) => "shape",
+            Fault::Range => "range",
+            Fault::Memory => "memory",
+        }
+    }
+
+    /// Where it is.
+    pub fn place(self) -> Place {
+        match self {
+            Fault::Input(place) | Fault::Number(place) | Fault::Shape(place) => place,
+            Fault::Usage | Fault::Range | Fault::Memory => Place::Whole,
+        }
+    }
 }
 
 impl From<AllocError> for Fault {

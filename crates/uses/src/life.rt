@@ -23,7 +23,7 @@ ghost use Rattle.uses.specs.Life.{generation, living, living_in_row, next_state_
 use ndarray::{Array, ArrayBase, ArrayView, Data, Dimension, Ix2, Zip};
 use std::alloc::{AllocError, Global};
 
-/// The grid after a number of steps. The error is allocation failure.
+/// The grid after a number of steps; one without cells at once. The error is allocation failure.
 pub fn after<S: Data<Elem = bool>>(
     alloc: Global,
     grid: &ArrayBase<S, Ix2>,
@@ -33,6 +33,9 @@ pub fn after<S: Data<Elem = bool>>(
     ensures empty { size grid.now.lengths ≡ 0 → IsOk result }
 {
     let mut now = grid.to_owned(alloc)?;
+    if now.len() == 0 {
+        return Ok(now);
+    }
     for _ in 0..steps {
         now = step(alloc, &now)?;
     }

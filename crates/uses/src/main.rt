@@ -10,11 +10,16 @@ mod fault;
 pub mod fir;
 pub mod life;
 pub mod picture;
+mod pixels;
 mod printing;
 mod program;
 mod reading;
 pub mod recurrence;
 pub mod report;
+mod reporting;
+mod rows;
+mod signal;
+mod spelling;
 
 use crate::fault::Fault;
 use std::process::ExitCode;
@@ -23,17 +28,14 @@ use std::{env, io};
 
 fn main(rt: HostRuntime) -> ExitCode {
     let status = match given_words(&rt) {
-        Ok(words) => match io::read_to_string(rt.alloc(), rt.stdin()) {
-            Ok(input) => program::run(
-                rt.alloc(),
-                words.as_slice(),
-                input.as_str(),
-                &mut rt.stdout(),
-                &mut rt.stderr(),
-            ),
-            Err(_) => program::report(Fault::Input, &mut rt.stderr()),
-        },
-        Err(_) => program::report(Fault::Memory, &mut rt.stderr()),
+        Ok(words) => program::run(
+            rt.alloc(),
+            words.as_slice(),
+            rt.stdin(),
+            &mut rt.stdout(),
+            &mut rt.stderr(),
+        ),
+        Err(_) => program::report(rt.alloc(), Fault::Memory, &[], "", &mut rt.stderr()),
     };
     ExitCode::from(status)
 }

@@ -30,10 +30,11 @@ use std::alloc::{AllocError, Global};
 pub type Filtered = Result<Option<Array<i64, Ix2>>, AllocError>;
 
 /// A picture with each pixel the mean of a square of three by three pixels, rounded towards zero. `None` where a sum of nine
-/// pixels may be no `i64`. Where the image has fewer than three rows or columns there is no error.
+/// pixels may be no `i64`; there, and where the image has fewer than three rows or columns, there is no error.
 pub fn blur<S: Data<Elem = i64>>(alloc: Global, image: &ArrayBase<S, Ix2>) -> Filtered
     ensures when { IfOk result (λ made. IsSome made ↔ HasValidMagnitudesInRange (λ x. x) (FitsSigned w64) image.now blur_kernel) }
     ensures pixels { IfOk result (λ made. IfSome made (HasInnerPixels image.now (mean_pixel image.now))) }
+    ensures unfit { (HasValidMagnitudesInRange (λ x. x) (FitsSigned w64) image.now blur_kernel → ⊥) → IsOk result }
     ensures small { (slice_index image.now.lengths 0 ≤ 2) ⊎ (slice_index image.now.lengths 1 ≤ 2) → IsOk result }
 {
     let Some(sums) = filter(alloc, image, &kernel(&[1, 1, 1, 1, 1, 1, 1, 1, 1]))? else {
@@ -44,10 +45,11 @@ pub fn blur<S: Data<Elem = i64>>(alloc: Global, image: &ArrayBase<S, Ix2>) -> Fi
 }
 
 /// A picture with each pixel how much the pixel in the middle of a square of three by three differs from those round it. `None`
-/// where a sum may be no `i64`. Where the image has fewer than three rows or columns there is no error.
+/// where a sum may be no `i64`; there, and where the image has fewer than three rows or columns, there is no error.
 pub fn edges<S: Data<Elem = i64>>(alloc: Global, image: &ArrayBase<S, Ix2>) -> Filtered
     ensures when { IfOk result (λ made. IsSome made ↔ HasValidMagnitudesInRange (λ x. x) (FitsSigned w64) image.now edge_kernel) }
     ensures pixels { IfOk result (λ made. IfSome made (HasInnerPixels image.now (edge_pixel image.now))) }
+    ensures unfit { (HasValidMagnitudesInRange (λ x. x) (FitsSigned w64) image.now edge_kernel → ⊥) → IsOk result }
     ensures small { (slice_index image.now.lengths 0 ≤ 2) ⊎ (slice_index image.now.lengths 1 ≤ 2) → IsOk result }
 {
     let Some(sums) = filter(alloc, image, &kernel(&[-1, -1, -1, -1, 8, -1, -1, -1, -1]))? else {

@@ -2,7 +2,7 @@
 
 ghost use Rattle.std.specs.Prelude.{◌≡◌, ◌<◌, ◌++◌, ◌∷◌, [], map, IfOk, OnOk, string_bytes};
 ghost use Rattle.ndarray.specs.Subviews.{lanes_of};
-ghost use Rattle.uses.specs.Printing.{grid_text, line_text, mark_of, others_text, picture_text, report_text, rows_text, sum_text};
+ghost use Rattle.uses.specs.Printing.{grid_text, line_text, mark_of, others_text, picture_text, pixels_text, report_text, rows_text, sum_text};
 
 use ndarray::iter::Iter;
 use ndarray::{ArrayView, Dimension, Ix1, Ix2};
@@ -37,14 +37,24 @@ fn push_sum(text: &mut String, line: &ArrayView<'_, i64, Ix1>, sum: i64) -> Resu
     write!(text, "{sum}\n")
 }
 
-/// A picture as plain PGM.
+/// A picture as plain PGM: a line for each row, where it has pixels.
 pub fn picture_text(alloc: Global, picture: &ArrayView<'_, i64, Ix2>) -> Result<String, AllocError>
     ensures { IfOk result (λ text. string_bytes text ≡ picture_text picture.now) }
 {
     let (rows, columns) = picture.raw_dim().into_pattern();
     let mut text = format!(in alloc; "P2\n{columns} {rows}\n255\n")?;
-    push_rows(&mut text, picture)?;
+    push_pixels(&mut text, picture)?;
     Ok(text)
+}
+
+/// Appends a line for each row of a picture, and nothing where it has no pixels, however many rows it has.
+fn push_pixels(text: &mut String, picture: &ArrayView<'_, i64, Ix2>) -> Result<(), AllocError>
+    ensures { OnOk result (string_bytes text.new ≡ string_bytes text.old ++ pixels_text picture.now) }
+{
+    if picture.len() == 0 {
+        return Ok(());
+    }
+    push_rows(text, picture)
 }
 
 /// Appends a line for each row.

@@ -1,112 +1,56 @@
-//! What the commands read from their input.
+//! What the commands read from their input, as arrays.
 
-use crate::fault::Fault;
+ghost use Rattle.std.specs.Prelude.{◌∷◌, [], IfOk, IfErr};
+ghost use Rattle.uses.specs.Faults.{IsFaultOf};
+ghost use Rattle.uses.specs.Inputs.{IsArrayOf, ReadsGrid, ReadsPicture, ReadsTable};
+
+use crate::fault::{Fault, Place};
+use crate::pixels::pixels;
+use crate::rows::{Column, cells, rows};
+use crate::spelling::numbers;
 use ndarray::{Array, Ix2};
 use std::alloc::Global;
 
-/// The words of a text as numbers.
-pub fn numbers(alloc: Global, text: &str) -> Result<Vec<i64>, Fault> {
-    let mut numbers = Vec::new(alloc);
-    for word in text.split_ascii_whitespace() {
-        numbers.push(number(word)?)?;
-    }
-    Ok(numbers)
-}
-
-/// A word as a number.
-fn number(word: &str) -> Result<i64, Fault> {
-    word.parse::<i64>().map_err(|_| Fault::Number)
-}
-
-/// A word as a length.
-fn length(word: Option<&str>) -> Result<usize, Fault> {
-    let word = word.ok_or(Fault::Input)?;
-    word.parse::<usize>().map_err(|_| Fault::Number)
-}
-
-/// A table: a line for each row, with its numbers.
-pub fn table(alloc: Global, text: &str) -> Result<Array<i64, Ix2>, Fault> {
-    let cells = numbers(alloc, text)?;
-    let mut rows = Rows::new();
-    for line in text.lines() {
-        rows = rows.followed_by(line.split_ascii_whitespace().count())?;
-    }
-    rows.of(cells)
-}
-
-/// A grid of cells: a line for each row, with `#` for a living cell and `.` for a dead one.
-pub fn grid(alloc: Global, text: &str) -> Result<Array<bool, Ix2>, Fault> {
-    let mut cells = Vec::new(alloc);
-    let mut rows = Rows::new();
-    for line in text.lines() {
-        for byte in line.as_bytes() {
-            cells.push(is_living(*byte)?)?;
-        }
-        rows = rows.followed_by(line.len())?;
-    }
-    rows.of(cells)
-}
-
-/// Whether a byte means a living cell.
-fn is_living(byte: u8) -> Result<bool, Fault> {
-    match byte {
-        b'#' => Ok(true),
-        b'.' => Ok(false),
-        _ => Err(Fault::Input),
-    }
-}
-
 /// A grey picture in plain PGM: `P2`, the numbers of columns and rows, the greatest pixel, which is at most 255, and the pixels, row
 /// after row. Comments are not read.
-pub fn picture(alloc: Global, text: &str) -> Result<Array<i64, Ix2>, Fault> {
-    let mut words = text.split_ascii_whitespace();
-    if words.next() != Some("P2") {
-        return Err(Fault::Input);
-    }
-    let columns = length(words.next())?;
-    let rows = length(words.next())?;
-    let most = number(words.next().ok_or(Fault::Input)?)?;
-    if most > 255 {
-        return Err(Fault::Number);
-    }
-    let mut pixels = Vec::new(alloc);
-    for word in words {
-        let pixel = number(word)?;
-        if pixel < 0 || pixel > most {
-            return Err(Fault::Number);
-        }
-        pixels.push(pixel)?;
-    }
-    Array::from_shape_vec((rows, columns), pixels).map_err(|_| Fault::Shape)
+pub fn picture(alloc: Global, text: &str) -> Result<Array<i64, Ix2>, Fault>
+    ensures read { IfOk result (ReadsPicture text.now) }
+    ensures err { IfErr result (IsFaultOf (ReadsPicture text.now)) }
+{
+    let (rows, columns, pixels) = pixels(alloc, text)?;
+    let picture = array_of(rows, columns, pixels)?;
+    Ok(picture)
 }
 
-/// Rows that were read, equally long.
-#[derive(Clone, Copy)]
-struct Rows {
-    count: usize,
-    columns: usize,
+/// A table: a line for each row, with its numbers. White space at the end is passed over.
+pub fn table(alloc: Global, text: &str) -> Result<Array<i64, Ix2>, Fault>
+    ensures read { IfOk result (ReadsTable text.now) }
+    ensures err { IfErr result (IsFaultOf (ReadsTable text.now)) }
+{
+    let numbers = numbers(alloc, text, 0)?;
+    let (rows, columns) = rows(text, Column::Word)?;
+    let table = array_of(rows, columns, numbers)?;
+    Ok(table)
 }
 
-impl Rows {
-    /// No rows.
-    fn new() -> Self {
-        Rows {
-            count: 0,
-            columns: 0,
-        }
-    }
+/// A grid of cells: a line for each row, with `#` for a living cell and `.` for a dead one. White space at the end is passed over.
+pub fn grid(alloc: Global, text: &str) -> Result<Array<bool, Ix2>, Fault>
+    ensures read { IfOk result (ReadsGrid text.now) }
+    ensures err { IfErr result (IsFaultOf (ReadsGrid text.now)) }
+{
+    let cells = cells(alloc, text)?;
+    let (rows, columns) = rows(text, Column::Byte)?;
+    let grid = array_of(rows, columns, cells)?;
+    Ok(grid)
+}
 
-    /// One more row, of so many cells.
-    fn followed_by(self, columns: usize) -> Result<Rows, Fault> {
-        if self.count > 0 && columns != self.columns {
-            return Err(Fault::Shape);
-        }
-        let count = self.count.checked_add(1).ok_or(Fault::Shape)?;
-        Ok(Rows { count, columns })
-    }
-
-    /// The array of these rows, of its cells.
-    fn of<T: Drop>(self, cells: Vec<T>) -> Result<Array<T, Ix2>, Fault> {
-        Array::from_shape_vec((self.count, self.columns), cells).map_err(|_| Fault::Shape)
+/// The array of so many rows and columns with these cells. The fault is that there are more or fewer cells.
+fn array_of<T: Drop>(rows: usize, columns: usize, cells: Vec<T>) -> Result<Array<T, Ix2>, Fault>
+    ensures made { IfOk result (IsArrayOf (rows ∷ columns ∷ []) cells.items) }
+    ensures err { IfErr result (IsFaultOf (IsArrayOf (rows ∷ columns ∷ []) cells.items)) }
+{
+    match Array::from_shape_vec((rows, columns), cells) {
+        Ok(array) => Ok(array),
+        Err(_error) => Err(Fault::Shape(Place::Whole)),
     }
 }

@@ -1,0 +1,21 @@
+use Rattle.std.proofs.Common.{◌≡◌, inr, subst}
+use Rattle.std.specs.Prelude.{FitsSigned}
+use Rattle.std.specs.Int.{w64}
+use Rattle.ndarray.specs.Convolution.{HasValidMagnitudesInRange}
+use Rattle.uses.specs.Answering.{PrintsPicture}
+use Rattle.uses.specs.Inputs.{ReadsPicture}
+use Rattle.uses.specs.Picture.{blur_kernel, mean_pixel}
+use Rattle.uses.proofs.FaultsPassedOn.{passed-on}
+use Rattle.uses.proofs.Filtered.{unfit-from_none}
+use Rattle.uses.proofs.OneReading.{one-picture}
+use Rattle.uses.proofs.command.blur.Goals as goal
+
+pub returns-in_err-image-clause-err : goal.returns-in_err-image-clause-err
+returns-in_err-image-clause-err c =
+    passed-on (ReadsPicture c.args.input.now) (PrintsPicture blur_kernel mean_pixel c.args.input.now) c.from_residual.result c.in_err-image.field-0.0 c.from_residual.ensures.1 c.in_err-image.ensures.err (λ t r. (r.image, r.read))
+
+pub returns-in_default-clause-err : goal.returns-in_default-clause-err
+returns-in_default-clause-err c =
+    inr (λ t q.
+    let same : q.image ≡ c.in_ok-image.image = one-picture c.args.input.now q.image c.in_ok-image.image q.read c.in_ok-image.ensures.read in
+    unfit-from_none c.in_ok-blurred.field-0 c.in_default.is c.in_ok-blurred.ensures.when (subst (λ g. HasValidMagnitudesInRange (λ x. x) (FitsSigned w64) g blur_kernel) same q.fits))
