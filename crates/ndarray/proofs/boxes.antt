@@ -3,6 +3,7 @@ pub mod Boxes
 pub mod CountedRows
 pub mod JoinedBoxes
 pub mod LaneIndices
+pub mod LastIndices
 pub mod Orders
 pub mod RowProducts
 pub mod ProductShapes

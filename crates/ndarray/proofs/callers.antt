@@ -14,6 +14,7 @@ pub mod Joining
 pub mod Lanes
 pub mod Mapping
 pub mod MatrixPowers
+pub mod MatrixSums
 pub mod Maxima
 pub mod PartialFolds
 pub mod Parts

@@ -6,14 +6,17 @@ pub mod BlockRows
 pub mod CellRows
 pub mod Cells
 pub mod CellsInOrder
+pub mod ChainRanges
 pub mod CollectedCells
 pub mod ColumnParts
 pub mod DiagonalRows
 pub mod DiagonalSwaps
 pub mod Diagonals
+pub mod DifferenceRanges
 pub mod Differences
 pub mod Elementwise
 pub mod EntryTests
+pub mod FoldedLanes
 pub mod GeneralProducts
 pub mod IndexedCells
 pub mod KroneckerRanges
@@ -26,6 +29,8 @@ pub mod LaneSums
 pub mod LaneTests
 pub mod LaneTiles
 pub mod LaneTotals
+pub mod LastCells
+pub mod Mapped
 pub mod Matrices
 pub mod PlaceScans
 pub mod ProductRows
@@ -36,6 +41,7 @@ pub mod RowProducts
 pub mod RowScans
 pub mod RunProducts
 pub mod RunningProducts
+pub mod SameArrays
 pub mod Scans
 pub mod SmallProducts
 pub mod TestedCells

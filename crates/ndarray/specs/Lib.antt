@@ -1,6 +1,7 @@
 pub mod Algebra
 pub mod AlongAxis
 pub mod AlongAxisRanges
+pub mod BlockLaws
 pub mod Broadcast
 pub mod Calls
 pub mod Chains
@@ -12,6 +13,7 @@ pub mod DotLaws
 pub mod DotRanges
 pub mod Elementwise
 pub mod Errors
+pub mod Everyday
 pub mod FixedAxes
 pub mod FoldWhiles
 pub mod Grid
@@ -20,11 +22,13 @@ pub mod IndexedUpdates
 pub mod IntegerProducts
 pub mod Integers
 pub mod Joining
+pub mod KroneckerLaws
 pub mod Laws
 pub mod Limits
 pub mod Matrices
 pub mod MatrixLaws
 pub mod MatrixPowers
+pub mod MatrixSums
 pub mod Orders
 pub mod PartialFolds
 pub mod Producers
@@ -33,9 +37,12 @@ pub mod Runs
 pub mod Scans
 pub mod Slices
 pub mod Subviews
+pub mod SumLaws
 pub mod Sums
+pub mod TriangleLaws
 pub mod Triangles
 pub mod Updates
+pub mod VectorLaws
 pub mod Views
 pub mod WholeValues
 pub mod Writes

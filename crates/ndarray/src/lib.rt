@@ -31,6 +31,7 @@
 pub mod base;
 pub mod conv;
 pub mod elements;
+pub mod everyday;
 pub mod into_owned;
 pub mod iter;
 pub mod laws;

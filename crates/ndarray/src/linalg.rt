@@ -4,6 +4,7 @@
 //! of row i of the left matrix with column j of the right one. Each call requires that every selection of the products of an
 //! inner sum has its sum in range, so that no order of adding leaves the range.
 
+mod chain_range_tests;
 mod chains;
 mod dynamic;
 mod dynamic_range_tests;
@@ -20,6 +21,7 @@ mod range_tests;
 pub(crate) mod row_sums;
 mod scaled_addition;
 
+pub use crate::linalg::chain_range_tests::{chain_fits, kron_dot_fits};
 pub use crate::linalg::chains::{chain_ok, kron_dot, kron_dot_ok, mat_vec_chain};
 pub use crate::linalg::general::{general_mat_mul, general_mat_vec_mul, mat_mul_ok, mat_vec_ok};
 pub use crate::linalg::general_range_tests::{mat_mul_fits, mat_vec_fits};

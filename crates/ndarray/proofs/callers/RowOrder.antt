@@ -114,7 +114,7 @@ stepped-commutes k commutes b (Some x) (Some y) = commutes b x y
 
 -- An array's cells are what is at its index lists in row order.
 module _ {A : Type 0} (g : Grid A) (whole : IsGrid g) where
-  in_row : map (cell g) (row_order g.lengths) ≡ map Some g.cells
+  pub in_row : map (cell g) (row_order g.lengths) ≡ map Some g.cells
   in_row = cells_in-HasInOrder RowMajor g whole (row_order g.lengths) (box_in-is RowMajor g.lengths) ∙ ap (map Some) (row-cells g whole)
 
   pub fold-cells : {B : Type 0} (h : B → List ℕ → B) (k : B → A → B) → ((b : B) (i : List ℕ) (x : A) → cell g i ≡ Some x → h b i ≡ k b x)

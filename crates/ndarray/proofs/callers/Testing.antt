@@ -1,7 +1,7 @@
 -- What `all` and `any` answer: of a closure that computes a test of the index list, and of any.
 use Rattle.std.proofs.Common.{◌≡◌, ℕ, List, [], ◌∷◌, ◌++◌, Bool, true, false, refl, sym, subst, ap, ◌∙◌, inl, inr, append-nil, Some}
 use Rattle.std.proofs.Math.Bool.{not}
-use Rattle.std.specs.Prelude.{All, IsTrue, ◌↔◌}
+use Rattle.std.specs.Prelude.{All, IsTrue, ◌↔◌, ⊤}
 use Rattle.std.specs.List.{AllByRecursion, FoldsTo, list_all, list_any}
 use Rattle.std.proofs.lemmas.List.Elements.{All-contains}
 use Rattle.ndarray.specs.Elementwise.{CanMap}
@@ -177,3 +177,8 @@ may-test yields_at call_gives can_call f ns on stays o ok = may-by (TurnAt yield
     (λ done q i r j t. let (x, s, k) = t in stays i x r s (subst (λ p. call_gives p x on r) j k))
     (TakesAt yields_at can_call) (box_in o ns) f refl
     (λ done i rest q e j x s. subst (λ p. can_call p x) (sym j) (ok i x (All-middle (InBox ns) done i rest (box_in o ns) (box_in-within o ns) e) s))
+
+-- A call that says whether P holds of an item, and stays as it was, may be asked along the box in either order.
+pub may-decide : {F A : Type 0} (yields_at : List ℕ → A → Type 0) (P : F → A → Type 0) (f : F) (ns : List ℕ) (on : Bool) (o : Order)
+    → MayTest yields_at (λ t p r d. (IsTrue r ↔ P t p) × (d ≡ t)) (λ _ _. ⊤) (box_in o ns) f on
+may-decide yields_at P f ns on o = may-test yields_at (λ t p r d. (IsTrue r ↔ P t p) × (d ≡ t)) (λ _ _. ⊤) f ns on (λ i x k s h. h.1) o (λ i x b s. tt)

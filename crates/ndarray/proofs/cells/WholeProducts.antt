@@ -50,7 +50,8 @@ module _ {A : Type 0} (e : ValuedGhosts A) (number : A → ℤ) (fits : ℤ → 
   total-whole [] = w.zero
   total-whole (z ∷ zs) = w.sum z (total e.addition zs) ∙ ap (λ t. w.whole z +ℤ t) (total-whole zs)
 
-  entry-whole : (n : ℕ) (f h : ℕ → Option A) → w.whole (total e.addition (values_below n (λ k. e.multiplication.op (value_or e.meaning e.addition.unit (f k)) (value_or e.meaning e.addition.unit (h k)))))
+  -- the number of an inner sum
+  pub entry-whole : (n : ℕ) (f h : ℕ → Option A) → w.whole (total e.addition (values_below n (λ k. e.multiplication.op (value_or e.meaning e.addition.unit (f k)) (value_or e.meaning e.addition.unit (h k)))))
       ≡ total int_sums (values_below n (λ k. int_products.op (value_or number (pos 0) (f k)) (value_or number (pos 0) (h k))))
   entry-whole n f h = total-whole _ ∙ ap (total int_sums) (products-whole n f h)
 

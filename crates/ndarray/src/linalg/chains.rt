@@ -1,6 +1,6 @@
 //! Products of three and of four arrays, in the order that makes the smaller arrays.
 
-ghost use Rattle.std.specs.Prelude.{◌≡◌, ◌↔◌, ◌*◌, ◌∷◌, [], IfOk, IsOk, IsTrue, slice_index};
+ghost use Rattle.std.specs.Prelude.{◌≡◌, ◌≢◌, ◌↔◌, ◌*◌, ◌∷◌, [], IfOk, IsOk, IsTrue, slice_index};
 ghost use Rattle.ndarray.specs.Chains.{HasColumn, HasMatrix, ShapesChain, ShapesMultiplyInPairs};
 ghost use Rattle.ndarray.specs.Index.{size};
 ghost use Rattle.ndarray.specs.Matrices.{kronecker_product};
@@ -38,9 +38,10 @@ pub fn chain_ok<S: Data, S2: Data, S3: Data>(
 /// (AB)x, by A(Bx): two matrices times a vector, without the product of the matrices. Of lengths (m, k), (k, n) and (n) the
 /// vector has m cells.
 ///
-/// Requires these lengths, which [`chain_ok`] tests, and that of the products of each inner sum of Bx and of A(Bx) every
-/// selection has its sum in range. Nothing is required of the size of AB, nor of the ranges of its cells. The error is allocation
-/// failure, which is never reported if the result has no cells; the arrays are as before.
+/// Requires these lengths, which [`chain_ok`] tests, and, where A has rows, that of the products of each inner sum of Bx and of A(Bx)
+/// every selection has its sum in range: of integers check both with [`chain_fits`](crate::linalg::chain_fits). Nothing is required of the
+/// size of AB, nor of the ranges of its cells. The error is allocation failure, which is never reported if the result has no cells;
+/// the arrays are as before.
 ///
 /// ```
 /// // a = [[2]], b = [[i64::MAX]], x = [0]
@@ -53,7 +54,7 @@ pub fn mat_vec_chain<A: LinalgScalar, S: Data<Elem = A>, S2: Data<Elem = A>, S3:
     x: &ArrayBase<S3, Ix1>,
 ) -> Result<Array<A, Ix1>, AllocError>
     requires shapes { ShapesChain a.now.lengths b.now.lengths x.now.lengths }
-    requires inner_sums { HasSumsInRange A.Valued (matrix_of A.Valued b.now) (column_of A.Valued x.now) }
+    requires inner_sums { slice_index a.now.lengths 0 ≢ 0 → HasSumsInRange A.Valued (matrix_of A.Valued b.now) (column_of A.Valued x.now) }
     requires outer_sums { HasSumsInRange A.Valued (matrix_of A.Valued a.now) (product_of A.Valued (matrix_of A.Valued b.now) (column_of A.Valued x.now)) }
     ensures product { IfOk result (HasColumn A.Valued (product_of A.Valued (product_of A.Valued (matrix_of A.Valued a.now) (matrix_of A.Valued b.now)) (column_of A.Valued x.now))) }
     ensures empty { slice_index a.now.lengths 0 ≡ 0 → IsOk result }
@@ -93,10 +94,10 @@ pub fn kron_dot_ok<S: Data, S2: Data, S3: Data, S4: Data>(
 /// (A kron B)(C kron D), by AC kron BD: without the two Kronecker products that are multiplied. Of lengths (m, k), (p, q),
 /// (k, n) and (q, r) the matrix has lengths (m * p, n * r).
 ///
-/// Requires these lengths, with AC, BD and the result within the limit, which [`kron_dot_ok`] tests; that of the products
-/// of each inner sum of AC and of BD every selection has its sum in range; and that each product of a cell of AC and one
-/// of BD is in range. Nothing is required of A kron B and of C kron D. The error is allocation failure, which is never reported if
-/// the result has no cells; the arrays are as before.
+/// Requires these lengths, with AC, BD and the result within the limit, which [`kron_dot_ok`] tests; where the result has cells, that of
+/// the products of each inner sum of AC and of BD every selection has its sum in range; and that each product of a cell of AC and one
+/// of BD is in range: of integers check all with [`kron_dot_fits`](crate::linalg::kron_dot_fits). Nothing is required of A kron B
+/// and of C kron D. The error is allocation failure, which is never reported if the result has no cells; the arrays are as before.
 ///
 /// ```
 /// // a = [[i64::MAX]], b = [[i64::MAX]], c = [[0]], d = [[0]]
@@ -116,8 +117,8 @@ pub fn kron_dot<
     d: &ArrayBase<S4, Ix2>,
 ) -> Result<Array<A, Ix2>, AllocError>
     requires shapes { ShapesMultiplyInPairs a.now.lengths b.now.lengths c.now.lengths d.now.lengths }
-    requires left_sums { HasSumsInRange A.Valued (matrix_of A.Valued a.now) (matrix_of A.Valued c.now) }
-    requires right_sums { HasSumsInRange A.Valued (matrix_of A.Valued b.now) (matrix_of A.Valued d.now) }
+    requires left_sums { size (slice_index a.now.lengths 0 * slice_index b.now.lengths 0 ∷ slice_index c.now.lengths 1 * slice_index d.now.lengths 1 ∷ []) ≢ 0 → HasSumsInRange A.Valued (matrix_of A.Valued a.now) (matrix_of A.Valued c.now) }
+    requires right_sums { size (slice_index a.now.lengths 0 * slice_index b.now.lengths 0 ∷ slice_index c.now.lengths 1 * slice_index d.now.lengths 1 ∷ []) ≢ 0 → HasSumsInRange A.Valued (matrix_of A.Valued b.now) (matrix_of A.Valued d.now) }
     requires products { HasProductsInRange A.Valued (product_of A.Valued (matrix_of A.Valued a.now) (matrix_of A.Valued c.now)) (product_of A.Valued (matrix_of A.Valued b.now) (matrix_of A.Valued d.now)) }
     ensures product { IfOk result (HasMatrix A.Valued (product_of A.Valued (kronecker_product A.multiplication (matrix_of A.Valued a.now) (matrix_of A.Valued b.now)) (kronecker_product A.multiplication (matrix_of A.Valued c.now) (matrix_of A.Valued d.now)))) }
     ensures empty { size (slice_index a.now.lengths 0 * slice_index b.now.lengths 0 ∷ slice_index c.now.lengths 1 * slice_index d.now.lengths 1 ∷ []) ≡ 0 → IsOk result }

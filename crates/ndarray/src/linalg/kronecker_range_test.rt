@@ -34,7 +34,10 @@ pub fn kron_fits<A: IntegerScalar, S: Data<Elem = A>, S2: Data<Elem = A>>(
 }
 
 /// Whether the type has the product of each cell of one matrix and each of another.
-fn cell_products_fit<A: IntegerElem>(a: &ArrayView<'_, A, Ix2>, b: &ArrayView<'_, A, Ix2>) -> bool
+pub(crate) fn cell_products_fit<A: IntegerElem>(
+    a: &ArrayView<'_, A, Ix2>,
+    b: &ArrayView<'_, A, Ix2>,
+) -> bool
     ensures { let values = whole_numbers A.value A.fits in IsTrue result ↔ HasProductsInRange values (matrix_of values a.now) (matrix_of values b.now) }
 {
     let (_left, _right) = (a.raw_dim(), b.raw_dim());

@@ -114,7 +114,7 @@ fn columns_fit<A: IntegerElem>(x: &ArrayView<'_, A, Ix1>, b: &ArrayView<'_, A, I
 }
 
 /// Whether each row of a matrix and a vector pass `dot_fits`.
-fn rows_fit<A: IntegerElem>(a: &ArrayView<'_, A, Ix2>, x: &ArrayView<'_, A, Ix1>) -> bool
+pub(crate) fn rows_fit<A: IntegerElem>(a: &ArrayView<'_, A, Ix2>, x: &ArrayView<'_, A, Ix1>) -> bool
     requires vector { IsGrid x.now × (length x.now.lengths ≡ 1) }
     requires inner { slice_index a.now.lengths 1 ≡ slice_index x.now.lengths 0 }
     ensures magnitudes { IsTrue result ↔ HasMagnitudesInRange A.fits (matrix_of (whole_numbers A.value A.fits) a.now) (column_of (whole_numbers A.value A.fits) x.now) }
@@ -139,7 +139,7 @@ fn rows_fit<A: IntegerElem>(a: &ArrayView<'_, A, Ix2>, x: &ArrayView<'_, A, Ix1>
 }
 
 /// Whether each row of a matrix and each column of another pass `dot_fits`.
-fn rows_and_columns_fit<A: IntegerElem>(
+pub(crate) fn rows_and_columns_fit<A: IntegerElem>(
     a: &ArrayView<'_, A, Ix2>,
     b: &ArrayView<'_, A, Ix2>,
 ) -> bool

@@ -1,7 +1,7 @@
 //! Whether the results of operators on integers are numbers of their type: tests for `+`, `-` and `*`, their assigning
 //! forms, and unary `-`.
 
-ghost use Rattle.std.specs.Prelude.{◌≡◌, ◌↔◌, ◌+ℤ◌, ◌-ℤ◌, ◌*ℤ◌, ℕ, List, Some, IsTrue, neg_ℤ};
+ghost use Rattle.std.specs.Prelude.{◌≡◌, ◌↔◌, ◌+ℤ◌, ◌-ℤ◌, ◌*ℤ◌, ⊤, ℕ, List, Some, IsTrue, neg_ℤ};
 ghost use Rattle.ndarray.specs.Broadcast.{BroadcastTogether, broadcast_lengths};
 ghost use Rattle.ndarray.specs.Elementwise.{CanAssign, CanCombine, CanMap};
 ghost use Rattle.ndarray.specs.Grid.{cell};
@@ -11,9 +11,12 @@ use crate::base::dim_max::DimMax;
 use crate::base::dimension::Lengths;
 use crate::base::storage::Data;
 use crate::ops::operations::{Addition, Multiplication, Subtraction};
-use crate::zip::Zip;
+use crate::zip::all_items::all_in_either_order;
+use crate::zip::closures::ItemCall;
+use crate::zip::pair::Pair;
 use crate::zip::producer::IntoBroadcast;
 use num_traits::{CheckedAdd, CheckedMul, CheckedNeg, CheckedSub, Num, One, Signed, Zero};
+use std::marker::PhantomData;
 
 impl<A: Zero + CheckedAdd, S: Data<Elem = A>, D: Lengths> ArrayBase<S, D> {
     /// Whether `self + rhs` may be computed: the shapes broadcast together, as [`broadcast_ok`](Self::broadcast_ok) tests, and
@@ -299,9 +302,28 @@ pub(crate) fn pairs_fit<O: RangeTest<A>, A, R: Lengths>(
     requires { left.now.lengths ≡ right.now.lengths }
     ensures { IsTrue result ↔ ((is : List ℕ) (x y : A) → cell left.now is ≡ Some x → cell right.now is ≡ Some y → O.result_fits x y) }
 {
-    Zip::from(left.view())
-        .and(right.view())
-        .all(|x, y| O::result_fits(x, y))
+    let cells = Pair {
+        first: left.view(),
+        second: right.view(),
+    };
+    all_in_either_order(cells, BothFit::<O>(PhantomData))
+}
+
+/// Whether the type has the result at two cells, as a call.
+#[derive(Drop)]
+struct BothFit<O>(PhantomData<O>);
+
+impl<'a, 'b, A, O: RangeTest<A>> ItemCall<(&'a A, &'b A)> for BothFit<O> {
+    type Out = bool;
+
+    ghost can_call = { λ _ _. ⊤ };
+
+    ghost call_gives = { λ c t r d. (IsTrue r ↔ O.result_fits t.0.now t.1.now) × (d ≡ c) };
+
+    fn call(&mut self, item: (&'a A, &'b A)) -> bool {
+        let (x, y) = item;
+        O::result_fits(x, y)
+    }
 }
 
 /// Whether the type has the result at each cell and a scalar.
@@ -309,12 +331,51 @@ fn scalar_fits<O: RangeTest<A>, A, D: Lengths>(array: &ArrayView<'_, A, D>, scal
     ensures exact { IsTrue result ↔ CanMap (λ x. O.result_fits x scalar.now) array.now }
     ensures defined { IsTrue result → CanMap (λ x. O.can_apply x scalar.now) array.now }
 {
-    Zip::from(array.view()).all(|x| O::result_fits(x, scalar))
+    let test = RightFits::<'_, O, A> {
+        scalar,
+        operation: PhantomData,
+    };
+    all_in_either_order(array.view(), test)
+}
+
+/// Whether the type has the result at a cell and a scalar on its right, as a call.
+#[derive(Drop)]
+struct RightFits<'c, O, A> {
+    scalar: &'c A,
+    operation: PhantomData<O>,
+}
+
+impl<'a, 'c, A, O: RangeTest<A>> ItemCall<&'a A> for RightFits<'c, O, A> {
+    type Out = bool;
+
+    ghost can_call = { λ _ _. ⊤ };
+
+    ghost call_gives = { λ c x r d. (IsTrue r ↔ O.result_fits x.now c.scalar.now) × (d ≡ c) };
+
+    fn call(&mut self, item: &'a A) -> bool {
+        O::result_fits(item, self.scalar)
+    }
 }
 
 /// Whether the type has the negative of each cell.
 fn negatives_fit<A: CheckedNeg, D: Lengths>(array: &ArrayView<'_, A, D>) -> bool
     ensures { IsTrue result ↔ CanMap (λ x. A.fits (neg_ℤ (A.value x))) array.now }
 {
-    Zip::from(array.view()).all(|x| x.checked_neg().is_some())
+    all_in_either_order(array.view(), NegativeFits)
+}
+
+/// Whether the type has the negative of a cell, as a call.
+#[derive(Drop)]
+struct NegativeFits;
+
+impl<'a, A: CheckedNeg> ItemCall<&'a A> for NegativeFits {
+    type Out = bool;
+
+    ghost can_call = { λ _ _. ⊤ };
+
+    ghost call_gives = { λ c x r d. (IsTrue r ↔ A.fits (neg_ℤ (A.value x.now))) × (d ≡ c) };
+
+    fn call(&mut self, item: &'a A) -> bool {
+        item.checked_neg().is_some()
+    }
 }

@@ -1,9 +1,10 @@
-//! Whether the running products of integers along an axis stay in their type.
+//! Whether the running products and the differences of integers along an axis stay in their type.
 
-ghost use Rattle.std.specs.Prelude.{◌<◌, ◌↔◌, IsTrue, length};
-ghost use Rattle.ndarray.specs.AlongAxis.{CanCumulate};
-ghost use Rattle.ndarray.specs.AlongAxisRanges.{HasRunningProductsInRange};
+ghost use Rattle.std.specs.Prelude.{◌≡◌, ◌≢◌, ◌⊎◌, ◌<◌, ◌↔◌, IfErr, IfOk, IsTrue, length, slice_index};
+ghost use Rattle.ndarray.specs.AlongAxis.{CanCumulate, CanDiffer};
+ghost use Rattle.ndarray.specs.AlongAxisRanges.{HasDifferencesInRange, HasRunningProductsInRange, SubtractsAlong};
 ghost use Rattle.ndarray.specs.Elementwise.{CanMap};
+ghost use Rattle.ndarray.specs.Index.{size};
 ghost use Rattle.ndarray.specs.Subviews.{lanes_of};
 
 use crate::base::array::{ArrayBase, ArrayView};
@@ -11,8 +12,12 @@ use crate::base::axis::Axis;
 use crate::base::dimension::Lengths;
 use crate::base::storage::Data;
 use crate::base::strided::Strided;
+use crate::ops::operations::Subtraction;
+use crate::ops::range_tests::pairs_fit;
 use crate::order::{Order, Walk};
-use num_traits::{CheckedMul, One};
+use crate::reduce::diff::difference;
+use num_traits::{CheckedMul, CheckedSub, Num, One};
+use std::alloc::{AllocError, Global};
 
 impl<A: Copy + One + CheckedMul, S: Data<Elem = A>, D: Lengths> ArrayBase<S, D> {
     /// Whether [`cumprod`](Self::cumprod) may be asked for along an axis: there is an axis of that number, and the type has each product
@@ -75,4 +80,81 @@ fn cells_cumulate<A: Copy + One + CheckedMul>(cells: Strided<'_, A>) -> bool
         product = next;
     }
     true
+}
+
+impl<A: Copy + Num + CheckedSub, S: Data<Elem = A>, D: Lengths> ArrayBase<S, D> {
+    /// Whether [`diff`](Self::diff) of order `n` may be asked for along an axis: there is an axis of that number, the order is 0 or below
+    /// its length, as [`diff_ok`](Self::diff_ok) tests, and the type has each difference that is taken on the way to that order.
+    ///
+    /// Requires nothing. The error is allocation failure, of the differences of the orders before: it is reported only for order 2 or
+    /// more of an array with cells.
+    ///
+    /// ```
+    /// let view = ArrayView::from_shape(3, &[-100i8, 20, 100])?;
+    /// view.diff_fits(alloc, 1, Axis(0))?; // true: [120, 80]
+    /// view.diff_fits(alloc, 2, Axis(0))?; // true: [-40]
+    /// ArrayView::from_shape(2, &[-100i8, 28])?.diff_fits(alloc, 1, Axis(0))?; // false
+    /// ```
+    pub fn diff_fits(&self, alloc: Global, n: usize, axis: Axis) -> Result<bool, AllocError>
+        ensures exact { IfOk result (λ fits. IsTrue fits ↔ ((axis.0 < length self.now.lengths) × ((n ≡ 0) ⊎ (n < slice_index self.now.lengths axis.0)) × HasDifferencesInRange A.value A.fits axis.0 n self.now)) }
+        ensures axis { IfOk result (λ fits. IsTrue fits → axis.0 < length self.now.lengths) }
+        ensures order { IfOk result (λ fits. IsTrue fits → (n ≡ 0) ⊎ (n < slice_index self.now.lengths axis.0)) }
+        ensures defined { IfOk result (λ fits. IsTrue fits → CanDiffer A.sub_gives axis.0 A.can_sub n self.now) }
+        ensures error { IfErr result (λ _. (1 < n) × (n < slice_index self.now.lengths axis.0) × (size self.now.lengths ≢ 0)) }
+    {
+        if !self.diff_ok(n, axis) {
+            return Ok(false);
+        }
+        differences_fit(alloc, &self.view(), n, axis)
+    }
+}
+
+/// Whether the type has each difference that is taken on the way to order `n` along an axis.
+fn differences_fit<A: Copy + Num + CheckedSub, D: Lengths>(
+    alloc: Global,
+    array: &ArrayView<'_, A, D>,
+    n: usize,
+    axis: Axis,
+) -> Result<bool, AllocError>
+    requires axis { axis.0 < length array.now.lengths }
+    requires order { (n ≡ 0) ⊎ (n < slice_index array.now.lengths axis.0) }
+    ensures exact { IfOk result (λ fits. IsTrue fits ↔ HasDifferencesInRange A.value A.fits axis.0 n array.now) }
+    ensures error { IfErr result (λ _. (1 < n) × (size array.now.lengths ≢ 0)) }
+{
+    let _lengths = array.raw_dim();
+    if n == 0 {
+        return Ok(true);
+    }
+    // Without cells nothing is subtracted, whatever the order.
+    if array.len() == 0 {
+        return Ok(true);
+    }
+    if !neighbours_fit(array, axis) {
+        return Ok(false);
+    }
+    if n == 1 {
+        return Ok(true);
+    }
+    let mut cells = difference(alloc, array, axis)?;
+    for _ in 1..n - 1 {
+        if !neighbours_fit(&cells, axis) {
+            return Ok(false);
+        }
+        cells = difference(alloc, &cells, axis)?;
+    }
+    Ok(neighbours_fit(&cells, axis))
+}
+
+/// Whether the type has each cell that is one further along an axis, minus the cell.
+fn neighbours_fit<A: Num + CheckedSub, S: Data<Elem = A>, D: Lengths>(
+    array: &ArrayBase<S, D>,
+    axis: Axis,
+) -> bool
+    requires axis { axis.0 < length array.now.lengths }
+    requires some { 0 < slice_index array.now.lengths axis.0 }
+    ensures { IsTrue result ↔ SubtractsAlong A.value A.fits axis.0 array.now }
+{
+    let view = array.view();
+    let rest = view.len_of(axis) - 1;
+    pairs_fit::<Subtraction, A, D>(&view.part(axis.0, 1, rest), &view.part(axis.0, 0, rest))
 }

@@ -35,8 +35,9 @@ impl<A: Copy + Sub<A, Output = A>, S: Data<Elem = A>, D: Lengths> ArrayBase<S, D
     /// along the axis minus the cell, so that the axis gets shorter by one.
     ///
     /// Requires `axis < ndim()`, and `n` that is 0 or below the length of the axis; check with
-    /// [`diff_ok`](Self::diff_ok). Requires that each difference that is taken is defined. The error is allocation
-    /// failure. Beside the result there is one array at a time, of the order before.
+    /// [`diff_ok`](Self::diff_ok). Requires that each difference that is taken is defined: of integers check all with
+    /// [`diff_fits`](Self::diff_fits). The error is allocation failure. Beside the result there is one array at a time, of
+    /// the order before.
     ///
     /// ```
     /// let view = ArrayView::from_shape(3, &[1i64, 2, 5])?;
@@ -95,7 +96,7 @@ fn copy_of<A: Copy, D: Lengths>(
 }
 
 /// The difference of order 1.
-fn difference<A: Copy + Sub<A, Output = A>, S: Data<Elem = A>, D: Lengths>(
+pub(crate) fn difference<A: Copy + Sub<A, Output = A>, S: Data<Elem = A>, D: Lengths>(
     alloc: Global,
     array: &ArrayBase<S, D>,
     axis: Axis,

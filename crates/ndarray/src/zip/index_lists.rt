@@ -75,6 +75,10 @@ impl<D: Dimension> NdProducer for Indices<D> {
         Patterns { lists: self, walk }
     }
 
+    fn tendency(&self) -> i32 {
+        0
+    }
+
     type Row = IndexRow<D>;
 
     type Rows = PatternRows<D>;
@@ -96,6 +100,10 @@ impl<D: Dimension> NdProducer for Indices<D> {
     fn in_order(self, order: Order) -> PatternRows<D> {
         let rows = BoxRows::new(self.raw_dim(), order);
         PatternRows { lists: self, rows }
+    }
+
+    fn is_one_row(_ordered: &PatternRows<D>) -> bool {
+        false
     }
 
     fn one_row(_ordered: PatternRows<D>) -> Option<IndexRow<D>> {

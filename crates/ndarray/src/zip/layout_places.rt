@@ -65,6 +65,10 @@ impl<D: Lengths> NdProducer for LayoutPlaces<D> {
         StridedPlaces::new(self.layout, order)
     }
 
+    fn tendency(&self) -> i32 {
+        0
+    }
+
     type Row = PlaceRow;
 
     type Rows = PlaceRows<D>;

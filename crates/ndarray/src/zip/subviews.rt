@@ -46,6 +46,10 @@ impl<'a, A, P: Lengths, D: Lengths> NdProducer for Pieces<'a, A, P, D> {
         self.run(order)
     }
 
+    fn tendency(&self) -> i32 {
+        0
+    }
+
     type Row = PieceRow<'a, A, D>;
 
     type Rows = PieceRows<'a, A, P, D>;
@@ -67,6 +71,10 @@ impl<'a, A, P: Lengths, D: Lengths> NdProducer for Pieces<'a, A, P, D> {
     fn in_order(self, order: Order) -> PieceRows<'a, A, P, D> {
         let rows = BoxRows::new(self.raw_dim(), order);
         PieceRows { pieces: self, rows }
+    }
+
+    fn is_one_row(_ordered: &PieceRows<'a, A, P, D>) -> bool {
+        false
     }
 
     fn one_row(_ordered: PieceRows<'a, A, P, D>) -> Option<PieceRow<'a, A, D>> {
@@ -163,6 +171,10 @@ impl<'a, A, D: Lengths> NdProducer for AxisWindows<'a, A, D> {
         self.pieces.into_iter()
     }
 
+    fn tendency(&self) -> i32 {
+        0
+    }
+
     type Row = WindowsIter<'a, A, D>;
 
     type Rows = Once<WindowsIter<'a, A, D>>;
@@ -184,6 +196,10 @@ impl<'a, A, D: Lengths> NdProducer for AxisWindows<'a, A, D> {
     fn in_order(self, order: Order) -> Once<WindowsIter<'a, A, D>> {
         let len = self.pieces.raw_dim().size();
         rows_of_axis(self.run(order), len)
+    }
+
+    fn is_one_row(_ordered: &Once<WindowsIter<'a, A, D>>) -> bool {
+        false
     }
 
     fn one_row(_ordered: Once<WindowsIter<'a, A, D>>) -> Option<WindowsIter<'a, A, D>> {
@@ -234,6 +250,10 @@ impl<'a, A, D: Lengths> NdProducer for AxisIter<'a, A, D> {
         self
     }
 
+    fn tendency(&self) -> i32 {
+        0
+    }
+
     type Row = AxisIter<'a, A, D>;
 
     type Rows = Once<AxisIter<'a, A, D>>;
@@ -255,6 +275,10 @@ impl<'a, A, D: Lengths> NdProducer for AxisIter<'a, A, D> {
     fn in_order(self, order: Order) -> Once<AxisIter<'a, A, D>> {
         let len = self.bounded_len();
         rows_of_axis(self.run(order), len)
+    }
+
+    fn is_one_row(_ordered: &Once<AxisIter<'a, A, D>>) -> bool {
+        false
     }
 
     fn one_row(_ordered: Once<AxisIter<'a, A, D>>) -> Option<AxisIter<'a, A, D>> {

@@ -58,6 +58,10 @@ impl<D: Lengths> NdProducer for Units<D> {
         repeat_n((), self.raw_dim().size())
     }
 
+    fn tendency(&self) -> i32 {
+        0
+    }
+
     type Row = RepeatN<()>;
 
     type Rows = UnitRows<D>;

@@ -267,6 +267,10 @@ impl<'a, A, D: Lengths> NdProducer for AxisIterMut<'a, A, D> {
         self
     }
 
+    fn tendency(&self) -> i32 {
+        0
+    }
+
     type Row = AxisIterMut<'a, A, D>;
 
     type Rows = Once<AxisIterMut<'a, A, D>>;
@@ -288,6 +292,10 @@ impl<'a, A, D: Lengths> NdProducer for AxisIterMut<'a, A, D> {
     fn in_order(self, order: Order) -> Once<AxisIterMut<'a, A, D>> {
         let len = self.raw_dim().size();
         rows_of_axis(self.run(order), len)
+    }
+
+    fn is_one_row(_ordered: &Once<AxisIterMut<'a, A, D>>) -> bool {
+        false
     }
 
     fn one_row(_ordered: Once<AxisIterMut<'a, A, D>>) -> Option<AxisIterMut<'a, A, D>> {
@@ -338,6 +346,10 @@ impl<'a, A, P: Lengths, D: Lengths> NdProducer for PiecesMut<'a, A, P, D> {
         self.run(order)
     }
 
+    fn tendency(&self) -> i32 {
+        0
+    }
+
     type Row = PieceRowMut<'a, A, D>;
 
     type Rows = PieceRowsMut<'a, A, P, D>;
@@ -358,6 +370,10 @@ impl<'a, A, P: Lengths, D: Lengths> NdProducer for PiecesMut<'a, A, P, D> {
 
     fn in_order(self, order: Order) -> PieceRowsMut<'a, A, P, D> {
         self.into_rows(order)
+    }
+
+    fn is_one_row(_ordered: &PieceRowsMut<'a, A, P, D>) -> bool {
+        false
     }
 
     fn one_row(_ordered: PieceRowsMut<'a, A, P, D>) -> Option<PieceRowMut<'a, A, D>> {

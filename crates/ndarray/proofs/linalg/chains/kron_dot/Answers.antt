@@ -28,6 +28,16 @@ returns-then-size-eq0-clause-product g c =
     (λ z lengths whole. values-none e (m.rows ∷ m.columns ∷ []) (matrix_entries m) z (lengths ∙ dims) whole (ap size (sym dims) ∙ (sym c.size.ensures ∙ c.if-size-eq0.true)))
     c.zeros.ensures.lengths c.zeros.ensures.whole
 
+pub dot-requires-after_bounds : goal.dot-requires-after_bounds
+dot-requires-after_bounds g c κs within =
+    let dims = dims-of _ _ _ _ _ _ _ _ _ c.Ix2-dim.ensures c.len_of.ensures.value c.len_of-2.ensures.value c.len_of-3.ensures.value c.len_of-4.ensures.value in
+    (c.requires.shapes.left, c.requires.left_sums (λ none. c.if-size-eq0.false (c.size.ensures ∙ (ap size dims ∙ none))))
+
+pub dot-requires-2-after_bounds : goal.dot-requires-2-after_bounds
+dot-requires-2-after_bounds g c κs within =
+    let dims = dims-of _ _ _ _ _ _ _ _ _ c.Ix2-dim.ensures c.len_of.ensures.value c.len_of-2.ensures.value c.len_of-3.ensures.value c.len_of-4.ensures.value in
+    (c.requires.shapes.right, c.requires.right_sums (λ none. c.if-size-eq0.false (c.size.ensures ∙ (ap size dims ∙ none))))
+
 pub kron-requires-clause-products : goal.kron-requires-clause-products
 kron-requires-clause-products g c κs within =
     mix-products g.A.Valued c.args.a.now c.args.b.now c.args.c.now c.args.d.now c.raw_dim.ensures.axes c.raw_dim-2.ensures.axes c.raw_dim-3.ensures.axes c.raw_dim-4.ensures.axes c.requires.shapes

@@ -1,7 +1,7 @@
 use Rattle.std.proofs.Common.{◌≡◌, ◌∙◌, ◌∷◌, [], ap, get_or, sym}
 use Rattle.ndarray.specs.Index.{size}
 use Rattle.ndarray.specs.Products.{column_entries, column_of, matrix_of, product_of}
-use Rattle.ndarray.proofs.algebra.Chains.{chain-made, chain-shapes, chain-sums}
+use Rattle.ndarray.proofs.algebra.Chains.{chain-made, chain-shapes, chain-sums, matrix-by_vector}
 use Rattle.ndarray.proofs.callers.Collecting.{if_ok-both}
 use Rattle.ndarray.proofs.cells.Products.{values-none}
 use Rattle.ndarray.proofs.linalg.chains.mat_vec_chain.Goals as goal
@@ -14,6 +14,12 @@ returns-then-len_of-eq0-clause-product g c =
     if_ok-both c.zeros.result _ _ _
     (λ z lengths whole. values-none e (m.rows ∷ []) (column_entries m) z (lengths ∙ ap (λ n. n ∷ []) (sym none)) whole (ap (λ n. size (n ∷ [])) none))
     c.zeros.ensures.lengths c.zeros.ensures.whole
+
+pub dot-requires-after_bounds : goal.dot-requires-after_bounds
+dot-requires-after_bounds g c κs within = (
+  matrix-by_vector c.args.b.now.lengths c.args.x.now.lengths c.raw_dim-2.ensures.axes c.raw_dim-3.ensures.axes c.requires.shapes.second c.raw_dim-2.ensures.limit c.raw_dim-3.ensures.limit,
+  c.requires.inner_sums (λ none. c.if-len_of-eq0.false (c.len_of.ensures.value ∙ none)),
+)
 
 pub dot-requires-2-after_bounds : goal.dot-requires-2-after_bounds
 dot-requires-2-after_bounds g c κs within =

@@ -1,23 +1,20 @@
-use Rattle.std.proofs.Common.{◌≡◌, ◌∙◌, ◌↔◌, ap, refl, subst, true}
-use Rattle.std.specs.Prelude.{IsTrue}
+use Rattle.std.proofs.Common.{◌≡◌, ◌∙◌, ap, refl, subst, true}
 use Rattle.ndarray.specs.Broadcast.{BroadcastsTo}
 use Rattle.ndarray.specs.Products.{CanAddProduct}
 use Rattle.ndarray.specs.Views.{broadcast_to}
 use Rattle.ndarray.specs.WholeValues.{whole_numbers}
 use Rattle.ndarray.specs.declared.base.shape.Order.TheVariants.{RowMajor, ColumnMajor}
-use Rattle.ndarray.proofs.callers.Testing.{may-test, tested-pairs}
+use Rattle.ndarray.proofs.callers.Testing.{may-decide, tested-pairs}
 use Rattle.ndarray.proofs.cells.TestedCells.{tested-assign}
 use Rattle.ndarray.proofs.convolution.WindowTests.{not_true}
 use Rattle.ndarray.proofs.lists.Decisions.{from_yes}
 use Rattle.ndarray.proofs.linalg.scaled_addition.scaled_sums_fit.Goals as goal
 
 pub all_in_either_order-requires-clause-by_rows : goal.all_in_either_order-requires-clause-by_rows
-all_in_either_order-requires-clause-by_rows g c =
-    may-test _ (λ t p r d. (IsTrue r ↔ CanAddProduct (whole_numbers g.A.Number.value g.A.Number.fits) t.alpha p.0.now p.1.now) × (d ≡ t)) _ _ _ true (λ i x k s h. h.1) RowMajor (λ i x b s. tt)
+all_in_either_order-requires-clause-by_rows g c = may-decide _ (λ t p. CanAddProduct (whole_numbers g.A.Number.value g.A.Number.fits) t.alpha p.0.now p.1.now) _ _ true RowMajor
 
 pub all_in_either_order-requires-clause-by_columns : goal.all_in_either_order-requires-clause-by_columns
-all_in_either_order-requires-clause-by_columns g c =
-    may-test _ (λ t p r d. (IsTrue r ↔ CanAddProduct (whole_numbers g.A.Number.value g.A.Number.fits) t.alpha p.0.now p.1.now) × (d ≡ t)) _ _ _ true (λ i x k s h. h.1) ColumnMajor (λ i x b s. tt)
+all_in_either_order-requires-clause-by_columns g c = may-decide _ (λ t p. CanAddProduct (whole_numbers g.A.Number.value g.A.Number.fits) t.alpha p.0.now p.1.now) _ _ true ColumnMajor
 
 pub returns : goal.returns
 returns g c =

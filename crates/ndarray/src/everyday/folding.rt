@@ -1,0 +1,71 @@
+//! Arrays of what a closure makes of the cells of each lane, one after another.
+
+ghost use Rattle.std.specs.Prelude.{◌≡◌, ◌<◌, All, IfOk, IsOk, length, remove};
+ghost use Rattle.std.specs.List.{FoldsTo, fold};
+ghost use Rattle.ndarray.specs.Elementwise.{CanMap, Maps};
+ghost use Rattle.ndarray.specs.Everyday.{ReturnsAtBoth, TakesAtBoth};
+ghost use Rattle.ndarray.specs.Grid.{array_by};
+ghost use Rattle.ndarray.specs.Index.{size};
+ghost use Rattle.ndarray.specs.Subviews.{lane, lanes_of};
+
+use crate::base::array::{Array, ArrayBase, ArrayView};
+use crate::base::axis::Axis;
+use crate::base::dimension::{Dimension, Ix1};
+use crate::base::storage::Data;
+use crate::zip::closures::ItemCall;
+use crate::zip::collecting::collect_in_either_order;
+use std::alloc::{AllocError, Global};
+
+impl<A, S: Data<Elem = A>, D: Dimension> ArrayBase<S, D> {
+    /// The array without an axis that has at each index list the last total of the lane there: `f` takes the total so far, which
+    /// is `init` at first, and a cell, and returns the next total; it goes through the cells of a lane in the order of their
+    /// indices. A lane of length 0 has the total `init`.
+    ///
+    /// Requires `axis < ndim()`, which `axis_ok` tests, and that `f` may be called at any total and each cell. The error is
+    /// allocation failure, before the first call; where there is no lane there is none.
+    ///
+    /// ```
+    /// let a = ArrayView::from_shape((2, 3), &[1, 5, 3, 4, 2, 6])?;
+    /// a.fold_axis(alloc, Axis(1), 0, |most, x| (*most).max(*x))?; // [5, 6]
+    /// ```
+    pub fn fold_axis<B: Copy, F: Fn(&B, &A) -> B>(
+        &self,
+        alloc: Global,
+        axis: Axis,
+        init: B,
+        f: F,
+    ) -> Result<Array<B, D::Smaller>, AllocError>
+        requires axis { axis.0 < length self.now.lengths }
+        requires callable { (b : B) → CanMap (TakesAtBoth F.Fn f b) self.now }
+        ensures values { (h : B → A → B) → ((p : _) (q : _) (r : B) → F.post f p q r → r ≡ h p.now q.now) → IfOk result (λ c. c ≡ array_by (remove self.now.lengths axis.0) (λ js. fold h init (lane self.now axis.0 js).cells)) }
+        ensures cells { IfOk result (Maps (λ l r. FoldsTo (ReturnsAtBoth F.Fn f) init l.cells r) (lanes_of self.now axis.0)) }
+        ensures axes { IfOk result (λ c. D.Smaller.has_axes (length c.lengths)) }
+        ensures empty { size (remove self.now.lengths axis.0) ≡ 0 → IsOk result }
+    {
+        let _whole = self.raw_dim();
+        collect_in_either_order(alloc, self.lanes(axis), FoldLane { init, f })
+    }
+}
+
+/// The last total of a lane, as a call.
+#[derive(Drop)]
+struct FoldLane<B, F> {
+    init: B,
+    f: F,
+}
+
+impl<'a, A, B: Copy, F: Fn(&B, &A) -> B> ItemCall<ArrayView<'a, A, Ix1>> for FoldLane<B, F> {
+    type Out = B;
+
+    ghost can_call = { λ c l. (b : B) → All (TakesAtBoth F.Fn c.f b) l.cells };
+
+    ghost call_gives = { λ c l r d. FoldsTo (ReturnsAtBoth F.Fn c.f) c.init l.cells r × (d ≡ c) };
+
+    fn call(&mut self, lane: ArrayView<'a, A, Ix1>) -> B {
+        let mut total = self.init;
+        for x in lane.iter() {
+            total = (self.f)(&total, x);
+        }
+        total
+    }
+}

@@ -1,0 +1,87 @@
+//! Calls on two arrays of one shape, cell by cell.
+
+ghost use Rattle.std.specs.Prelude.{◌≡◌, IfOk, IsOk, length};
+ghost use Rattle.ndarray.specs.Everyday.{CanMapTwo, LeavesBeside, MapsTwo, ReturnsAtBoth, TakesAtBoth, TakesToWriteBeside, combined};
+ghost use Rattle.ndarray.specs.Index.{size};
+
+use crate::base::array::{Array, ArrayBase};
+use crate::base::dimension::Lengths;
+use crate::base::storage::{Data, DataMut};
+use crate::everyday::calls::{Copies, OnTwo, WritingBeside};
+use crate::zip::collecting::collect_of_both;
+use crate::zip::updating::try_update;
+use std::alloc::{AllocError, Global};
+
+impl<A, S: Data<Elem = A>, D: Lengths> ArrayBase<S, D> {
+    /// The array of what `f` returns at the two cells at each index list.
+    ///
+    /// Requires that the other array has the same shape (compare with `shape`; one that broadcasts to it is seen at it by
+    /// `broadcast`), and that `f` may be called at each two cells. The error is allocation failure, before the first call;
+    /// without cells there is none.
+    ///
+    /// ```
+    /// let a = ArrayView::from_shape((2, 2), &[1, 2, 3, 4])?;
+    /// a.combine(alloc, &a.t(), |x, y| 10 * x + y)?; // [[11, 23], [32, 44]]
+    /// ```
+    pub fn combine<B, T: Data<Elem = B>, R: Drop, F: Fn(&A, &B) -> R>(
+        &self,
+        alloc: Global,
+        other: &ArrayBase<T, D>,
+        f: F,
+    ) -> Result<Array<R, D>, AllocError>
+        requires same { other.now.lengths ≡ self.now.lengths }
+        requires callable { CanMapTwo (TakesAtBoth F.Fn f) self.now other.now }
+        ensures values { (h : A → B → R) → ((p : _) (q : _) (r : R) → F.post f p q r → r ≡ h p.now q.now) → IfOk result (λ c. c ≡ combined h self.now other.now) }
+        ensures cells { IfOk result (MapsTwo (ReturnsAtBoth F.Fn f) self.now other.now) }
+        ensures axes { IfOk result (λ c. D.has_axes (length c.lengths)) }
+        ensures empty { size self.now.lengths ≡ 0 → IsOk result }
+    {
+        collect_of_both(alloc, self.view(), other.view(), OnTwo(f))
+    }
+}
+
+impl<A: Copy, S: DataMut<Elem = A>, D: Lengths> ArrayBase<S, D> {
+    /// Calls `f` at each cell, to write to it, and at the cell of another array at the same index list.
+    ///
+    /// Requires that the other array has the same shape (compare with `shape`; one that broadcasts to it is seen at it by
+    /// `broadcast`), and that `f` may be called at each two cells. Nothing is allocated.
+    ///
+    /// ```
+    /// // [[1, 2], [3, 4]] and [[4, 3], [2, 1]] become [[4, 3], [3, 4]]
+    /// array.zip_mut_with(&other, |x, y| *x = (*x).max(*y));
+    /// ```
+    pub fn zip_mut_with<B, T: Data<Elem = B>, F: Fn(&mut A, &B)>(
+        &mut self,
+        rhs: &ArrayBase<T, D>,
+        f: F,
+    )
+        requires same { rhs.now.lengths ≡ self.old.lengths }
+        requires callable { CanMapTwo (TakesToWriteBeside F.Fn f) self.old rhs.now }
+        ensures values { (h : A → B → A) → ((p : _) (y : _) (q : _) → F.post f p y tt q → q.now ≡ h p.now y.now) → self.new ≡ combined h self.old rhs.now }
+        ensures cells { MapsTwo (LeavesBeside F.Fn f) self.old rhs.now self.new }
+    {
+        let _whole = self.raw_dim();
+        match try_update(self, rhs.view(), WritingBeside(f)) {
+            Ok(()) => {}
+            Err(_) => unreachable!(),
+        }
+    }
+
+    /// Leaves in each cell the cell of another array at the same index list.
+    ///
+    /// Requires that the other array has the same shape; compare with `shape`. One that broadcasts to it is seen at it by
+    /// `broadcast`. Nothing is allocated.
+    ///
+    /// ```
+    /// array.assign(&other); // the same cells in both
+    /// ```
+    pub fn assign<T: Data<Elem = A>>(&mut self, rhs: &ArrayBase<T, D>)
+        requires { rhs.now.lengths ≡ self.old.lengths }
+        ensures { self.new ≡ rhs.now }
+    {
+        match try_update(self, rhs.view(), Copies) {
+            Ok(()) => {}
+            Err(_) => unreachable!(),
+        }
+    }
+}
