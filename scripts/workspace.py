@@ -7,7 +7,7 @@ from pathlib import Path
 
 TOP = Path(__file__).resolve().parent.parent
 CRATES = TOP / "crates"
-BENCH = CRATES / "ndarray_bench"
+TESTS = CRATES / "ndarray_tests"
 
 
 @contextlib.contextmanager

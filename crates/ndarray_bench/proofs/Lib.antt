@@ -1,3 +1,0 @@
-mod Grants
-mod MadeTriangles
-pub mod PairedProducts

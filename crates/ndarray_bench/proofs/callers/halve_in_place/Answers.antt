@@ -1,5 +1,0 @@
-use Rattle.ndarray.proofs.callers.Writing.{refitted-whole}
-use Rattle.ndarray_bench.proofs.callers.halve_in_place.Goals as goal
-
-pub returns-clause-whole : goal.returns-clause-whole
-returns-clause-whole g c = refitted-whole c.args.a.now _

@@ -1,5 +1,0 @@
-use Rattle.ndarray.proofs.callers.Differences.{differ-once}
-use Rattle.ndarray_bench.proofs.callers.increases.Goals as goal
-
-pub diff-requires-clause-defined : goal.diff-requires-clause-defined
-diff-requires-clause-defined g c = differ-once _ _ _ _ c.requires.fits

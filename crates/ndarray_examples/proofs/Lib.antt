@@ -1,0 +1,2 @@
+mod MadeTriangles
+pub mod PairedProducts

@@ -1,0 +1,10 @@
+use Rattle.std.specs.Prelude.{pos}
+use Rattle.std.specs.Ordering.{int_eq}
+use Rattle.num_traits.specs.Ints.{signed-eq}
+use Rattle.ndarray.proofs.callers.EqualSlices.{equal-slices}
+use Rattle.ndarray_examples.proofs.unrolled.are_equal.Goals as goal
+
+pub returns-then-xs-ys : goal.returns-then-xs-ys
+returns-then-xs-ys c =
+    let e = equal-slices int_eq signed-eq (pos 0) c.args.xs.now c.args.ys.now c.if-xs-ys.true in
+    (λ h. e.0 (c.unrolled_eq.ensures.0 h), λ s. c.unrolled_eq.ensures.1 (e.1 s))

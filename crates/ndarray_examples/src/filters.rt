@@ -1,0 +1,81 @@
+//! Filters: two of a signal, one after another, and the greatest cells of a table's windows.
+
+ghost use Rattle.std.specs.Prelude.{◌≡◌, ◌≤◌, ◌↔◌, length, slice_index, IfErr, IfOk, IfSome, IsSome, IsTrue};
+ghost use Rattle.ndarray.specs.Convolution.{CanPad};
+ghost use Rattle.ndarray.specs.Grid.{one_axis};
+ghost use Rattle.ndarray_examples.specs.Filters.{AreLocalMaxima, AreZeroTests, IsZero, convolved_residues, filtered_residues};
+
+use crate::maximum_filter;
+use ndarray::conv::{conv_full, conv_valid};
+use ndarray::laws::conv_filters;
+use ndarray::{Array, ArrayBase, ArrayView, Data, Dimension, Ix1, Ix2, Lengths, Zip};
+use residue::Residue;
+use std::alloc::{AllocError, Global};
+
+/// A signal filtered by two kernels one after another, and filtered once by the convolution of the kernels: the same.
+pub fn filter_twice(
+    alloc: Global,
+    signal: &ArrayView<'_, Residue<5>, Ix1>,
+    first: &ArrayView<'_, Residue<5>, Ix1>,
+    second: &ArrayView<'_, Residue<5>, Ix1>,
+) -> Result<(Array<Residue<5>, Ix1>, Array<Residue<5>, Ix1>), AllocError>
+    requires first { 1 ≤ length first.now.cells }
+    requires second { 1 ≤ length second.now.cells }
+    requires limit { CanPad (length first.now.cells) (length second.now.cells) }
+    ensures same { IfOk result (λ r. r.0 ≡ r.1) }
+    ensures twice { IfOk result (λ r. r.0 ≡ one_axis (filtered_residues (filtered_residues signal.now.cells first.now.cells) second.now.cells)) }
+    ensures once { IfOk result (λ r. r.1 ≡ one_axis (filtered_residues signal.now.cells (convolved_residues first.now.cells second.now.cells))) }
+{
+    conv_filters::<Residue<5>>();
+    let _lengths = (signal.raw_dim(), first.raw_dim(), second.raw_dim());
+    let once = conv_valid(alloc, signal, first)?;
+    let twice = conv_valid(alloc, &once, second)?;
+    let kernel = conv_full(alloc, first, second)?;
+    let direct = conv_valid(alloc, signal, &kernel)?;
+    Ok((twice, direct))
+}
+
+/// The greatest cell of each square of three by three cells of a table, or `None` where a side is shorter.
+pub fn local_maxima<S: Data<Elem = u64>>(
+    alloc: Global,
+    table: &ArrayBase<S, Ix2>,
+) -> Result<Option<Array<u64, Ix2>>, AllocError>
+    ensures when { IfOk result (λ made. IsSome made ↔ ((3 ≤ slice_index table.now.lengths 0) × (3 ≤ slice_index table.now.lengths 1))) }
+    ensures maxima { IfOk result (λ made. IfSome made (AreLocalMaxima table.now)) }
+    ensures error { IfErr result (λ _. (3 ≤ slice_index table.now.lengths 0) × (3 ≤ slice_index table.now.lengths 1)) }
+{
+    let (rows, columns) = table.raw_dim().into_pattern();
+    if rows < 3 || columns < 3 {
+        return Ok(None);
+    }
+    let maxima = maximum_filter(alloc, table)?;
+    Ok(Some(maxima))
+}
+
+/// Whether all cells are zero.
+pub fn is_zero<S: Data<Elem = i64>, D: Lengths>(a: &ArrayBase<S, D>) -> bool
+    ensures { IsTrue result ↔ IsZero a.now }
+{
+    Zip::from(a.view()).all(|x| *x == 0)
+}
+
+/// Of each window of so many rows and columns in a table, whether all its cells are zero; or `None` where one of these is 0 or more than
+/// the table has.
+pub fn zero_windows<S: Data<Elem = i64>>(
+    alloc: Global,
+    table: &ArrayBase<S, Ix2>,
+    rows: usize,
+    columns: usize,
+) -> Result<Option<Array<bool, Ix2>>, AllocError>
+    ensures when { IfOk result (λ made. IsSome made ↔ ((1 ≤ rows) × (1 ≤ columns) × (rows ≤ slice_index table.now.lengths 0) × (columns ≤ slice_index table.now.lengths 1))) }
+    ensures tests { IfOk result (λ made. IfSome made (AreZeroTests rows columns table.now)) }
+    ensures error { IfErr result (λ _. (1 ≤ rows) × (1 ≤ columns) × (rows ≤ slice_index table.now.lengths 0) × (columns ≤ slice_index table.now.lengths 1)) }
+{
+    let (height, width) = table.raw_dim().into_pattern();
+    if rows == 0 || columns == 0 || height < rows || width < columns {
+        return Ok(None);
+    }
+    let windows = table.windows((rows, columns));
+    let tests = Zip::from(windows).map_collect(alloc, |window| is_zero(&window))?;
+    Ok(Some(tests))
+}

@@ -1,0 +1,10 @@
+use Rattle.std.proofs.Common.{refl}
+use Rattle.std.specs.Prelude.{FitsSigned}
+use Rattle.std.specs.Int.{w64}
+use Rattle.ndarray.specs.Integers.{int_products}
+use Rattle.ndarray.proofs.callers.Lanes.{lanes-summable}
+use Rattle.ndarray_tests.proofs.rows.values.product_axis.Goals as goal
+
+pub product_axis-requires-clause-lanes : goal.product_axis-requires-clause-lanes
+product_axis-requires-clause-lanes c =
+    lanes-summable c.view-table.result c.view-table.ensures.whole c.args.axis.0 (c.if-not-axis_ok.ensures.0 refl) int_products (FitsSigned w64) (λ x. x) (c.if-not-products_fit.ensures.selections refl)
