@@ -1,3 +1,4 @@
+pub mod Common
 pub mod algebra
 pub mod boxes
 pub mod callers
@@ -12,4 +13,5 @@ pub mod regions
 pub mod runs
 pub mod strides
 pub mod sums
+pub mod texts
 pub mod views

@@ -22,6 +22,7 @@ pub mod ProductChains
 pub mod Products
 pub mod RowOrder
 pub mod RowsBelow
+pub mod RunningTotals
 pub mod SameMatrices
 pub mod Scanning
 pub mod Stacking

@@ -2,6 +2,7 @@
 pub mod AccumulationTests
 pub mod AlongAxis
 pub mod Assignments
+pub mod BestCells
 pub mod BlockRows
 pub mod CellRows
 pub mod Cells
@@ -30,6 +31,7 @@ pub mod LaneTests
 pub mod LaneTiles
 pub mod LaneTotals
 pub mod LastCells
+pub mod ListedCells
 pub mod Mapped
 pub mod Matrices
 pub mod PlaceScans

@@ -3,8 +3,10 @@ pub mod Cauchy
 pub mod Examples
 pub mod Exchanged
 pub mod Filters
+pub mod FiltersOnAxes
 pub mod Full
 pub mod KernelSums
+pub mod LinearFilters
 pub mod Magnitudes
 pub mod Mapped
 pub mod MirroredKernels
@@ -18,6 +20,7 @@ pub mod Padding
 pub mod Pairs
 pub mod ProductLists
 pub mod ReversedWindows
+pub mod SeparableFilters
 pub mod SmallProducts
 pub mod Swapped
 pub mod ValueSums

@@ -1,4 +1,5 @@
 -- What is true of lists of any elements.
+pub mod AxisOrders
 pub mod CellLookup
 pub mod Collections
 pub mod Counters

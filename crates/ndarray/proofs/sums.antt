@@ -9,6 +9,7 @@ pub mod Rearrangements
 pub mod RowSums
 pub mod RunningRuns
 pub mod RunningSum
+pub mod SelectedPlaces
 pub mod Selections
 pub mod SeveralRows
 pub mod SignedSums

@@ -7,8 +7,11 @@
 
 mod calls;
 pub mod comparing;
+pub mod display;
+pub mod extremes;
 pub mod folding;
 pub mod mapping;
 pub mod pairs;
+pub mod reshaping;
 pub mod shapes;
 pub mod updating;

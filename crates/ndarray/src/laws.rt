@@ -1,30 +1,36 @@
 //! Laws of the definitions that the contracts of the calls cite: orders of a box, products, transposes and Kronecker products
-//! of matrices, `dot` of any number of axes, sums along an axis, triangles, differences, joined arrays, and convolutions.
+//! of matrices, `dot` of any number of axes, sums, running totals, ranges, triangles, differences, joined arrays, and convolutions.
 //!
 //! A law is a function without parameters that does nothing: its contract is the law. It holds for all shapes, those with
 //! lengths 0 too, and for any element type with the bounds of the function. To cite one, call it with the element type in a function
 //! that rests on it, as `mat_assoc::<A>();`. The clause is then known in the proof of that function, as `c.mat_assoc.ensures`;
 //! when the program runs, the call does nothing.
 //!
-//! The laws of products are on matrices of values (`specs/MatrixLaws.antt`, `specs/MatrixPowers.antt`), those of convolutions on lists of values
-//! (`specs/ConvolutionLaws.antt`), the others on arrays (`specs/Laws.antt`, and of `dot` `specs/DotLaws.antt`).
+//! The statements are in `specs`: of matrices of values in `MatrixLaws`, `MatrixPowers`, `MatrixSums`, `BlockLaws` and `KroneckerLaws`, of
+//! lists of values in `ConvolutionLaws` and `VectorLaws`, of arrays in `Laws`, `SumLaws`, `ScanLaws`, `FilterLaws`, `RangeLaws`, `OrderLaws`,
+//! `JoiningLaws` and `TriangleLaws`, and of `dot` in `DotLaws`.
 //! `proofs/callers/SameMatrices.antt` has the lemmas that lead from an array that `dot` or `kron` made to its matrix and back.
 
 ghost use Rattle.std.specs.Prelude.{◌≡◌};
 ghost use Rattle.ndarray.specs.BlockLaws.{BlocksMultiply, ColumnsMultiply, RowsMultiply, RowsOfProducts};
 ghost use Rattle.ndarray.specs.ConvolutionLaws.{ArrayFiltersCompose, ConvolutionsAssociate, ConvolutionsCommute, FiltersCompose, HaveFullLength, ValidIsPartOfFull};
 ghost use Rattle.ndarray.specs.DotLaws.{DefinitionsOfDotAgree, DotIsMatrixProduct, LaneSumsAreMatrixSums, ShapesMultiplyAsMatrices};
-ghost use Rattle.ndarray.specs.KroneckerLaws.{KroneckerOfIdentities, OneIsKroneckerNeutral};
+ghost use Rattle.ndarray.specs.FilterLaws.{FiltersByMultiples, FiltersByOneCell, FiltersBySums, FiltersOfMultiples, FiltersOfSums, FiltersOnAxesCompose, FiltersSeparate};
+ghost use Rattle.ndarray.specs.JoiningLaws.{ItemsOfStackAreParts, PartsCanBeJoined, PartsJoin, TotalsJoin};
+ghost use Rattle.ndarray.specs.KroneckerLaws.{KroneckerOfIdentities, KroneckersOfAllMultiply, OneIsKroneckerNeutral};
 ghost use Rattle.ndarray.specs.Laws.{AxisSumArraysAddUp, AxisSumsAddUp, AxisSumsStayInRange, CellsHaveEqualTotals, ColumnOrderRearranges, DifferencesAdd, DifferencesCanBeTaken, OrdersHaveEqualTotals, StackIsConcatenation, TriangleSumsAddUp, TrianglesPart};
 ghost use Rattle.ndarray.specs.MatrixLaws.{KroneckersAssociate, KroneckersMultiply, KroneckersTranspose, ProductsAssociate, ProductsTranspose};
 ghost use Rattle.ndarray.specs.MatrixPowers.{IdentityIsNeutral, PowersAdd};
 ghost use Rattle.ndarray.specs.MatrixSums.{MultiplesTimesMatrix, ProductsOfMultiples, ProductsOfSums, SumsTimesMatrix};
+ghost use Rattle.ndarray.specs.OrderLaws.{FoldsOverBoxesAgree, FoldsOverCellsAgree};
+ghost use Rattle.ndarray.specs.RangeLaws.{ChunksStayInRange, ItemsStayInRange, LanesStayInRange, MagnitudesBySidesStayInRange, MagnitudesOfBlocksStayInRange, MagnitudesOfRowsStayInRange, PartsStayInRange, SlicesStayInRange, SumsBySidesStayInRange, SumsOfBlocksStayInRange, SumsOfRowsStayInRange, WindowsStayInRange};
+ghost use Rattle.ndarray.specs.ScanLaws.{AreasAreTotals, CumulatesLeaveRunningTotals, DifferencesGiveBack, LastItemHasTotals, RectanglesAdd};
 ghost use Rattle.ndarray.specs.SumLaws.{LaneTotalsAdd, LaneTotalsMultiply, TotalsAdd, TotalsMultiply};
-ghost use Rattle.ndarray.specs.TriangleLaws.{LowerMatricesMultiply, LowerTrianglesMeet, TrianglesCommute, UpperTrianglesMeet};
+ghost use Rattle.ndarray.specs.TriangleLaws.{LowerMatricesMultiply, LowerTrianglesMeet, LowerTrianglesTranspose, TrianglesCommute, UpperTrianglesMeet, UpperTrianglesTranspose};
 ghost use Rattle.ndarray.specs.VectorLaws.{InnerProductsCommute, MatricesChangeSides};
 
-use crate::elements::{LinalgScalar, Valued};
-use std::ops::Sub;
+use crate::elements::{IntegerScalar, LinalgScalar, Valued};
+use std::ops::{Mul, Sub};
 
 /// The column order of a box holds the index lists of its row order, each once. The sums over both are equal: of a value for each
 /// index list, and of the cells of an array.
@@ -36,6 +42,16 @@ pub fn column_order<A: Valued>()
     ensures rearranges { ColumnOrderRearranges }
     ensures totals { OrdersHaveEqualTotals A.addition }
     ensures cells { CellsHaveEqualTotals A.addition A.meaning }
+{}
+
+/// A fold whose steps commute has the same value in either order, over the index lists of a box and over the cells of an array.
+///
+/// ```
+/// fold_orders::<i64, i64>(); // then the law holds of totals and cells that are `i64` in the proof of the caller
+/// ```
+pub fn fold_orders<A, B>()
+    ensures boxes { FoldsOverBoxesAgree B }
+    ensures cells { FoldsOverCellsAgree A B }
 {}
 
 /// (AB)C is A(BC), where the inner lengths are equal.
@@ -103,6 +119,16 @@ pub fn kron_mixed<A: LinalgScalar>()
     ensures mixed { KroneckersMultiply A.addition A.multiplication }
     ensures associates { KroneckersAssociate A.multiplication }
     ensures transposes { KroneckersTranspose A.multiplication }
+{}
+
+/// The product of two Kronecker products of as many matrices is the Kronecker product of their products, where the inner lengths of each
+/// two are equal.
+///
+/// ```
+/// kron_mixed_all::<i64>(); // then the law holds of `i64` in the proof of the caller
+/// ```
+pub fn kron_mixed_all<A: LinalgScalar>()
+    ensures { KroneckersOfAllMultiply A.addition A.multiplication }
 {}
 
 /// Kronecker products with identity matrices: that of two is the identity matrix, and that with the one of one row changes nothing.
@@ -176,6 +202,78 @@ pub fn sums_multiply<A: LinalgScalar>()
     ensures along { LaneTotalsMultiply A.addition A.multiplication A.meaning }
 {}
 
+/// What may be summed of an array, as `sums_fit` tells, may be summed of its parts, slices and items along an axis, of each lane, and of
+/// each window and whole chunk. The same of products, as `products_fit` tells. So a test of the whole array is one of each part.
+///
+/// ```
+/// ranges_pass::<i64>(); // then the law holds of `i64` in the proof of the caller
+/// ```
+pub fn ranges_pass<A: Valued>()
+    ensures parts { PartsStayInRange A.addition A.InRange A.meaning }
+    ensures slices { SlicesStayInRange A.addition A.InRange A.meaning }
+    ensures items { ItemsStayInRange A.addition A.InRange A.meaning }
+    ensures lanes { LanesStayInRange A.addition A.InRange A.meaning }
+    ensures windows { WindowsStayInRange A.addition A.InRange A.meaning }
+    ensures chunks { ChunksStayInRange A.addition A.InRange A.meaning }
+    ensures part_products { PartsStayInRange A.multiplication A.InRange A.meaning }
+    ensures slice_products { SlicesStayInRange A.multiplication A.InRange A.meaning }
+    ensures item_products { ItemsStayInRange A.multiplication A.InRange A.meaning }
+    ensures lane_products { LanesStayInRange A.multiplication A.InRange A.meaning }
+    ensures window_products { WindowsStayInRange A.multiplication A.InRange A.meaning }
+    ensures chunk_products { ChunksStayInRange A.multiplication A.InRange A.meaning }
+{}
+
+/// Where the inner sums of a product of matrices are in range, as `entries_fit` tells, so are those of a row of the left matrix with
+/// the right one, and those of the blocks of either: of matrices one above the other on the left, or side by side on the right.
+///
+/// ```
+/// product_ranges_pass::<i64>(); // then the law holds of `i64` in the proof of the caller
+/// ```
+pub fn product_ranges_pass<A: IntegerScalar>()
+    ensures rows { SumsOfRowsStayInRange A.Valued }
+    ensures blocks { SumsOfBlocksStayInRange A.Valued }
+    ensures sides { SumsBySidesStayInRange A.Valued }
+    ensures row_magnitudes { MagnitudesOfRowsStayInRange A.fits }
+    ensures block_magnitudes { MagnitudesOfBlocksStayInRange A.fits }
+    ensures side_magnitudes { MagnitudesBySidesStayInRange A.fits }
+{}
+
+/// The last item of running totals along an axis that is not empty has the totals of the lanes, as `sum_axis` makes them, or
+/// `product_axis` of running products. On two axes, the running totals along one axis of those along the other have at each index
+/// list the total of the rectangle up to there, and the total of any rectangle is given by those of four rectangles that begin at
+/// the first row and column: a table of summed areas.
+///
+/// `proofs/callers/RunningTotals.antt` has the lemma that `scan_lanes` leaves running totals.
+///
+/// ```
+/// running_totals::<i64>(); // then the law holds of `i64` in the proof of the caller
+/// ```
+pub fn running_totals<A: Valued>()
+    ensures last_sums { LastItemHasTotals A.addition A.meaning }
+    ensures last_products { LastItemHasTotals A.multiplication A.meaning }
+    ensures areas { AreasAreTotals A.addition A.meaning }
+    ensures rectangles { RectanglesAdd A.addition A.meaning }
+{}
+
+/// `cumprod` leaves running products, where `*` on elements does what the multiplication of their values does.
+///
+/// ```
+/// cumprod_totals::<i64>(); // then the law holds of `i64` in the proof of the caller
+/// ```
+pub fn cumprod_totals<A: Valued + Mul<A, Output = A>>()
+    ensures { CumulatesLeaveRunningTotals A.multiplication A.meaning A.mul_gives }
+{}
+
+/// `diff` of running totals has the values of the array without its first item, where `-` undoes the addition of values, which can be
+/// cancelled.
+///
+/// ```
+/// diff_of_totals::<i64>(); // then the law holds of `i64` in the proof of the caller
+/// ```
+pub fn diff_of_totals<A: Valued + Sub<A, Output = A>>()
+    ensures { DifferencesGiveBack A.addition A.meaning A.sub_gives }
+{}
+
 /// With two or more axes, `triu(k)` and `tril(k - 1)` keep each cell exactly once between them: one has the cell, and the
 /// other has zero. Where zero has the neutral value, their sums add up to the sum of all cells.
 ///
@@ -197,6 +295,16 @@ pub fn triangles_meet<A>()
     ensures upper { UpperTrianglesMeet A }
     ensures lower { LowerTrianglesMeet A }
     ensures commute { TrianglesCommute A }
+{}
+
+/// On at most two axes, the transpose of `triu(k)` is `tril(-k)` of the transpose, and that of `tril(k)` is `triu(-k)` of it.
+///
+/// ```
+/// triangles_transpose::<i64>(); // then the law holds of `i64` in the proof of the caller
+/// ```
+pub fn triangles_transpose<A>()
+    ensures upper { UpperTrianglesTranspose A }
+    ensures lower { LowerTrianglesTranspose A }
 {}
 
 /// The product of two matrices that have zero above the diagonal has zero there too, where the inner lengths are equal.
@@ -226,6 +334,27 @@ pub fn diff_adds<A: Copy + Sub<A, Output = A>>()
 /// ```
 pub fn stack_is_concat<A>()
     ensures { StackIsConcatenation A }
+{}
+
+/// The total of arrays joined along an axis is the total of their totals.
+///
+/// ```
+/// concat_adds::<i64>(); // then the law holds of `i64` in the proof of the caller
+/// ```
+pub fn concat_adds<A: Valued>()
+    ensures { TotalsJoin A.addition A.meaning }
+{}
+
+/// The part of an array below an index of an axis and the part from there on, joined along that axis, are the array. Joining them
+/// is no error where the array is within the limit. The items of a stack along its new axis are the arrays that were stacked.
+///
+/// ```
+/// parts_join::<i64>(); // then the law holds of `i64` in the proof of the caller
+/// ```
+pub fn parts_join<A>()
+    ensures joined { PartsJoin A }
+    ensures allowed { PartsCanBeJoined A }
+    ensures items { ItemsOfStackAreParts A }
 {}
 
 /// The full convolution of two lists is that of the second and the first. It has one value less than both lists together, and none
@@ -258,4 +387,29 @@ pub fn conv_filters<A: LinalgScalar>()
     ensures part { ValidIsPartOfFull A.addition A.multiplication }
     ensures lists { FiltersCompose A.addition A.multiplication }
     ensures arrays { ArrayFiltersCompose A.addition A.multiplication }
+{}
+
+/// A valid convolution, on any number of axes, is linear in the array and in the kernel: of a sum it is the sum, of a multiple the
+/// multiple. By a kernel of which all values but one are zero, it is that value times a slice of the array.
+///
+/// ```
+/// filters_add::<i64>(); // then the law holds of `i64` in the proof of the caller
+/// ```
+pub fn filters_add<A: LinalgScalar>()
+    ensures of_sums { FiltersOfSums A.addition A.multiplication A.meaning }
+    ensures by_sums { FiltersBySums A.addition A.multiplication A.meaning }
+    ensures of_multiples { FiltersOfMultiples A.addition A.multiplication A.meaning }
+    ensures by_multiples { FiltersByMultiples A.addition A.multiplication A.meaning }
+    ensures by_one_cell { FiltersByOneCell A.addition A.multiplication A.meaning }
+{}
+
+/// Two valid convolutions of an array in turn, on any number of axes, are one with the full convolution of their kernels, where these have
+/// cells. So the filter by a kernel that is a column times a row is that by the column and then by the row.
+///
+/// ```
+/// filters_compose::<i64>(); // then the law holds of `i64` in the proof of the caller
+/// ```
+pub fn filters_compose<A: LinalgScalar>()
+    ensures compose { FiltersOnAxesCompose A.addition A.multiplication }
+    ensures separate { FiltersSeparate A.addition A.multiplication }
 {}

@@ -9,7 +9,7 @@ ghost use Rattle.ndarray.specs.Joining.{concatenate_error, concatenation, concat
 ghost use Rattle.ndarray.specs.declared.base.error.ErrorKind.{ErrorKind};
 ghost use Rattle.ndarray.specs.declared.stacking.error.StackError.TheVariants.{Shape, Memory};
 
-mod blocks;
+pub(crate) mod blocks;
 mod error;
 mod macros;
 mod shapes;

@@ -135,7 +135,7 @@ module _ {A C : Type 0} (plus : CommutativeMonoid C) (value : A → C) where
       (distributes : (x y z : C) → times.op x (plus.op y z) ≡ plus.op (times.op x y) (times.op x z))
       (absorbs : (x : C) → times.op plus.unit x ≡ plus.unit) (factor : C) where
     -- a factor of each value is one of their total
-    total-multiplied : {X : Type 0} (f : X → C) (xs : List X) → total plus (map (λ x. times.op (f x) factor) xs) ≡ times.op (total plus (map f xs)) factor
+    pub total-multiplied : {X : Type 0} (f : X → C) (xs : List X) → total plus (map (λ x. times.op (f x) factor) xs) ≡ times.op (total plus (map f xs)) factor
     total-multiplied f [] = sym (absorbs factor)
     total-multiplied f (x ∷ xs) =
         ap (plus.op (times.op (f x) factor)) (total-multiplied f xs)

@@ -15,7 +15,7 @@ use Rattle.ndarray.proofs.callers.Triangles.{cleared-cell, int_le-false, int_le-
 use Rattle.ndarray.proofs.cells.Cells.{tabulate-is}
 use Rattle.ndarray.proofs.cells.Diagonals.{kept_at}
 
-two-or-fewer : (n : ℕ) → (n < 2) ⊎ (2 ≤ n)
+pub two-or-fewer : (n : ℕ) → (n < 2) ⊎ (2 ≤ n)
 two-or-fewer zero = inl (omega arith)
 two-or-fewer (suc zero) = inl (omega arith)
 two-or-fewer (suc (suc n)) = inr (omega arith)
@@ -74,7 +74,7 @@ module _ {A : Type 0} (first second both : ℤ → Bool) (meet : (d : ℤ) → b
               ∙ sym (ap (λ t. if t then cell g is else Some zero_cell) (answer is false b e f))
 
 -- a test passes or fails
-passes-or_fails : (k d : ℤ) → ((int_le k d ≡ true) × (k ≤ℤ d)) ⊎ ((int_le k d ≡ false) × (d <ℤ k))
+pub passes-or_fails : (k d : ℤ) → ((int_le k d ≡ true) × (k ≤ℤ d)) ⊎ ((int_le k d ≡ false) × (d <ℤ k))
 passes-or_fails k d = sign (d -ℤ k) refl
   where
     sign : (z : ℤ) → z ≡ d -ℤ k → ((int_le k d ≡ true) × (k ≤ℤ d)) ⊎ ((int_le k d ≡ false) × (d <ℤ k))

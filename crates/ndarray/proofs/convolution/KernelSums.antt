@@ -27,7 +27,7 @@ use Rattle.ndarray.proofs.pieces.Windows.{window-inside}
 use Rattle.ndarray.proofs.sums.Rearrangements.{total-rearranged}
 
 -- the index list counted from the other end stays in the box, and twice is the list itself
-mirrored-inside : (ns is : List ℕ) → InBox ns is → InBox ns (mirrored ns is)
+pub mirrored-inside : (ns is : List ℕ) → InBox ns is → InBox ns (mirrored ns is)
 mirrored-inside [] is b = tt
 mirrored-inside (n ∷ ns) [] b = absurd b
 mirrored-inside (n ∷ ns) (i ∷ is) b = let k : i < n = b.0 in (omega (arith, k), mirrored-inside ns is b.1)

@@ -214,12 +214,12 @@ sum-shapes a (g ∷ gs) =
     ∙ (ap (λ n. get_or g.lengths a 0 + n) (sum-shapes a gs) ∙ sym (sum_by-cons (λ h. get_or h.lengths a 0) g gs))
 
 -- arrays that may be joined along an axis, of which ns are the first one's lengths
-record AreAlong {A : Type 0} (a : ℕ) (ns : List ℕ) (gs : List (Grid A)) : Type 0 where
-  below : a < length ns
-  each : All (λ g. g.lengths ≡ set ns a (get_or g.lengths a 0)) gs
-  limit : nonzero_size (set ns a (sum_by (λ g. get_or g.lengths a 0) gs)) < 2 ^ 63
+pub record AreAlong {A : Type 0} (a : ℕ) (ns : List ℕ) (gs : List (Grid A)) : Type 0 where
+  pub below : a < length ns
+  pub each : All (λ g. g.lengths ≡ set ns a (get_or g.lengths a 0)) gs
+  pub limit : nonzero_size (set ns a (sum_by (λ g. get_or g.lengths a 0) gs)) < 2 ^ 63
 
-are-along : {A : Type 0} (a : ℕ) (g : Grid A) (gs : List (Grid A)) → concatenate_error a (shapes_of (g ∷ gs)) ≡ None → AreAlong a g.lengths (g ∷ gs)
+pub are-along : {A : Type 0} (a : ℕ) (g : Grid A) (gs : List (Grid A)) → concatenate_error a (shapes_of (g ∷ gs)) ≡ None → AreAlong a g.lengths (g ∷ gs)
 are-along a g gs none =
     let ns : List ℕ = g.lengths in
     let ms : List ℕ = concatenation_lengths a (shapes_of (g ∷ gs)) in

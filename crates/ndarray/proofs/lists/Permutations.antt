@@ -60,6 +60,27 @@ module _ {X : Type 0} where
         (IsPermutation-cons x xs (remove ys k) rest)
         (IsPermutation-sym ys (x ∷ remove ys k) (IsPermutation-remove ys k x at.1 (sym at.2)))
 
+  module _ (R : X → X → Type 0) (r : (x : X) → R x x → ⊥) where
+    -- of two lists as long, one without repeats whose elements are all in the other is that one rearranged
+    pub rearranged-as_many : (xs ys : List X) → AllPairs R xs → length ys ≡ length xs → ((z : X) → Contains xs z → Contains ys z) → IsPermutation xs ys
+    rearranged-as_many [] [] up l f = IsPermutation-refl []
+    rearranged-as_many [] (y ∷ ys) up l f = absurd (omega arith)
+    rearranged-as_many (x ∷ xs) ys up l f =
+        let at = f x (Contains-first x xs) in
+        let k = at.0 in
+        let rest = rearranged-as_many xs (remove ys k) (AllPairs-tail R x xs up) (let m = length-remove ys k at.1 in omega arith)
+        (λ z c.
+        let b = f z (Contains-later x xs z c) in
+        Contains-remove ys k b.0 z at.1 b.1
+        (λ same.
+        let here : get_or ys k z ≡ z = subst (λ i. get_or ys i z ≡ z) same b.2 in
+        let e : z ≡ x = sym here ∙ (get_or_default ys k z x at.1 ∙ at.2) in
+        r x (subst (R x) e (AllPairs-head R x xs z up c)))
+        b.2) in
+        IsPermutation-trans (x ∷ xs) (x ∷ remove ys k) ys
+        (IsPermutation-cons x xs (remove ys k) rest)
+        (IsPermutation-sym ys (x ∷ remove ys k) (IsPermutation-remove ys k x at.1 (sym at.2)))
+
 -- a box in one order is the box in any other, rearranged
 order-rearranges : (R S : List ℕ → List ℕ → Type 0) → ((is : List ℕ) → R is is → ⊥) → ((is : List ℕ) → S is is → ⊥) → (ns : List ℕ) (xs ys : List (List ℕ)) → IsOrderOf R ns xs → IsOrderOf S ns ys → IsPermutation xs ys
 order-rearranges R S r s ns xs ys p q =

@@ -50,7 +50,7 @@ size-pos (negsuc k) other = omega arith
 far_below : (a b i : ℕ) (step : ℤ) → step ≢ pos 0 → i < (b - a + unsigned_abs step - 1) / unsigned_abs step → i * unsigned_abs step < b - a
 far_below a b i step other lt = ceil-below (b - a) (unsigned_abs step) i (size-pos step other) lt
 
-step_index-below : (a b n i : ℕ) (step : ℤ) → a ≤ b → b ≤ n → i * unsigned_abs step < b - a → step_index a b step i < n
+pub step_index-below : (a b n i : ℕ) (step : ℤ) → a ≤ b → b ≤ n → i * unsigned_abs step < b - a → step_index a b step i < n
 step_index-below a b n i (pos k) le high r = omega arith
 step_index-below a b n i (negsuc k) le high r = omega arith
 
@@ -106,7 +106,7 @@ slice_length-is n a b s e =
     ∙ ap (λ x. (x + unsigned_abs s.step - 1) / unsigned_abs s.step) d)
 
 module _ (n : ℕ) (s : Slice) (h : IsSliceOf n s) where
-  reached : (i : ℕ) → i < slice_length n s → i * unsigned_abs s.step < unsigned_abs (slice_end n s) - unsigned_abs (slice_start n s)
+  pub reached : (i : ℕ) → i < slice_length n s → i * unsigned_abs s.step < unsigned_abs (slice_end n s) - unsigned_abs (slice_start n s)
   reached i lt = far_below (unsigned_abs (slice_start n s)) (unsigned_abs (slice_end n s)) i s.step h.step (subst (λ l. i < l) (slice_length-is n _ _ s (slice-ends n s h)) lt)
 
   -- the indices that it takes, modulo 2 ^ 64

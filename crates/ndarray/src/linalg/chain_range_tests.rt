@@ -1,8 +1,8 @@
 //! Whether products of three and of four arrays of integers stay in their type.
 
-ghost use Rattle.std.specs.Prelude.{◌≡◌, ◌≢◌, ◌↔◌, ◌*◌, ◌∷◌, [], IfErr, IfOk, IsTrue, slice_index};
+ghost use Rattle.std.specs.Prelude.{◌≢◌, ◌↔◌, IfErr, IfOk, IsTrue, slice_index};
+ghost use Rattle.ndarray.specs.ChainRanges.{HasChainInRange, HasMixedProductInRange, MixedProductHasCells};
 ghost use Rattle.ndarray.specs.Chains.{ShapesChain, ShapesMultiplyInPairs};
-ghost use Rattle.ndarray.specs.Index.{size};
 ghost use Rattle.ndarray.specs.Products.{HasProductsInRange, HasSumsInRange, column_of, matrix_of, product_of};
 ghost use Rattle.ndarray.specs.WholeValues.{HasMagnitudesInRange, whole_numbers};
 
@@ -41,9 +41,7 @@ where
     S: Data<Elem = A>,
     S2: Data<Elem = A>,
     S3: Data<Elem = A>,
-    ensures exact { let values = whole_numbers A.value A.fits in let inner = product_of values (matrix_of values b.now) (column_of values x.now) in
-        IfOk result (λ fits. IsTrue fits ↔ (ShapesChain a.now.lengths b.now.lengths x.now.lengths
-        × (slice_index a.now.lengths 0 ≢ 0 → HasMagnitudesInRange A.fits (matrix_of values b.now) (column_of values x.now)) × HasMagnitudesInRange A.fits (matrix_of values a.now) inner)) }
+    ensures exact { IfOk result (λ fits. IsTrue fits ↔ (ShapesChain a.now.lengths b.now.lengths x.now.lengths × HasChainInRange A.value A.fits a.now b.now x.now)) }
     ensures shapes { IfOk result (λ fits. IsTrue fits → ShapesChain a.now.lengths b.now.lengths x.now.lengths) }
     ensures inner_sums { IfOk result (λ fits. IsTrue fits → slice_index a.now.lengths 0 ≢ 0 → HasSumsInRange A.Valued (matrix_of A.Valued b.now) (column_of A.Valued x.now)) }
     ensures outer_sums { IfOk result (λ fits. IsTrue fits → HasSumsInRange A.Valued (matrix_of A.Valued a.now) (product_of A.Valued (matrix_of A.Valued b.now) (column_of A.Valued x.now))) }
@@ -65,8 +63,7 @@ fn chain_sums_fit<A: IntegerScalar>(
     x: &ArrayView<'_, A, Ix1>,
 ) -> Result<bool, AllocError>
     requires { ShapesChain a.now.lengths b.now.lengths x.now.lengths }
-    ensures exact { let values = whole_numbers A.value A.fits in let inner = product_of values (matrix_of values b.now) (column_of values x.now) in
-        IfOk result (λ fits. IsTrue fits ↔ ((slice_index a.now.lengths 0 ≢ 0 → HasMagnitudesInRange A.fits (matrix_of values b.now) (column_of values x.now)) × HasMagnitudesInRange A.fits (matrix_of values a.now) inner)) }
+    ensures exact { IfOk result (λ fits. IsTrue fits ↔ HasChainInRange A.value A.fits a.now b.now x.now) }
     ensures inner_sums { IfOk result (λ fits. IsTrue fits → slice_index a.now.lengths 0 ≢ 0 → HasSumsInRange A.Valued (matrix_of A.Valued b.now) (column_of A.Valued x.now)) }
     ensures outer_sums { IfOk result (λ fits. IsTrue fits → HasSumsInRange A.Valued (matrix_of A.Valued a.now) (product_of A.Valued (matrix_of A.Valued b.now) (column_of A.Valued x.now))) }
     ensures error { let values = whole_numbers A.value A.fits in
@@ -108,18 +105,15 @@ where
     S2: Data<Elem = A>,
     S3: Data<Elem = A>,
     S4: Data<Elem = A>,
-    ensures exact { let values = whole_numbers A.value A.fits in let left = product_of values (matrix_of values a.now) (matrix_of values c.now) in let right = product_of values (matrix_of values b.now) (matrix_of values d.now) in
-        IfOk result (λ fits. IsTrue fits ↔ (ShapesMultiplyInPairs a.now.lengths b.now.lengths c.now.lengths d.now.lengths
-        × (size (slice_index a.now.lengths 0 * slice_index b.now.lengths 0 ∷ slice_index c.now.lengths 1 * slice_index d.now.lengths 1 ∷ []) ≢ 0 → HasMagnitudesInRange A.fits (matrix_of values a.now) (matrix_of values c.now) × HasMagnitudesInRange A.fits (matrix_of values b.now) (matrix_of values d.now))
-        × HasProductsInRange values left right)) }
+    ensures exact { IfOk result (λ fits. IsTrue fits ↔ (ShapesMultiplyInPairs a.now.lengths b.now.lengths c.now.lengths d.now.lengths × HasMixedProductInRange A.value A.fits a.now b.now c.now d.now)) }
     ensures shapes { IfOk result (λ fits. IsTrue fits → ShapesMultiplyInPairs a.now.lengths b.now.lengths c.now.lengths d.now.lengths) }
-    ensures left_sums { IfOk result (λ fits. IsTrue fits → size (slice_index a.now.lengths 0 * slice_index b.now.lengths 0 ∷ slice_index c.now.lengths 1 * slice_index d.now.lengths 1 ∷ []) ≢ 0 → HasSumsInRange A.Valued (matrix_of A.Valued a.now) (matrix_of A.Valued c.now)) }
-    ensures right_sums { IfOk result (λ fits. IsTrue fits → size (slice_index a.now.lengths 0 * slice_index b.now.lengths 0 ∷ slice_index c.now.lengths 1 * slice_index d.now.lengths 1 ∷ []) ≢ 0 → HasSumsInRange A.Valued (matrix_of A.Valued b.now) (matrix_of A.Valued d.now)) }
+    ensures left_sums { IfOk result (λ fits. IsTrue fits → MixedProductHasCells a.now b.now c.now d.now → HasSumsInRange A.Valued (matrix_of A.Valued a.now) (matrix_of A.Valued c.now)) }
+    ensures right_sums { IfOk result (λ fits. IsTrue fits → MixedProductHasCells a.now b.now c.now d.now → HasSumsInRange A.Valued (matrix_of A.Valued b.now) (matrix_of A.Valued d.now)) }
     ensures products { IfOk result (λ fits. IsTrue fits → HasProductsInRange A.Valued (product_of A.Valued (matrix_of A.Valued a.now) (matrix_of A.Valued c.now)) (product_of A.Valued (matrix_of A.Valued b.now) (matrix_of A.Valued d.now))) }
     ensures error { let values = whole_numbers A.value A.fits in
         IfErr result (λ _. ShapesMultiplyInPairs a.now.lengths b.now.lengths c.now.lengths d.now.lengths
         × HasMagnitudesInRange A.fits (matrix_of values a.now) (matrix_of values c.now) × HasMagnitudesInRange A.fits (matrix_of values b.now) (matrix_of values d.now)
-        × (size (slice_index a.now.lengths 0 * slice_index b.now.lengths 0 ∷ slice_index c.now.lengths 1 * slice_index d.now.lengths 1 ∷ []) ≢ 0)) }
+        × (MixedProductHasCells a.now b.now c.now d.now)) }
 {
     if !kron_dot_ok(a, b, c, d) {
         return Ok(false);
@@ -136,15 +130,13 @@ fn mixed_products_fit<A: IntegerScalar>(
     d: &ArrayView<'_, A, Ix2>,
 ) -> Result<bool, AllocError>
     requires { ShapesMultiplyInPairs a.now.lengths b.now.lengths c.now.lengths d.now.lengths }
-    ensures exact { let values = whole_numbers A.value A.fits in let left = product_of values (matrix_of values a.now) (matrix_of values c.now) in let right = product_of values (matrix_of values b.now) (matrix_of values d.now) in
-        IfOk result (λ fits. IsTrue fits ↔ ((size (slice_index a.now.lengths 0 * slice_index b.now.lengths 0 ∷ slice_index c.now.lengths 1 * slice_index d.now.lengths 1 ∷ []) ≢ 0 → HasMagnitudesInRange A.fits (matrix_of values a.now) (matrix_of values c.now) × HasMagnitudesInRange A.fits (matrix_of values b.now) (matrix_of values d.now))
-        × HasProductsInRange values left right)) }
-    ensures left_sums { IfOk result (λ fits. IsTrue fits → size (slice_index a.now.lengths 0 * slice_index b.now.lengths 0 ∷ slice_index c.now.lengths 1 * slice_index d.now.lengths 1 ∷ []) ≢ 0 → HasSumsInRange A.Valued (matrix_of A.Valued a.now) (matrix_of A.Valued c.now)) }
-    ensures right_sums { IfOk result (λ fits. IsTrue fits → size (slice_index a.now.lengths 0 * slice_index b.now.lengths 0 ∷ slice_index c.now.lengths 1 * slice_index d.now.lengths 1 ∷ []) ≢ 0 → HasSumsInRange A.Valued (matrix_of A.Valued b.now) (matrix_of A.Valued d.now)) }
+    ensures exact { IfOk result (λ fits. IsTrue fits ↔ HasMixedProductInRange A.value A.fits a.now b.now c.now d.now) }
+    ensures left_sums { IfOk result (λ fits. IsTrue fits → MixedProductHasCells a.now b.now c.now d.now → HasSumsInRange A.Valued (matrix_of A.Valued a.now) (matrix_of A.Valued c.now)) }
+    ensures right_sums { IfOk result (λ fits. IsTrue fits → MixedProductHasCells a.now b.now c.now d.now → HasSumsInRange A.Valued (matrix_of A.Valued b.now) (matrix_of A.Valued d.now)) }
     ensures products { IfOk result (λ fits. IsTrue fits → HasProductsInRange A.Valued (product_of A.Valued (matrix_of A.Valued a.now) (matrix_of A.Valued c.now)) (product_of A.Valued (matrix_of A.Valued b.now) (matrix_of A.Valued d.now))) }
     ensures error { let values = whole_numbers A.value A.fits in
         IfErr result (λ _. HasMagnitudesInRange A.fits (matrix_of values a.now) (matrix_of values c.now) × HasMagnitudesInRange A.fits (matrix_of values b.now) (matrix_of values d.now)
-        × (size (slice_index a.now.lengths 0 * slice_index b.now.lengths 0 ∷ slice_index c.now.lengths 1 * slice_index d.now.lengths 1 ∷ []) ≢ 0)) }
+        × (MixedProductHasCells a.now b.now c.now d.now)) }
 {
     let _lengths = (a.raw_dim(), b.raw_dim(), c.raw_dim(), d.raw_dim());
     // Without cells nothing is added.

@@ -224,7 +224,7 @@ fn push_block<A: Clone, D: Lengths, E: Lengths>(
 }
 
 /// Pushes clones of cells, row by row.
-fn push_clones<A: Clone, D: Lengths, E: Lengths>(
+pub(crate) fn push_clones<A: Clone, D: Lengths, E: Lengths>(
     builder: &mut ArrayBuilder<A, E>,
     mut cells: RowElements<'_, A, D>,
 ) -> Result<(), AllocError>

@@ -1,0 +1,3 @@
+-- Texts of arrays.
+pub mod Breaks
+pub mod NestedTexts

@@ -1,0 +1,3 @@
+-- What only `everyday` speaks of.
+pub mod Breaks
+pub mod Preferences
