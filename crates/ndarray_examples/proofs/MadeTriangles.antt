@@ -1,8 +1,5 @@
 -- Triangles that were made are parts of the array that they were made of.
-use Rattle.std.proofs.Common.{◌≡◌, ◌-ℤ◌, ℤ, pos, subst, sym}
-use Rattle.ndarray.specs.Grid.{Grid}
-use Rattle.ndarray.specs.Laws.{ArePartsOf}
-use Rattle.ndarray.specs.Triangles.{lower_triangle, upper_triangle}
+use Rattle.ndarray.proofs.Common.{◌≡◌, ◌-ℤ◌, ℤ, pos, subst, sym, Grid, ArePartsOf, lower_triangle, upper_triangle}
 
 pub parts-made : {A : Type 0} (zero : A) (k : ℤ) (m upper lower : Grid A) → upper ≡ upper_triangle k zero m → lower ≡ lower_triangle (k -ℤ pos 1) zero m
     → ArePartsOf zero m (upper_triangle k zero m) (lower_triangle (k -ℤ pos 1) zero m) → ArePartsOf zero m upper lower

@@ -1,15 +1,8 @@
 -- Products of cells, and sums of them along the orders of a box.
-use Rattle.std.proofs.Common.{◌≡◌, ℕ, ◌+◌, ◌*◌, ◌≤◌, List, [], ◌∷◌, ◌++◌, Some, refl, sym, subst, ap, ◌∙◌, take, arith}
-use Rattle.std.specs.List.{sum_by}
-use Rattle.std.proofs.lemmas.List.Sums.{sum_by-append, sum_by-cons}
-use Rattle.std.proofs.lemmas.List.Sorted.{sum_by-IsPermutation}
-use Rattle.ndarray.specs.Grid.{Grid, cell}
-use Rattle.ndarray.specs.Index.{size, row_order, column_order}
-use Rattle.ndarray.specs.Orders.{box_in, IsBoxIn, HasInOrder}
+use Rattle.ndarray.proofs.Common.{◌≡◌, ℕ, ◌+◌, ◌*◌, ◌≤◌, List, [], ◌∷◌, ◌++◌, Some, refl, sym, subst, ap, ◌∙◌, take, arith, sum_by, sum_by-append, sum_by-cons, sum_by-IsPermutation, Grid, cell, size, box_in, IsBoxIn, HasInOrder, box_in-is, box_in-rearranges}
+use Rattle.ndarray.specs.Index.{row_order, column_order}
 use Rattle.ndarray.specs.declared.base.shape.Order.{Order}
 use Rattle.ndarray.specs.declared.base.shape.Order.TheVariants.{RowMajor, ColumnMajor}
-use Rattle.ndarray.proofs.callers.IndexLists.{box_in-is}
-use Rattle.ndarray.proofs.callers.RowOrder.{box_in-rearranges}
 use Rattle.ndarray_examples.specs.PairedProducts.{product_at}
 
 pub product-of_cells : (g h : Grid ℕ) (is : List ℕ) (x y : ℕ) → cell g is ≡ Some x → cell h is ≡ Some y → product_at g h is ≡ x * y

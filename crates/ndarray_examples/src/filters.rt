@@ -1,13 +1,16 @@
-//! Filters: two of a signal, one after another, and the greatest cells of a table's windows.
+//! Filters: two of a signal, one after another, one of a picture in two parts, and the greatest cells of a table's windows.
 
-ghost use Rattle.std.specs.Prelude.{◌≡◌, ◌≤◌, ◌↔◌, length, slice_index, IfErr, IfOk, IfSome, IsSome, IsTrue};
-ghost use Rattle.ndarray.specs.Convolution.{CanPad};
-ghost use Rattle.ndarray.specs.Grid.{one_axis};
+ghost use Rattle.std.specs.Prelude.{◌≡◌, ◌≤◌, ◌↔◌, ℤ, length, slice_index, IfErr, IfOk, IfSome, IsSome, IsTrue};
+ghost use Rattle.ndarray.specs.Convolution.{CanPad, valid_convolution_by};
+ghost use Rattle.ndarray.specs.FilterLaws.{IsColumnTimesRow};
+ghost use Rattle.ndarray.specs.Grid.{Grid, IsGrid, one_axis};
+ghost use Rattle.ndarray.specs.Integers.{int_products, int_sums};
+ghost use Rattle.ndarray.specs.Subviews.{ArePositive};
 ghost use Rattle.ndarray_examples.specs.Filters.{AreLocalMaxima, AreZeroTests, IsZero, convolved_residues, filtered_residues};
 
 use crate::maximum_filter;
-use ndarray::conv::{conv_full, conv_valid};
-use ndarray::laws::conv_filters;
+use ndarray::conv::{conv_full, conv_valid, conv_valid_ok, valid_fits};
+use ndarray::laws::{conv_filters, filters_compose};
 use ndarray::{Array, ArrayBase, ArrayView, Data, Dimension, Ix1, Ix2, Lengths, Zip};
 use residue::Residue;
 use std::alloc::{AllocError, Global};
@@ -78,4 +81,33 @@ pub fn zero_windows<S: Data<Elem = i64>>(
     let windows = table.windows((rows, columns));
     let tests = Zip::from(windows).map_collect(alloc, |window| is_zero(&window))?;
     Ok(Some(tests))
+}
+
+/// The filter of a picture by a kernel that is a column times a row, by two smaller filters in turn: by the column, and then by the row. `None` where
+/// one of them has no row or no column, or the sums of a filter may be no `i64`. The error is allocation failure.
+pub fn filter_by_parts<S: Data<Elem = i64>, T: Data<Elem = i64>, U: Data<Elem = i64>>(
+    alloc: Global,
+    picture: &ArrayBase<S, Ix2>,
+    column: &ArrayBase<T, Ix2>,
+    row: &ArrayBase<U, Ix2>,
+) -> Result<Option<Array<i64, Ix2>>, AllocError>
+    ensures { IfOk result (λ made. IfSome made (λ r. (kernel : Grid ℤ) → IsGrid kernel → ArePositive picture.now.lengths kernel.lengths → IsColumnTimesRow int_sums int_products column.now row.now kernel → r ≡ valid_convolution_by int_sums int_products (λ x. x) picture.now kernel)) }
+{
+    filters_compose::<i64>();
+    let _whole = (picture.raw_dim(), column.raw_dim(), row.raw_dim());
+    if !conv_valid_ok(picture, column) {
+        return Ok(None);
+    }
+    if !valid_fits(picture, column) {
+        return Ok(None);
+    }
+    let once = conv_valid(alloc, picture, column)?;
+    if !conv_valid_ok(&once, row) {
+        return Ok(None);
+    }
+    if !valid_fits(&once, row) {
+        return Ok(None);
+    }
+    let twice = conv_valid(alloc, &once, row)?;
+    Ok(Some(twice))
 }

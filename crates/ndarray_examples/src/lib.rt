@@ -7,6 +7,8 @@ pub mod dots;
 pub mod everyday;
 pub mod filters;
 pub mod laws;
+pub mod laws_of_parts;
+pub mod parts;
 pub mod product_ranges;
 pub mod range_tests;
 pub mod reading;

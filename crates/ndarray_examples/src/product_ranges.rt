@@ -5,6 +5,7 @@ ghost use Rattle.std.specs.Prelude.{◌≡◌, ◌≢◌, ◌⊎◌, ◌↔◌, 
 ghost use Rattle.std.specs.Int.{w64};
 ghost use Rattle.ndarray.specs.AlongAxis.{Cumulates, IsDifferenceOf};
 ghost use Rattle.ndarray.specs.AlongAxisRanges.{HasDifferencesInRange, HasRunningProductsInRange};
+ghost use Rattle.ndarray.specs.ChainRanges.{HasChainInRange, HasMixedProductInRange, MixedProductHasCells};
 ghost use Rattle.ndarray.specs.Chains.{HasColumn, HasMatrix, ShapesChain, ShapesMultiplyInPairs};
 ghost use Rattle.ndarray.specs.Elementwise.{Assigns, CanAssign, CanMap};
 ghost use Rattle.ndarray.specs.Index.{size};
@@ -121,8 +122,7 @@ pub fn checked_chain<S: Data<Elem = i64>, T: Data<Elem = i64>, U: Data<Elem = i6
     b: &ArrayBase<T, Ix2>,
     x: &ArrayBase<U, Ix1>,
 ) -> Checked<i64, Ix1>
-    ensures when { let values = ⟦<i64 as Valued>⟧ in let inner = product_of values (matrix_of values b.now) (column_of values x.now) in IfOk result (λ made. IsSome made ↔ (ShapesChain a.now.lengths b.now.lengths x.now.lengths
-        × (slice_index a.now.lengths 0 ≢ 0 → HasMagnitudesInRange (FitsSigned w64) (matrix_of values b.now) (column_of values x.now)) × HasMagnitudesInRange (FitsSigned w64) (matrix_of values a.now) inner)) }
+    ensures when { IfOk result (λ made. IsSome made ↔ (ShapesChain a.now.lengths b.now.lengths x.now.lengths × HasChainInRange (λ n. n) (FitsSigned w64) a.now b.now x.now)) }
     ensures product { let values = ⟦<i64 as Valued>⟧ in IfOk result (λ made. IfSome made (HasColumn values (product_of values (product_of values (matrix_of values a.now) (matrix_of values b.now)) (column_of values x.now)))) }
     ensures error { let values = ⟦<i64 as Valued>⟧ in IfErr result (λ _. ShapesChain a.now.lengths b.now.lengths x.now.lengths × HasMagnitudesInRange (FitsSigned w64) (matrix_of values b.now) (column_of values x.now) × (slice_index a.now.lengths 0 ≢ 0)) }
 {
@@ -149,12 +149,10 @@ pub fn checked_mixed_product<
     c: &ArrayBase<U, Ix2>,
     d: &ArrayBase<V, Ix2>,
 ) -> Checked<i64, Ix2>
-    ensures when { let values = ⟦<i64 as Valued>⟧ in IfOk result (λ made. IsSome made ↔ (ShapesMultiplyInPairs a.now.lengths b.now.lengths c.now.lengths d.now.lengths
-        × (size (slice_index a.now.lengths 0 * slice_index b.now.lengths 0 ∷ slice_index c.now.lengths 1 * slice_index d.now.lengths 1 ∷ []) ≢ 0 → HasMagnitudesInRange (FitsSigned w64) (matrix_of values a.now) (matrix_of values c.now) × HasMagnitudesInRange (FitsSigned w64) (matrix_of values b.now) (matrix_of values d.now))
-        × HasProductsInRange values (product_of values (matrix_of values a.now) (matrix_of values c.now)) (product_of values (matrix_of values b.now) (matrix_of values d.now)))) }
+    ensures when { IfOk result (λ made. IsSome made ↔ (ShapesMultiplyInPairs a.now.lengths b.now.lengths c.now.lengths d.now.lengths × HasMixedProductInRange (λ n. n) (FitsSigned w64) a.now b.now c.now d.now)) }
     ensures product { let values = ⟦<i64 as Valued>⟧ in let times = values.multiplication in IfOk result (λ made. IfSome made (HasMatrix values
         (product_of values (kronecker_product times (matrix_of values a.now) (matrix_of values b.now)) (kronecker_product times (matrix_of values c.now) (matrix_of values d.now))))) }
-    ensures error { IfErr result (λ _. ShapesMultiplyInPairs a.now.lengths b.now.lengths c.now.lengths d.now.lengths × (size (slice_index a.now.lengths 0 * slice_index b.now.lengths 0 ∷ slice_index c.now.lengths 1 * slice_index d.now.lengths 1 ∷ []) ≢ 0)) }
+    ensures error { IfErr result (λ _. ShapesMultiplyInPairs a.now.lengths b.now.lengths c.now.lengths d.now.lengths × MixedProductHasCells a.now b.now c.now d.now) }
 {
     let fits = kron_dot_fits(alloc, a, b, c, d)?;
     if !fits {

@@ -1,26 +1,11 @@
 //! Functions that read one item after another: by a loop, by `azip!`, and up to the first that decides.
 
-ghost use Rattle.std.specs.Prelude.{◌≡◌, ◌↔◌, IsTrue};
 ghost use Rattle.std.specs.Iterator.{IsFinite};
 
 use ndarray::zip::{One, Parts};
-use ndarray::{ArrayBase, ArrayView, Data, FoldWhile, Ix1, Ix2, Lengths, NdProducer, Zip, azip};
+use ndarray::{ArrayView, FoldWhile, Ix1, Ix2, Lengths, NdProducer, Zip, azip};
 use std::alloc::{AllocError, Global};
 use std::cell::Cell;
-
-/// Whether two arrays are the same: the same lengths, and the same cells.
-pub fn are_same<S: Data<Elem = u64>, T: Data<Elem = u64>, D: Lengths>(
-    a: &ArrayBase<S, D>,
-    b: &ArrayBase<T, D>,
-) -> bool
-    ensures { IsTrue result ↔ (a.now ≡ b.now) }
-{
-    let _whole = (a.raw_dim(), b.raw_dim());
-    if a.shape() != b.shape() {
-        return false;
-    }
-    Zip::from(a).and(b).all(|x, y| *x == *y)
-}
 
 /// The lengths of a view and its cells in row order, as `[2, 2]: [1, 2, 3, 4]`.
 pub fn text_of<D: Lengths>(

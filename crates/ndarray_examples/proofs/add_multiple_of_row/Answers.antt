@@ -1,5 +1,4 @@
-use Rattle.std.proofs.Common.{◌∙◌, refl}
-use Rattle.ndarray.proofs.callers.Elementwise.{assign_row-follows, can-assign-row}
+use Rattle.ndarray.proofs.Common.{◌∙◌, refl, assign_row-follows, can-assign-row}
 use Rattle.ndarray_examples.specs.Callers.{multiple_added}
 use Rattle.residue.specs.Residue.{residue_sums}
 use Rattle.ndarray_examples.proofs.add_multiple_of_row.Goals as goal

@@ -1,5 +1,4 @@
-use Rattle.std.proofs.Common.{◌≡◌, ◌≢◌, ◌∙◌, Option, Some, ap, sym, arith}
-use Rattle.ndarray.proofs.callers.Elementwise.{array_by-follows}
+use Rattle.ndarray.proofs.Common.{◌≡◌, ◌≢◌, ◌∙◌, Option, Some, ap, sym, arith, array_by-follows}
 use Rattle.ndarray_examples.specs.Callers.{residue}
 use Rattle.residue.specs.Residue.{Below, modulus_pos, residue_of, residue_products, residue_sums}
 use Rattle.ndarray_examples.proofs.add_product.Goals as goal

@@ -1,4 +1,4 @@
-use Rattle.ndarray.proofs.callers.Elementwise.{can-combine, lengths-same}
+use Rattle.ndarray.proofs.Common.{can-combine, lengths-same}
 use Rattle.ndarray_examples.proofs.add_residues.Goals as goal
 
 pub add-requires : goal.add-requires

@@ -1,5 +1,4 @@
-use Rattle.std.proofs.Common.{◌∙◌, refl}
-use Rattle.ndarray.proofs.callers.Elementwise.{assign_row-follows, can-assign-row}
+use Rattle.ndarray.proofs.Common.{◌∙◌, refl, assign_row-follows, can-assign-row}
 use Rattle.ndarray_examples.specs.Callers.{sum_below}
 use Rattle.ndarray_examples.proofs.add_row.Goals as goal
 

@@ -1,9 +1,4 @@
-use Rattle.std.proofs.Common.{rules, ◌≡◌, ◌∙◌, ℕ, Bool, List, Some, true, false, ap, sym, subst, nat_lt}
-use Rattle.std.specs.List.{list_all}
-use Rattle.ndarray.specs.Grid.{cell, IsGrid}
-use Rattle.ndarray.specs.Orders.{box_in}
-use Rattle.ndarray.proofs.callers.Testing.{test-follows}
-use Rattle.ndarray.proofs.callers.RowOrder.{list_all-in_row_order, list_all-cells}
+use Rattle.ndarray.proofs.Common.{rules, ◌≡◌, ◌∙◌, ℕ, Bool, List, Some, true, false, ap, sym, subst, nat_lt, list_all, cell, IsGrid, box_in, test-follows, list_all-in_row_order, list_all-cells}
 use Rattle.ndarray_examples.specs.Callers.{passes}
 use Rattle.ndarray_examples.proofs.all_bytes.Goals as goal
 

@@ -1,9 +1,4 @@
-use Rattle.std.proofs.Common.{rules, ◌≡◌, ◌∙◌, ℕ, Bool, List, Some, true, false, ap, sym, subst, nat_lt}
-use Rattle.std.specs.List.{list_any}
-use Rattle.ndarray.specs.Grid.{cell, IsGrid}
-use Rattle.ndarray.specs.Orders.{box_in}
-use Rattle.ndarray.proofs.callers.Testing.{test-follows}
-use Rattle.ndarray.proofs.callers.RowOrder.{list_any-in_row_order, list_any-cells}
+use Rattle.ndarray.proofs.Common.{rules, ◌≡◌, ◌∙◌, ℕ, Bool, List, Some, true, false, ap, sym, subst, nat_lt, list_any, cell, IsGrid, box_in, test-follows, list_any-in_row_order, list_any-cells}
 use Rattle.ndarray_examples.specs.Callers.{passes}
 use Rattle.ndarray_examples.proofs.any_byte.Goals as goal
 

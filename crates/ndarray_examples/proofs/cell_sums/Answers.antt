@@ -1,6 +1,4 @@
-use Rattle.std.proofs.Common.{◌≡◌, ◌+ℤ◌, subst}
-use Rattle.std.specs.Prelude.{IfOk}
-use Rattle.ndarray.specs.Elementwise.{Combines}
+use Rattle.ndarray.proofs.Common.{◌≡◌, ◌+ℤ◌, subst, IfOk, Combines}
 use Rattle.ndarray_examples.proofs.cell_sums.Goals as goal
 
 pub returns-clause-sums : goal.returns-clause-sums

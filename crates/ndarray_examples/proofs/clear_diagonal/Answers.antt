@@ -1,7 +1,4 @@
-use Rattle.std.proofs.Common.{rules, ◌≡◌, ◌∙◌, ◌∷◌, [], ◌==◌, if◌then◌else◌, Some, ap, refl, sym, subst}
-use Rattle.ndarray.specs.Grid.{array_by, cell}
-use Rattle.ndarray.specs.Index.{InBox}
-use Rattle.ndarray.proofs.callers.Collecting.{collect-follows, if_ok-both}
+use Rattle.ndarray.proofs.Common.{rules, ◌≡◌, ◌∙◌, ◌∷◌, [], ◌==◌, if◌then◌else◌, Some, ap, refl, sym, subst, array_by, cell, InBox, collect-follows, if_ok-both}
 use Rattle.ndarray_examples.specs.Callers.{off_diagonal}
 use Rattle.ndarray_examples.proofs.clear_diagonal.Goals as goal
 

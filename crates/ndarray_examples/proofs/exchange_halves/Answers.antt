@@ -1,13 +1,6 @@
-use Rattle.std.proofs.Common.{rules, ◌≡◌, ◌∙◌, ◌∷◌, ◌++◌, ◌≤◌, ◌<◌, ◌-◌, ◌^◌, [], ℕ, ℤ, List, None, ap, arith, drop, get_or, length, take}
-use Rattle.std.specs.Prelude.{Err}
-use Rattle.std.specs.declared.alloc.AllocError.{AllocError}
-use Rattle.std.proofs.lemmas.List.Elements.{All-cons, All-nil}
-use Rattle.ndarray.specs.Grid.{Grid, one_axis}
-use Rattle.ndarray.specs.Joining.{concatenate_error}
-use Rattle.ndarray.specs.Views.{axis_part}
+use Rattle.ndarray.proofs.Common.{rules, ◌≡◌, ◌∙◌, ◌∷◌, ◌++◌, ◌≤◌, ◌<◌, ◌-◌, ◌^◌, [], ℕ, ℤ, List, None, ap, arith, drop, get_or, length, take, Err, All-cons, All-nil, Grid, one_axis, concatenate_error, axis_part, only-memory, two-joined, vectors-join, first-cells, part-lengths, rest-cells}
 use Rattle.ndarray.specs.declared.stacking.error.StackError.TheVariants.{Memory}
-use Rattle.ndarray.proofs.callers.Joining.{only-memory, two-joined, vectors-join}
-use Rattle.ndarray.proofs.callers.Parts.{first-cells, part-lengths, rest-cells}
+use Rattle.std.specs.declared.alloc.AllocError.{AllocError}
 use Rattle.ndarray_examples.proofs.exchange_halves.Goals as goal
 
 -- the two parts of a vector can be joined

@@ -1,6 +1,4 @@
-use Rattle.std.proofs.Common.{rules, ◌≡◌, ◌∙◌, Some, ap, subst, max, arith}
-use Rattle.ndarray.specs.Grid.{cell, IsGrid}
-use Rattle.ndarray.proofs.callers.RowOrder.{turns-over-cells}
+use Rattle.ndarray.proofs.Common.{rules, ◌≡◌, ◌∙◌, Some, ap, subst, max, arith, cell, IsGrid, turns-over-cells}
 use Rattle.ndarray_examples.proofs.greatest.Goals as goal
 
 pub returns : goal.returns

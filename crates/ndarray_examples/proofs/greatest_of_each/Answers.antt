@@ -1,7 +1,4 @@
-use Rattle.std.proofs.Common.{rules, ◌≡◌, ◌∙◌, ℕ, List, ap, max}
-use Rattle.std.specs.List.{fold}
-use Rattle.ndarray.specs.Grid.{array_by}
-use Rattle.ndarray.proofs.callers.Collecting.{collect-follows, if_ok-both}
+use Rattle.ndarray.proofs.Common.{rules, ◌≡◌, ◌∙◌, ℕ, List, ap, max, fold, array_by, collect-follows, if_ok-both}
 use Rattle.ndarray_examples.proofs.greatest_of_each.Goals as goal
 
 pub returns-clause-greatest : goal.returns-clause-greatest

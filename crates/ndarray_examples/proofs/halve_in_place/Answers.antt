@@ -1,4 +1,4 @@
-use Rattle.ndarray.proofs.callers.Writing.{refitted-whole}
+use Rattle.ndarray.proofs.Common.{refitted-whole}
 use Rattle.ndarray_examples.proofs.halve_in_place.Goals as goal
 
 pub returns-clause-whole : goal.returns-clause-whole

@@ -1,4 +1,4 @@
-use Rattle.ndarray.proofs.callers.Differences.{differ-once}
+use Rattle.ndarray.proofs.Common.{differ-once}
 use Rattle.ndarray_examples.proofs.increases.Goals as goal
 
 pub diff-requires-clause-defined : goal.diff-requires-clause-defined

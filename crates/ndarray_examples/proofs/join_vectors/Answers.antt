@@ -1,10 +1,5 @@
-use Rattle.std.proofs.Common.{◌≡◌, ◌∙◌, ◌∷◌, ◌++◌, [], ap, length}
-use Rattle.ndarray.specs.Grid.{IsGrid, one_axis}
-use Rattle.ndarray.specs.Joining.{concatenate_error, shapes_of}
+use Rattle.ndarray.proofs.Common.{◌≡◌, ◌∙◌, ◌∷◌, ◌++◌, [], ap, length, IsGrid, one_axis, concatenate_error, shapes_of, shape_error, if_ok-both, if_ok-unless, two-joined}
 use Rattle.ndarray.specs.declared.stacking.error.StackError.TheVariants.{Shape}
-use Rattle.ndarray.specs.Errors.{shape_error}
-use Rattle.ndarray.proofs.callers.Collecting.{if_ok-both}
-use Rattle.ndarray.proofs.callers.Joining.{if_ok-unless, two-joined}
 use Rattle.ndarray_examples.proofs.join_vectors.Goals as goal
 
 pub returns : goal.returns

@@ -1,9 +1,4 @@
-use Rattle.std.proofs.Common.{rules, ◌≡◌, ◌∙◌, ◌≤ℤ◌, Some, All, Contains, ap, arith, inl, inr, subst, sym, w64, to_z, of_z}
-use Rattle.std.specs.Int.{int_min}
-use Rattle.std.specs.List.{fold}
-use Rattle.std.proofs.lemmas.Int.{clamps, fold-int_min_bounds, fold-int_min_reached, ints, to_z-of_z}
-use Rattle.ndarray.specs.Grid.{IsGrid, cell}
-use Rattle.ndarray.proofs.callers.RowOrder.{turns-over-cells}
+use Rattle.ndarray.proofs.Common.{rules, ◌≡◌, ◌∙◌, ◌≤ℤ◌, Some, All, Contains, ap, arith, inl, inr, subst, sym, w64, to_z, of_z, int_min, fold, clamps, fold-int_min_bounds, fold-int_min_reached, ints, to_z-of_z, IsGrid, cell, turns-over-cells}
 use Rattle.ndarray_examples.proofs.least_cell.Goals as goal
 
 least-is : (c : goal.After-fold) → c.fold.result ≡ fold int_min c.in-Some.first.now c.args.a.now.cells

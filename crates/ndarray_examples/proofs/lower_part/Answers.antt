@@ -1,11 +1,4 @@
-use Rattle.std.proofs.Common.{◌∙◌, ◌∷◌, [], ap, arith, subst}
-use Rattle.std.specs.Prelude.{pos, int_le}
-use Rattle.std.proofs.lemmas.Int.{ints}
-use Rattle.ndarray.specs.Grid.{IsGrid, cell}
-use Rattle.ndarray.specs.Triangles.{column_minus_row}
-use Rattle.ndarray.proofs.callers.Collecting.{if_ok-both}
-use Rattle.ndarray.proofs.callers.IndexLists.{InBox-length}
-use Rattle.ndarray.proofs.callers.Triangles.{cleared-cell, int_le-false, int_le-true, kept-cell}
+use Rattle.ndarray.proofs.Common.{◌∙◌, ◌∷◌, [], ap, arith, subst, pos, int_le, ints, IsGrid, cell, column_minus_row, if_ok-both, InBox-length, cleared-cell, int_le-false, int_le-true, kept-cell}
 use Rattle.ndarray_examples.proofs.lower_part.Goals as goal
 
 pub returns-clause-kept : goal.returns-clause-kept

@@ -1,7 +1,4 @@
-use Rattle.std.proofs.Common.{rules, ◌≡◌, ◌∙◌, ◌∷◌, [], ap}
-use Rattle.ndarray.specs.Grid.{array_by}
-use Rattle.ndarray.specs.Subviews.{window, windows_of}
-use Rattle.ndarray.proofs.callers.Collecting.{array_by-at, if_ok-both}
+use Rattle.ndarray.proofs.Common.{rules, ◌≡◌, ◌∙◌, ◌∷◌, [], ap, array_by, window, windows_of, array_by-at, if_ok-both}
 use Rattle.ndarray_examples.specs.Callers.{greatest_in_square}
 use Rattle.ndarray_examples.proofs.maximum_filter.Goals as goal
 

@@ -1,5 +1,4 @@
-use Rattle.std.proofs.Common.{◌≡◌, ◌∙◌, ap}
-use Rattle.ndarray.proofs.callers.Elementwise.{array_by-follows}
+use Rattle.ndarray.proofs.Common.{◌≡◌, ◌∙◌, ap, array_by-follows}
 use Rattle.residue.specs.Residue.{Below, modulus_pos, residue_products}
 use Rattle.ndarray_examples.proofs.multiply_into.Goals as goal
 

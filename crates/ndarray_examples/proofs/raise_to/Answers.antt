@@ -1,7 +1,4 @@
-use Rattle.std.proofs.Common.{rules, ◌≡◌, ◌∙◌, Some, ap, max, refl}
-use Rattle.ndarray.specs.Grid.{array_by, cell}
-use Rattle.ndarray.specs.Views.{broadcast_to}
-use Rattle.ndarray.proofs.callers.Collecting.{collect-follows, if_ok-both}
+use Rattle.ndarray.proofs.Common.{rules, ◌≡◌, ◌∙◌, Some, ap, max, refl, array_by, cell, broadcast_to, collect-follows, if_ok-both}
 use Rattle.ndarray_examples.specs.Callers.{greater_at}
 use Rattle.ndarray_examples.proofs.raise_to.Goals as goal
 

@@ -1,4 +1,4 @@
-use Rattle.ndarray.proofs.callers.Lanes.{cumulate-always}
+use Rattle.ndarray.proofs.Common.{cumulate-always}
 use Rattle.ndarray_examples.proofs.residue_running_products.Goals as goal
 
 pub cumprod-requires-clause-defined : goal.cumprod-requires-clause-defined

@@ -1,6 +1,4 @@
-use Rattle.std.proofs.Common.{rules, ◌≡◌, ◌∙◌, ◌-◌, Some, refl}
-use Rattle.ndarray.specs.Grid.{array_by, cell}
-use Rattle.ndarray.proofs.callers.Collecting.{collect-follows, if_ok-both}
+use Rattle.ndarray.proofs.Common.{rules, ◌≡◌, ◌∙◌, ◌-◌, Some, refl, array_by, cell, collect-follows, if_ok-both}
 use Rattle.ndarray_examples.specs.Callers.{rest_at}
 use Rattle.ndarray_examples.proofs.rests.Goals as goal
 

@@ -1,12 +1,4 @@
-use Rattle.std.proofs.Common.{◌≡◌, ◌∙◌, ◌<◌, ap, arith, length, refl, remove}
-use Rattle.std.specs.Prelude.{FitsSigned}
-use Rattle.std.specs.Int.{w64}
-use Rattle.ndarray.specs.AlongAxis.{IsTotalOf}
-use Rattle.ndarray.specs.Grid.{array_by}
-use Rattle.ndarray.specs.Integers.{int_sums}
-use Rattle.ndarray.specs.Sums.{total}
-use Rattle.ndarray.proofs.callers.Lanes.{lanes-follow, lanes-summable}
-use Rattle.ndarray.proofs.callers.Products.{two-lengths}
+use Rattle.ndarray.proofs.Common.{◌≡◌, ◌∙◌, ◌<◌, ap, arith, length, refl, remove, FitsSigned, w64, IsTotalOf, array_by, int_sums, total, lanes-follow, lanes-summable, two-lengths}
 use Rattle.ndarray_examples.specs.Callers.{row_total}
 use Rattle.ndarray_examples.proofs.row_sums.Goals as goal
 

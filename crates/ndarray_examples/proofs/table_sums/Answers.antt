@@ -1,7 +1,4 @@
-use Rattle.std.proofs.Common.{◌≡◌, ◌∙◌, refl, subst, sym}
-use Rattle.ndarray.specs.Index.{size}
-use Rattle.ndarray.proofs.callers.Collecting.{if_ok-both}
-use Rattle.ndarray.proofs.callers.Elementwise.{can-combine, combine-follows, lengths-same}
+use Rattle.ndarray.proofs.Common.{◌≡◌, ◌∙◌, refl, subst, sym, size, if_ok-both, can-combine, combine-follows, lengths-same}
 use Rattle.ndarray_examples.specs.Callers.{sum_at}
 use Rattle.ndarray_examples.proofs.table_sums.Goals as goal
 

@@ -1,10 +1,4 @@
-use Rattle.std.proofs.Common.{◌≡◌, ◌∙◌, ◌∷◌, [], ap, subst}
-use Rattle.std.specs.Prelude.{IfOk}
-use Rattle.ndarray.specs.Grid.{IsGrid, cell}
-use Rattle.ndarray.specs.Index.{InBox}
-use Rattle.ndarray.specs.Joining.{stack_of}
-use Rattle.ndarray.proofs.callers.Cells.{tabulate-cell}
-use Rattle.ndarray.proofs.callers.Collecting.{if_ok-both}
+use Rattle.ndarray.proofs.Common.{◌≡◌, ◌∙◌, ◌∷◌, [], ap, subst, IfOk, IsGrid, cell, InBox, stack_of, tabulate-cell, if_ok-both}
 use Rattle.ndarray_examples.proofs.two_rows.Goals as goal
 
 pub returns-clause-table : goal.returns-clause-table

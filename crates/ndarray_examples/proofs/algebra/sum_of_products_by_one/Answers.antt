@@ -1,11 +1,4 @@
-use Rattle.std.proofs.Common.{rules, ◌≡◌, ◌∙◌, refl, subst}
-use Rattle.ndarray.specs.Integers.{int_sums}
-use Rattle.ndarray.specs.MatrixSums.{matrix_sum}
-use Rattle.ndarray.specs.Products.{matrix_of, product_of}
-use Rattle.ndarray.specs.SumLaws.{AddsUp}
-use Rattle.ndarray.proofs.boxes.ProductShapes.{inner-matrices}
-use Rattle.ndarray.proofs.callers.MatrixSums.{sum-matrix}
-use Rattle.ndarray.proofs.callers.SameMatrices.{made-as, product-same, same-self, same-then}
+use Rattle.ndarray.proofs.Common.{rules, ◌≡◌, ◌∙◌, refl, subst, int_sums, matrix_sum, matrix_of, product_of, AddsUp, inner-matrices, sum-matrix, made-as, product-same, same-self, same-then}
 use Rattle.ndarray_examples.specs.RangeTests.{whole_i64}
 use Rattle.ndarray_examples.proofs.algebra.sum_of_products_by_one.Goals as goal
 

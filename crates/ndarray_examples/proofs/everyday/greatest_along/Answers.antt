@@ -1,4 +1,4 @@
-use Rattle.std.proofs.Common.{rules, max}
+use Rattle.ndarray.proofs.Common.{rules, max}
 use Rattle.ndarray_examples.proofs.everyday.greatest_along.Goals as goal
 
 pub returns-clause-maxima : goal.returns-clause-maxima

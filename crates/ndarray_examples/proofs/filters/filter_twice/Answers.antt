@@ -1,6 +1,4 @@
-use Rattle.std.proofs.Common.{◌≡◌, ◌∙◌, ap, length}
-use Rattle.ndarray.specs.Grid.{one_axis}
-use Rattle.ndarray.proofs.callers.Convolving.{filters-same, full-made, valid-made}
+use Rattle.ndarray.proofs.Common.{◌≡◌, ◌∙◌, ap, length, one_axis, filters-same, full-made, valid-made}
 use Rattle.ndarray_examples.specs.Filters.{convolved_residues, filtered_residues}
 use Rattle.residue.specs.Residue.{modulus_pos, residue_products, residue_sums}
 use Rattle.ndarray_examples.proofs.filters.filter_twice.Goals as goal

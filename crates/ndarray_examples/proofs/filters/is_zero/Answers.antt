@@ -1,7 +1,4 @@
-use Rattle.std.proofs.Common.{rules, ◌≡◌, ◌∙◌, pos, true, false, sym}
-use Rattle.std.specs.Ordering.{int_eq}
-use Rattle.std.proofs.lemmas.Bool.Decides.{Decides-int_eq, not_from_Decides}
-use Rattle.ndarray.proofs.callers.Testing.{tested-cells}
+use Rattle.ndarray.proofs.Common.{rules, ◌≡◌, ◌∙◌, pos, true, false, sym, int_eq, Decides-int_eq, not_from_Decides, tested-cells}
 use Rattle.ndarray_examples.proofs.filters.is_zero.Goals as goal
 
 pub returns : goal.returns

@@ -1,14 +1,6 @@
-use Rattle.std.proofs.Common.{◌≡◌, ◌≤◌, ℕ, List, [], ◌∷◌, Some, ap, arith, length, subst, sym}
-use Rattle.ndarray.specs.Grid.{Grid, IsGrid, array_by, cell}
-use Rattle.ndarray.specs.Index.{InBox}
-use Rattle.ndarray.specs.Subviews.{window_counts}
-use Rattle.ndarray.proofs.callers.Collecting.{array_by-at}
-use Rattle.ndarray.proofs.callers.EachCell.{at-each-cell, some-cell}
-use Rattle.ndarray.proofs.callers.Windows.{window-whole}
-use Rattle.ndarray.proofs.cells.Cells.{array_by-whole, cell-inside}
+use Rattle.ndarray.proofs.Common.{◌≡◌, ◌≤◌, ℕ, List, [], ◌∷◌, Some, ap, arith, length, subst, sym, Grid, IsGrid, array_by, cell, InBox, window_counts, array_by-at, at-each-cell, some-cell, window-whole, array_by-whole, cell-inside, greatest-bounds, greatest-reached}
 use Rattle.ndarray_examples.specs.Callers.{greatest_in_square}
 use Rattle.ndarray_examples.specs.Filters.{AreLocalMaxima, square}
-use Rattle.ndarray.proofs.callers.Maxima.{greatest-bounds, greatest-reached}
 use Rattle.ndarray_examples.proofs.filters.local_maxima.Goals as goal
 
 abbrev counts : Grid ℕ → List ℕ

@@ -1,7 +1,4 @@
-use Rattle.std.proofs.Common.{rules, ◌≡◌, ◌∙◌, ◌∷◌, [], ap, subst}
-use Rattle.std.specs.Prelude.{◌↔◌, IsTrue}
-use Rattle.ndarray.specs.Subviews.{window, windows_of}
-use Rattle.ndarray.proofs.callers.Collecting.{array_by-at, collect-each}
+use Rattle.ndarray.proofs.Common.{rules, ◌≡◌, ◌∙◌, ◌∷◌, [], ap, subst, ◌↔◌, IsTrue, window, windows_of, array_by-at, collect-each}
 use Rattle.ndarray_examples.specs.Filters.{IsZero}
 use Rattle.ndarray_examples.proofs.filters.zero_windows.Goals as goal
 

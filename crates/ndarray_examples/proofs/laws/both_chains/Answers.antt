@@ -1,4 +1,4 @@
-use Rattle.ndarray.proofs.callers.ProductChains.{product-of_left, product-on_left, product-on_right, products-same}
+use Rattle.ndarray.proofs.Common.{product-of_left, product-on_left, product-on_right, products-same}
 use Rattle.ndarray_examples.proofs.laws.both_chains.Goals as goal
 
 pub dot-requires-2 : goal.dot-requires-2

@@ -1,5 +1,4 @@
-use Rattle.ndarray.proofs.callers.Differences.{difference-length}
-use Rattle.ndarray.proofs.cells.Differences.{order-at_most}
+use Rattle.ndarray.proofs.Common.{difference-length, order-at_most}
 use Rattle.ndarray_examples.proofs.laws.differences_in_turn.Goals as goal
 
 pub diff-requires-2-clause-axis : goal.diff-requires-2-clause-axis

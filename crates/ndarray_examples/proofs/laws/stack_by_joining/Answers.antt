@@ -1,5 +1,4 @@
-use Rattle.std.proofs.Common.{◌≡◌, IfOk, subst}
-use Rattle.ndarray.proofs.callers.Stacking.{stack-by_joining}
+use Rattle.ndarray.proofs.Common.{◌≡◌, IfOk, subst, stack-by_joining}
 use Rattle.ndarray_examples.proofs.laws.stack_by_joining.Goals as goal
 
 pub returns-clause-shapes : goal.returns-clause-shapes

@@ -1,7 +1,4 @@
-use Rattle.std.proofs.Common.{rules, ◌≡◌, ◌∙◌, ap}
-use Rattle.ndarray.specs.Integers.{int_sums}
-use Rattle.ndarray.specs.Sums.{total}
-use Rattle.ndarray.proofs.callers.ColumnOrder.{cells-transposed}
+use Rattle.ndarray.proofs.Common.{rules, ◌≡◌, ◌∙◌, ap, int_sums, total, cells-transposed}
 use Rattle.ndarray_examples.proofs.laws.sum_by_columns.Goals as goal
 
 pub returns-then-sums_fit-clause-sum : goal.returns-then-sums_fit-clause-sum

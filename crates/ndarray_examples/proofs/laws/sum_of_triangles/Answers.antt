@@ -1,11 +1,5 @@
-use Rattle.std.proofs.Common.{rules, ◌≡◌, ◌∙◌, arith, subst, sym}
-use Rattle.ndarray.specs.Index.{size}
-use Rattle.ndarray.specs.Limits.{IsWithinLimit}
-use Rattle.ndarray.proofs.algebra.Totals.{op_unit}
-use Rattle.ndarray.proofs.callers.Collecting.{if_ok-both}
-use Rattle.ndarray.proofs.callers.Elementwise.{can-combine, lengths-same}
+use Rattle.ndarray.proofs.Common.{rules, ◌≡◌, ◌∙◌, arith, subst, sym, size, IsWithinLimit, op_unit, if_ok-both, can-combine, lengths-same, parts-combine, parts-same}
 use Rattle.ndarray_examples.proofs.MadeTriangles.{parts-made}
-use Rattle.ndarray.proofs.callers.TriangleParts.{parts-combine, parts-same}
 use Rattle.residue.specs.Residue.{modulus_pos, residue_sums}
 use Rattle.ndarray_examples.proofs.laws.sum_of_triangles.Goals as goal
 

@@ -1,10 +1,4 @@
-use Rattle.std.proofs.Common.{◌∙◌, ◌∷◌, [], ap, get_or}
-use Rattle.ndarray.specs.Index.{size}
-use Rattle.ndarray.specs.Matrices.{transpose}
-use Rattle.ndarray.specs.Products.{matrix_of, product_of}
-use Rattle.ndarray.proofs.callers.Collecting.{if_ok-both}
-use Rattle.ndarray.proofs.callers.ProductChains.{transpose-multiplies, transpose-product, transpose-symmetric}
-use Rattle.ndarray.proofs.callers.SameMatrices.{made-as}
+use Rattle.ndarray.proofs.Common.{◌∙◌, ◌∷◌, [], ap, get_or, size, transpose, matrix_of, product_of, if_ok-both, transpose-multiplies, transpose-product, transpose-symmetric, made-as}
 use Rattle.ndarray_examples.proofs.laws.transpose_times_itself.Goals as goal
 
 pub dot-requires : goal.dot-requires

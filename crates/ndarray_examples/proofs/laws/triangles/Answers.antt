@@ -1,8 +1,4 @@
-use Rattle.std.proofs.Common.{rules, ◌≡◌, ◌∙◌, ◌≤◌, ◌+ℤ◌, length, pos, ◌-ℤ◌, ap, subst, sym, refl}
-use Rattle.ndarray.specs.Integers.{int_sums}
-use Rattle.ndarray.specs.Laws.{ArePartsOf}
-use Rattle.ndarray.specs.Sums.{total}
-use Rattle.ndarray.specs.Triangles.{lower_triangle, upper_triangle}
+use Rattle.ndarray.proofs.Common.{rules, ◌≡◌, ◌∙◌, ◌≤◌, ◌+ℤ◌, length, pos, ◌-ℤ◌, ap, subst, sym, refl, int_sums, ArePartsOf, total, lower_triangle, upper_triangle}
 use Rattle.ndarray_examples.proofs.MadeTriangles.{parts-made}
 use Rattle.ndarray_examples.proofs.laws.triangles.Goals as goal
 

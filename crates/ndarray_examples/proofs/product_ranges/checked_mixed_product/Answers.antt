@@ -1,4 +1,4 @@
-use Rattle.std.proofs.Common.{refl}
+use Rattle.ndarray.proofs.Common.{refl}
 use Rattle.ndarray_examples.proofs.product_ranges.checked_mixed_product.Goals as goal
 
 pub returns-clause-when : goal.returns-clause-when

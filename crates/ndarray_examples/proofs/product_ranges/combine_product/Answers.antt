@@ -1,4 +1,4 @@
-use Rattle.std.proofs.Common.{refl}
+use Rattle.ndarray.proofs.Common.{refl}
 use Rattle.ndarray_examples.proofs.product_ranges.combine_product.Goals as goal
 
 pub general_mat_mul-requires-clause-scaled : goal.general_mat_mul-requires-clause-scaled

@@ -1,4 +1,4 @@
-use Rattle.std.proofs.Common.{rules}
+use Rattle.ndarray.proofs.Common.{rules}
 use Rattle.ndarray_examples.proofs.range_tests.add_to_each.Goals as goal
 
 pub returns-then-not-add_scalar_fits-clause-when : goal.returns-then-not-add_scalar_fits-clause-when

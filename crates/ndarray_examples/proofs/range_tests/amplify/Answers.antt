@@ -1,9 +1,4 @@
-use Rattle.std.proofs.Common.{rules, ◌≡◌, ◌∙◌, ◌*ℤ◌, FitsSigned, ap, of_z, refl, subst, sym, to_z, w64}
-use Rattle.std.proofs.lemmas.Int.{to_z-of_z}
-use Rattle.ndarray.specs.Elementwise.{CanMap, Maps}
-use Rattle.std.specs.Int.{int_shr}
-use Rattle.ndarray.specs.Grid.{array_by}
-use Rattle.ndarray.proofs.callers.Mapping.{maps-follow-twice}
+use Rattle.ndarray.proofs.Common.{rules, ◌≡◌, ◌∙◌, ◌*ℤ◌, FitsSigned, ap, of_z, refl, subst, sym, to_z, w64, to_z-of_z, CanMap, Maps, int_shr, array_by, maps-follow-twice}
 use Rattle.ndarray_examples.specs.Callers.{whole_number}
 use Rattle.ndarray_examples.specs.RangeTests.{amplified_at}
 use Rattle.ndarray_examples.proofs.range_tests.amplify.Goals as goal

@@ -1,15 +1,4 @@
-use Rattle.std.proofs.Common.{◌≡◌, ◌∙◌, ◌-◌, ℤ, Option, None, Some, ap, get_or, length, refl, subst, sym}
-use Rattle.std.specs.Prelude.{◌↔◌, FitsSigned, IfSome, IsSome}
-use Rattle.std.specs.Int.{w64}
-use Rattle.ndarray.specs.Chains.{HasColumn}
-use Rattle.ndarray.specs.Grid.{Grid}
-use Rattle.ndarray.specs.Limits.{IsWithinLimit}
-use Rattle.ndarray.specs.Matrices.{IsSameMatrix}
-use Rattle.ndarray.specs.Products.{ShapesMultiply, column_of, matrix_of, product_of}
-use Rattle.ndarray.specs.WholeValues.{HasMagnitudesInRange}
-use Rattle.ndarray.proofs.callers.Collecting.{if_ok-both}
-use Rattle.ndarray.proofs.callers.Products.{matrix-by_vector}
-use Rattle.ndarray.proofs.callers.SameMatrices.{column-as, magnitudes-same, made-column, product-same, same-back, same-self}
+use Rattle.ndarray.proofs.Common.{◌≡◌, ◌∙◌, ◌-◌, ℤ, Option, None, Some, ap, get_or, length, refl, subst, sym, ◌↔◌, FitsSigned, IfSome, IsSome, w64, HasColumn, Grid, IsWithinLimit, IsSameMatrix, ShapesMultiply, column_of, matrix_of, product_of, HasMagnitudesInRange, if_ok-both, matrix-by_vector, column-as, magnitudes-same, made-column, product-same, same-back, same-self}
 use Rattle.ndarray_examples.specs.RangeTests.{MayApplyTwice, applied, applied_twice, whole_i64}
 use Rattle.ndarray_examples.proofs.range_tests.apply_twice.Goals as goal
 

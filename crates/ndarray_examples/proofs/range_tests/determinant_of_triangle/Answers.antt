@@ -1,8 +1,4 @@
-use Rattle.std.proofs.Common.{rules, ◌≡◌, ◌∙◌, ◌+◌, ◌*ℤ◌, ◌∷◌, [], ℕ, ℤ, suc, ap, arith, inl, inr, of_z, subst, sym, to_z, w64, FitsSigned}
-use Rattle.std.specs.Prelude.{slice_index}
-use Rattle.std.proofs.lemmas.Bool.{cases_eq}
-use Rattle.std.proofs.lemmas.Int.{to_z-of_z}
-use Rattle.ndarray.specs.Grid.{Grid, cell}
+use Rattle.ndarray.proofs.Common.{rules, ◌≡◌, ◌∙◌, ◌+◌, ◌*ℤ◌, ◌∷◌, [], ℕ, ℤ, suc, ap, arith, inl, inr, of_z, subst, sym, to_z, w64, FitsSigned, slice_index, cases_eq, to_z-of_z, Grid, cell}
 use Rattle.ndarray_examples.specs.Callers.{whole_number}
 use Rattle.ndarray_examples.specs.RangeTests.{diagonal_product}
 use Rattle.ndarray_examples.proofs.range_tests.determinant_of_triangle.Goals as goal

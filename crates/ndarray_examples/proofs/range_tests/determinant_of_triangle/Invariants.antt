@@ -1,6 +1,5 @@
 -- The product so far is that of the first numbers on the diagonal, and it and those before it are in range.
-use Rattle.std.proofs.Common.{◌≡◌, ◌≤◌, ℕ, FitsSigned}
-use Rattle.std.specs.Int.{w64}
+use Rattle.ndarray.proofs.Common.{◌≡◌, ◌≤◌, ℕ, FitsSigned, w64}
 use Rattle.ndarray_examples.specs.RangeTests.{diagonal_product}
 use Rattle.ndarray_examples.proofs.range_tests.determinant_of_triangle.Given as goal
 

@@ -1,13 +1,4 @@
-use Rattle.std.proofs.Common.{rules, ◌≡◌, ◌≢◌, ◌∙◌, ◌*ℤ◌, ◌*◌, ◌∷◌, [], ℤ, FitsSigned, ap, arith, refl, subst, sym, w64}
-use Rattle.std.specs.Prelude.{slice_index}
-use Rattle.ndarray.specs.Broadcast.{BroadcastTogether, broadcast_lengths}
-use Rattle.ndarray.specs.Elementwise.{CanCombine, Combines}
-use Rattle.ndarray.specs.Grid.{Grid, array_by}
-use Rattle.ndarray.specs.Index.{size}
-use Rattle.ndarray.specs.Limits.{IsWithinLimit}
-use Rattle.ndarray.specs.Views.{axis_inserted}
-use Rattle.ndarray.proofs.callers.Broadcasting.{AreColumnAndRow, can-combine-where, column-lengths, combine-follows-where, combined-where, outer-cells, outer-lengths, outer-shapes}
-use Rattle.ndarray.proofs.callers.Products.{one-length}
+use Rattle.ndarray.proofs.Common.{rules, ◌≡◌, ◌≢◌, ◌∙◌, ◌*ℤ◌, ◌*◌, ◌∷◌, [], ℤ, FitsSigned, ap, arith, refl, subst, sym, w64, slice_index, BroadcastTogether, broadcast_lengths, CanCombine, Combines, Grid, array_by, size, IsWithinLimit, axis_inserted, AreColumnAndRow, can-combine-where, column-lengths, combine-follows-where, combined-where, outer-cells, outer-lengths, outer-shapes, one-length}
 use Rattle.ndarray_examples.specs.RangeTests.{AreProductsInRange, product_of_two}
 use Rattle.ndarray_examples.proofs.range_tests.multiplication_table.Goals as goal
 

@@ -1,7 +1,5 @@
-use Rattle.std.proofs.Common.{◌≡◌, ◌∙◌, ◌-◌, ap, get_or, refl, sym}
+use Rattle.ndarray.proofs.Common.{◌≡◌, ◌∙◌, ◌-◌, ap, get_or, refl, sym, array_by-follows, column-cells}
 use Rattle.ndarray_examples.specs.RangeTests.{projected_at, whole_i64}
-use Rattle.ndarray.proofs.callers.Elementwise.{array_by-follows}
-use Rattle.ndarray.proofs.callers.Products.{column-cells}
 use Rattle.ndarray_examples.proofs.range_tests.projections.Goals as goal
 
 pub returns-clause-sums : goal.returns-clause-sums

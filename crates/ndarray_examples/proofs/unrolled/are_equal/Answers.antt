@@ -1,7 +1,5 @@
-use Rattle.std.specs.Prelude.{pos}
-use Rattle.std.specs.Ordering.{int_eq}
+use Rattle.ndarray.proofs.Common.{pos, int_eq, equal-slices}
 use Rattle.num_traits.specs.Ints.{signed-eq}
-use Rattle.ndarray.proofs.callers.EqualSlices.{equal-slices}
 use Rattle.ndarray_examples.proofs.unrolled.are_equal.Goals as goal
 
 pub returns-then-xs-ys : goal.returns-then-xs-ys

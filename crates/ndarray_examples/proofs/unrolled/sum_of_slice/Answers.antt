@@ -1,5 +1,4 @@
-use Rattle.std.proofs.Common.{◌≡◌, ◌∙◌, ap, rules}
-use Rattle.ndarray.proofs.callers.PartialFolds.{folded-value, sums-by_parts}
+use Rattle.ndarray.proofs.Common.{◌≡◌, ◌∙◌, ap, rules, folded-value, sums-by_parts}
 use Rattle.ndarray_examples.proofs.unrolled.sum_of_slice.Goals as goal
 
 pub unrolled_fold-requires-clause-parts : goal.unrolled_fold-requires-clause-parts

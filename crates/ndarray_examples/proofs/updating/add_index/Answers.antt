@@ -1,6 +1,4 @@
-use Rattle.std.proofs.Common.{rules, ◌≡◌, ◌∙◌, ◌+◌, ◌*◌, ◌%◌, ◌^◌, ℕ, ap, arith, sym}
-use Rattle.std.proofs.Math.Nat.{add-mod-mod, mod-add-mod}
-use Rattle.ndarray.proofs.callers.Updating.{update-follows}
+use Rattle.ndarray.proofs.Common.{rules, ◌≡◌, ◌∙◌, ◌+◌, ◌*◌, ◌%◌, ◌^◌, ℕ, ap, arith, sym, add-mod-mod, mod-add-mod, update-follows}
 use Rattle.ndarray_examples.specs.PairedProducts.{number}
 use Rattle.ndarray_examples.specs.Updating.{index_added}
 use Rattle.ndarray_examples.proofs.updating.add_index.Goals as goal

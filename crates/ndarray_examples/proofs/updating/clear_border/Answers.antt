@@ -1,7 +1,4 @@
-use Rattle.std.proofs.Common.{rules, ◌≡◌, ◌∙◌, ◌-◌, ◌==◌, ◌||◌, ◌∷◌, [], if◌then◌else◌, ap}
-use Rattle.std.specs.Prelude.{slice_index}
-use Rattle.ndarray.specs.Grid.{cell}
-use Rattle.ndarray.proofs.callers.Updating.{update-follows}
+use Rattle.ndarray.proofs.Common.{rules, ◌≡◌, ◌∙◌, ◌-◌, ◌==◌, ◌||◌, ◌∷◌, [], if◌then◌else◌, ap, slice_index, cell, update-follows}
 use Rattle.ndarray_examples.specs.PairedProducts.{number}
 use Rattle.ndarray_examples.specs.Updating.{inside_border}
 use Rattle.ndarray_examples.proofs.updating.clear_border.Goals as goal

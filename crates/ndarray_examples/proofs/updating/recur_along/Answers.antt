@@ -1,6 +1,4 @@
-use Rattle.std.proofs.Common.{rules, ◌≡◌, ◌∙◌, ◌+◌, ◌*◌, ◌%◌, ◌^◌, ℕ, ap, refl}
-use Rattle.std.proofs.Math.Nat.{mod-add-mod}
-use Rattle.ndarray.proofs.callers.Scanning.{scan-folds}
+use Rattle.ndarray.proofs.Common.{rules, ◌≡◌, ◌∙◌, ◌+◌, ◌*◌, ◌%◌, ◌^◌, ℕ, ap, refl, mod-add-mod, scan-folds}
 use Rattle.ndarray_examples.proofs.updating.recur_along.Goals as goal
 
 pub returns-clause-recurrence : goal.returns-clause-recurrence

@@ -1,6 +1,4 @@
-use Rattle.std.proofs.Common.{rules, refl}
-use Rattle.std.specs.Prelude.{max}
-use Rattle.ndarray.proofs.callers.Scanning.{scan-folds}
+use Rattle.ndarray.proofs.Common.{rules, refl, max, scan-folds}
 use Rattle.ndarray_examples.proofs.updating.running_maxima.Goals as goal
 
 pub returns-clause-maxima : goal.returns-clause-maxima

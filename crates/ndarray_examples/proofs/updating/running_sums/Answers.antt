@@ -1,9 +1,4 @@
-use Rattle.std.proofs.Common.{rules, refl}
-use Rattle.std.specs.Prelude.{FitsSigned}
-use Rattle.std.specs.Int.{w64}
-use Rattle.ndarray.specs.Integers.{int_sums}
-use Rattle.ndarray.proofs.callers.Scanning.{may-scan-sums, scan-sums}
-use Rattle.ndarray.proofs.callers.Lanes.{lanes-summable}
+use Rattle.ndarray.proofs.Common.{rules, refl, FitsSigned, w64, int_sums, may-scan-sums, scan-sums, lanes-summable}
 use Rattle.ndarray_examples.proofs.updating.running_sums.Goals as goal
 
 pub scan_lanes-requires-clause-callable : goal.scan_lanes-requires-clause-callable

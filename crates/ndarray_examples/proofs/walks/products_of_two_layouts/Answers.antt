@@ -1,4 +1,4 @@
-use Rattle.std.proofs.Common.{◌∙◌, arith}
+use Rattle.ndarray.proofs.Common.{◌∙◌, arith}
 use Rattle.ndarray_examples.proofs.PairedProducts.{products-88}
 use Rattle.ndarray_examples.proofs.walks.products_of_two_layouts.Goals as goal
 

@@ -1,7 +1,4 @@
-use Rattle.std.proofs.Common.{◌≡◌, ◌+◌, ◌*◌, ◌<◌, ◌^◌, ◌++◌, ◌∷◌, ◌∙◌, ap, rules, arith}
-use Rattle.std.specs.List.{sum_by}
-use Rattle.ndarray.specs.Orders.{box_in}
-use Rattle.ndarray.proofs.callers.Folding.{fold-follows, may-follow}
+use Rattle.ndarray.proofs.Common.{◌≡◌, ◌+◌, ◌*◌, ◌<◌, ◌^◌, ◌++◌, ◌∷◌, ◌∙◌, ap, rules, arith, sum_by, box_in, fold-follows, may-follow}
 use Rattle.ndarray_examples.specs.PairedProducts.{product_at}
 use Rattle.ndarray_examples.proofs.PairedProducts.{product-of_cells, sum-part, sum-in_either_order}
 use Rattle.ndarray_examples.proofs.walks.sum_of_products.Goals as goal

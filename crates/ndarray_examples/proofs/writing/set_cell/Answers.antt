@@ -1,7 +1,4 @@
-use Rattle.std.proofs.Common.{rules, ◌∙◌, ◌∷◌, [], Some, ap, of_z, to_z, w64}
-use Rattle.std.proofs.lemmas.Int.{to_z-of_z}
-use Rattle.ndarray.specs.Index.{InBox}
-use Rattle.ndarray.proofs.callers.Writing.{with_cell-elsewhere, with_cell-here, with_cell-whole}
+use Rattle.ndarray.proofs.Common.{rules, ◌∙◌, ◌∷◌, [], Some, ap, of_z, to_z, w64, to_z-of_z, InBox, with_cell-elsewhere, with_cell-here, with_cell-whole}
 use Rattle.ndarray_examples.proofs.writing.set_cell.Goals as goal
 
 pub returns-in-Some-clause-whole : goal.returns-in-Some-clause-whole
