@@ -1,7 +1,5 @@
 -- Faults of calls, and what they say of what was asked for.
-use Rattle.std.proofs.Common.{◌≡◌, Result, Err, Ok, inl, inr, subst, sym}
-use Rattle.std.specs.Prelude.{IfErr}
-use Rattle.std.specs.Result.{IsErrAnd}
+use Rattle.ndarray.proofs.Common.{◌≡◌, Result, Err, Ok, inl, inr, subst, sym, IfErr, IsErrAnd}
 use Rattle.uses.specs.Faults.{IsFaultOf}
 use Rattle.uses.specs.declared.fault.Fault.{Fault}
 

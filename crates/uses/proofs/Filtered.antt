@@ -1,7 +1,5 @@
 -- Results that are there exactly where a condition holds.
-use Rattle.std.proofs.Common.{◌≡◌, Option, None, Some, refl, subst}
-use Rattle.std.specs.Prelude.{◌↔◌, IsSome}
-use Rattle.std.proofs.lemmas.Bool.{false≢true}
+use Rattle.ndarray.proofs.Common.{◌≡◌, Option, None, Some, refl, subst, ◌↔◌, IsSome, false≢true}
 
 pub fits-from_some : {A P : Type 0} (made : Option A) (x : A) → made ≡ Some x → (IsSome made ↔ P) → P
 fits-from_some {P = P} made x is when = (subst (λ o. IsSome o ↔ P) is when).0 refl

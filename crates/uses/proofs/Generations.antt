@@ -1,10 +1,5 @@
 -- A grid without cells stays as it is.
-use Rattle.std.proofs.Common.{◌≡◌, ◌∙◌, [], ℕ, zero, suc, ap, map, refl, sym}
-use Rattle.std.specs.Prelude.{Bool}
-use Rattle.std.proofs.lemmas.List.{nil_from_length}
-use Rattle.ndarray.specs.Grid.{Grid, IsGrid, grid}
-use Rattle.ndarray.specs.Index.{row_order, size}
-use Rattle.ndarray.proofs.boxes.Orders.{length-row_order}
+use Rattle.ndarray.proofs.Common.{◌≡◌, ◌∙◌, [], ℕ, zero, suc, ap, map, refl, sym, Bool, nil_from_length, Grid, IsGrid, grid, row_order, size, length-row_order}
 use Rattle.uses.specs.Life.{generation, next_generation, next_state_at}
 
 next-none : (g : Grid Bool) → IsGrid g → size g.lengths ≡ 0 → next_generation g ≡ g

@@ -9,5 +9,6 @@ pub mod Pictures
 pub mod Recurrences
 pub mod Reports
 pub mod Taken
+pub mod TermsInTurn
 pub mod Words
 pub mod Written

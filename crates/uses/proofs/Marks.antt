@@ -1,9 +1,5 @@
 -- Marks of rows that are read one after the other.
-use Rattle.std.proofs.Common.{◌≡◌, ◌∙◌, ◌++◌, ◌∷◌, [], ◌==◌, ℕ, Bool, List, ap, append-nil, append_assoc, map, subst, sym}
-use Rattle.std.specs.Prelude.{All}
-use Rattle.std.specs.List.{concat}
-use Rattle.std.proofs.lemmas.List.{map-append}
-use Rattle.std.proofs.lemmas.List.Elements.{All-append, All-cons, All-head, All-nil, All-tail}
+use Rattle.ndarray.proofs.Common.{◌≡◌, ◌∙◌, ◌++◌, ◌∷◌, [], ◌==◌, ℕ, Bool, List, ap, append-nil, append_assoc, map, subst, sym, All, concat, map-append, All-append, All-cons, All-head, All-nil, All-tail}
 use Rattle.uses.specs.Rows.{IsMark, SpellCells, SpellsMore}
 
 left-marks : (xs ys : List ℕ) → All IsMark (xs ++ ys) → All IsMark xs

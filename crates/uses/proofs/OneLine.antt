@@ -1,14 +1,9 @@
 -- Texts without a newline.
-use Rattle.std.proofs.Common.{◌≡◌, ◌∙◌, ◌++◌, ◌∷◌, [], ◌==◌, ◌<◌, ◌^◌, ℕ, List, false, ap, append-nil, append_assoc, arith, get_or, refl, subst, sym}
-use Rattle.std.specs.Prelude.{All, decimal, ◌||◌}
-use Rattle.std.specs.List.{list_any}
+use Rattle.ndarray.proofs.Common.{◌≡◌, ◌∙◌, ◌++◌, ◌∷◌, [], ◌==◌, ◌<◌, ◌^◌, ℕ, List, false, ap, append-nil, append_assoc, arith, get_or, refl, subst, sym, All, decimal, ◌||◌, list_any, nat_tests, All-cons, All-from_get_or, All-nil, list_any-append, list_any_none}
 use Rattle.std.specs.Char.{digit_value, encode_utf8}
 use Rattle.std.specs.Str.{NoCharPasses}
 use Rattle.std.specs.Str.Parse.{AllDigits}
-use Rattle.std.proofs.lemmas.Bool.Decides.{nat_tests}
 use Rattle.std.proofs.lemmas.Fmt.{decimal_is_IsNumeral}
-use Rattle.std.proofs.lemmas.List.Elements.{All-cons, All-from_get_or, All-nil}
-use Rattle.std.proofs.lemmas.List.Folds.{list_any-append, list_any_none}
 use Rattle.std.proofs.lemmas.Str.Pattern.{NoCharPasses-char}
 use Rattle.uses.specs.Streams.{Extends, IsInLine}
 

@@ -1,6 +1,5 @@
 -- An input is read in one way.
-use Rattle.std.proofs.Common.{◌≡◌, ◌∙◌, ◌∷◌, [], ℕ, ℤ, List, ap, map, pos, sym}
-use Rattle.ndarray.specs.Grid.{Grid, grid}
+use Rattle.ndarray.proofs.Common.{◌≡◌, ◌∙◌, ◌∷◌, [], ℕ, ℤ, List, ap, map, pos, sym, Grid, grid}
 use Rattle.uses.specs.Inputs.{IsArrayOf, ReadsPicture}
 use Rattle.uses.specs.Pixels.{ReadsPixels}
 use Rattle.uses.specs.Spelling.{count_of}

@@ -1,12 +1,7 @@
 -- Pictures made of the sums of squares.
-use Rattle.std.proofs.Common.{◌≡◌, ◌∙◌, ◌+◌, ◌-◌, ◌*ℤ◌, ◌-ℤ◌, ℕ, ℤ, pos, negsuc, [], ◌∷◌, ap, arith, subst}
-use Rattle.std.specs.Prelude.{◌&&◌, nat_eq, if◌then◌else◌}
-use Rattle.std.proofs.lemmas.Int.{ints}
-use Rattle.ndarray.specs.Grid.{Grid, IsGrid, array_by, cell}
-use Rattle.ndarray.specs.Index.{InBox, row_order}
-use Rattle.ndarray.specs.Products.{value_or}
-use Rattle.ndarray.proofs.callers.Cells.{cell-Some, cell-inside}
-use Rattle.ndarray.proofs.callers.Collecting.{array_by-at}
+use Rattle.ndarray.proofs.Common.{◌≡◌, ◌∙◌, ◌+◌, ◌-◌, ◌*ℤ◌, ◌-ℤ◌, ℕ, ℤ, pos, negsuc, [], ◌∷◌, ap, arith, subst, ◌&&◌, nat_eq, if◌then◌else◌, ints, Grid, IsGrid, array_by, InBox, value_or, cell-Some, cell-inside, array_by-at}
+use Rattle.ndarray.specs.Grid.{cell}
+use Rattle.ndarray.specs.Index.{row_order}
 use Rattle.uses.specs.Picture.{HasInnerPixels, blur_kernel, edge_kernel, filtered_pixel, pixel, square_sum, sum_of_three}
 
 -- a function of each pixel of a filtered image

@@ -1,12 +1,5 @@
 -- The lanes of a table that is seen as a view.
-use Rattle.std.proofs.Common.{◌≡◌, ◌∙◌, ◌<◌, ℕ, ℤ, ap, arith, length, remove, subst, sym}
-use Rattle.ndarray.specs.AlongAxis.{IsTotalOf}
-use Rattle.ndarray.specs.Elementwise.{Maps}
-use Rattle.ndarray.specs.Grid.{Grid, array_by}
-use Rattle.ndarray.specs.Integers.{int_sums}
-use Rattle.ndarray.specs.Subviews.{lane, lanes_of}
-use Rattle.ndarray.specs.Sums.{total}
-use Rattle.ndarray.proofs.callers.Lanes.{lanes-follow}
+use Rattle.ndarray.proofs.Common.{◌≡◌, ◌∙◌, ◌<◌, ℕ, ℤ, ap, arith, length, remove, subst, sym, IsTotalOf, Maps, Grid, array_by, int_sums, lane, lanes_of, total, lanes-follow}
 
 module _ (v table : Grid ℤ) (same : v ≡ table) (two : length table.lengths ≡ 2) (k : ℕ) (lt : k < 2) where
   pub is-axis : k < length v.lengths

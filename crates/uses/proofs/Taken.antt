@@ -1,10 +1,5 @@
 -- What an iterator gave so far, and what it gives next, of all that it gives.
-use Rattle.std.proofs.Common.{◌≡◌, ◌∙◌, ◌++◌, ◌∷◌, [], List, Option, None, Some, ap, map, append-nil, refl, subst, sym}
-use Rattle.std.specs.Prelude.{All}
-use Rattle.std.specs.Iterator.{AlwaysYields, Yields}
-use Rattle.std.proofs.lemmas.Iterator.{YieldsList}
-use Rattle.std.proofs.lemmas.List.{map-append}
-use Rattle.std.proofs.lemmas.List.Elements.{All-head, All-tail, All-push}
+use Rattle.ndarray.proofs.Common.{◌≡◌, ◌∙◌, ◌++◌, ◌∷◌, [], List, Option, None, Some, ap, map, append-nil, refl, subst, sym, All, AlwaysYields, Yields, YieldsList, map-append, All-head, All-tail, All-push}
 
 module _ {S A B : Type 0} (steps : S → Option A → S → Type 0) (v : A → B) where
   to-come : (xs : List A) (all : List B) (s t : S) → AlwaysYields steps v s all → Yields steps s xs t → (more : List B) × (all ≡ map v xs ++ more) × AlwaysYields steps v t more

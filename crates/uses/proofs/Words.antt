@@ -1,18 +1,10 @@
 -- Words come off a text one after the other.
-use Rattle.std.proofs.Common.{◌≡◌, ◌∙◌, ◌++◌, ◌∷◌, [], ◌<◌, ◌≤◌, ℕ, List, Bool, true, false, None, Some, ap, append-nil, arith, get_or, ⊎_elim, length, refl, subst, sym}
-use Rattle.std.specs.Prelude.{All, nat_lt}
+use Rattle.ndarray.proofs.Common.{◌≡◌, ◌∙◌, ◌++◌, ◌∷◌, [], ◌<◌, ◌≤◌, ℕ, List, Bool, true, false, None, Some, ap, append-nil, arith, get_or, ⊎_elim, length, refl, subst, sym, All, nat_lt, filter, slice_split, cases_lt, nat_tests, nil_from_length, All-from_get_or, All-head, All-tail, YieldsList, YieldsList-from_shown}
 use Rattle.std.specs.Char.{is_ascii_whitespace}
-use Rattle.std.specs.List.{filter, slice_split}
 use Rattle.std.specs.Str.{NoCharPasses}
 use Rattle.std.specs.Str.Iter.{IsAsciiSeparator, split_ascii_whitespace_steps, split_ascii_whitespace_text}
 use Rattle.std.specs.declared.str.SplitAsciiWhitespace.{SplitAscii}
-use Rattle.std.proofs.lemmas.Bool.{cases_lt}
-use Rattle.std.proofs.lemmas.Bool.Decides.{nat_tests}
-use Rattle.std.proofs.lemmas.List.{nil_from_length}
-use Rattle.std.proofs.lemmas.List.Elements.{All-from_get_or, All-head, All-tail}
 use Rattle.std.proofs.lemmas.List.Splits.{slice_split-cons_yes, slice_split_at, slice_split_none}
-use Rattle.std.proofs.lemmas.Iterator.{YieldsList}
-use Rattle.std.proofs.lemmas.Iterator.Consumers.{YieldsList-from_shown}
 use Rattle.std.proofs.lemmas.Str.{NoCharPasses-byte}
 use Rattle.uses.specs.Words.{words_of}
 

@@ -1,7 +1,4 @@
-use Rattle.std.proofs.Common.{◌≡◌, inr, subst}
-use Rattle.std.specs.Prelude.{FitsSigned}
-use Rattle.std.specs.Int.{w64}
-use Rattle.ndarray.specs.Convolution.{HasValidMagnitudesInRange}
+use Rattle.ndarray.proofs.Common.{◌≡◌, inr, subst, FitsSigned, w64, HasValidMagnitudesInRange}
 use Rattle.uses.specs.Answering.{PrintsPicture}
 use Rattle.uses.specs.Inputs.{ReadsPicture}
 use Rattle.uses.specs.Picture.{blur_kernel, mean_pixel}

@@ -1,6 +1,4 @@
-use Rattle.std.proofs.Common.{◌≡◌, ◌∙◌, ◌<◌, ◌^◌, ap, arith, inl, length, refl, subst, sym}
-use Rattle.std.specs.Prelude.{IfSome}
-use Rattle.ndarray.specs.Grid.{one_axis}
+use Rattle.ndarray.proofs.Common.{◌≡◌, ◌∙◌, ◌<◌, ◌^◌, ap, arith, inl, length, refl, subst, sym, IfSome, one_axis}
 use Rattle.uses.specs.Answering.{CanFilter, PrintsFiltered}
 use Rattle.uses.specs.Fir.{IsFilteredSignal}
 use Rattle.uses.specs.Printing.{line_text}

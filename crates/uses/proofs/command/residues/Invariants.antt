@@ -1,5 +1,5 @@
 -- These are the residues of the numbers so far.
-use Rattle.std.proofs.Common.{◌≡◌, map, take}
+use Rattle.ndarray.proofs.Common.{◌≡◌, map, take}
 use Rattle.uses.specs.Inputs.{residue}
 use Rattle.uses.proofs.command.residues.Given as goal
 

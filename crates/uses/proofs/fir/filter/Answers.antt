@@ -1,14 +1,4 @@
-use Rattle.std.proofs.Common.{◌≡◌, ◌∙◌, ◌*◌, ◌∷◌, [], ap, arith, length, subst}
-use Rattle.std.specs.Prelude.{slice_index}
-use Rattle.std.specs.Int.{int_shr}
-use Rattle.ndarray.specs.Convolution.{valid_counts, valid_length}
-use Rattle.ndarray.specs.Grid.{Grid, IsGrid}
-use Rattle.ndarray.specs.Index.{InBox, size}
-use Rattle.ndarray.specs.Integers.{int_products, int_sums}
-use Rattle.ndarray.proofs.callers.Joining.{one_axis-is}
-use Rattle.ndarray.proofs.cells.Cells.{cell-inside}
-use Rattle.ndarray.proofs.convolution.KernelSums.{single-sum}
-use Rattle.ndarray.proofs.convolution.OneAxis.{valid_counts-one}
+use Rattle.ndarray.proofs.Common.{◌≡◌, ◌∙◌, ◌*◌, ◌∷◌, [], ap, arith, length, subst, slice_index, int_shr, valid_counts, valid_length, Grid, IsGrid, InBox, size, int_products, int_sums, one_axis-is, cell-inside, single-sum, valid_counts-one}
 use Rattle.uses.proofs.fir.filter.Goals as goal
 
 -- how many places there are

@@ -1,8 +1,4 @@
-use Rattle.std.proofs.Common.{rules, ◌≡◌, ◌∙◌, ap, refl, subst, sym, zero, suc, ℕ}
-use Rattle.std.specs.Prelude.{Bool}
-use Rattle.std.proofs.lemmas.Bool.{false≢true}
-use Rattle.ndarray.specs.Grid.{Grid, IsGrid}
-use Rattle.ndarray.specs.Index.{size}
+use Rattle.ndarray.proofs.Common.{rules, ◌≡◌, ◌∙◌, ap, refl, subst, sym, zero, suc, ℕ, Bool, false≢true, Grid, IsGrid, size}
 use Rattle.uses.specs.Life.{generation}
 use Rattle.uses.proofs.Generations.{generation-none}
 use Rattle.uses.proofs.life.after.Goals as goal

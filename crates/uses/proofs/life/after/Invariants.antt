@@ -1,5 +1,5 @@
 -- As many steps were taken as the loop has gone round.
-use Rattle.std.proofs.Common.{◌≡◌}
+use Rattle.ndarray.proofs.Common.{◌≡◌}
 use Rattle.uses.specs.Life.{generation}
 use Rattle.uses.proofs.life.after.Given as goal
 

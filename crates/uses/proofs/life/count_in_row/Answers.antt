@@ -1,5 +1,4 @@
-use Rattle.std.proofs.Common.{◌≡◌, ◌∙◌, ◌∷◌, ◌-◌, [], ℕ, zero, suc, ap, arith, refl, sym}
-use Rattle.ndarray.specs.Grid.{cell}
+use Rattle.ndarray.proofs.Common.{◌≡◌, ◌∙◌, ◌∷◌, ◌-◌, [], ℕ, zero, suc, ap, arith, refl, sym, cell}
 use Rattle.uses.specs.Life.{before, living}
 use Rattle.uses.proofs.life.count_in_row.Goals as goal
 use Rattle.uses.proofs.life.count_in_row.Goals.{then-j-eq0, else-j-eq0}

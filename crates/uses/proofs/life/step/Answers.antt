@@ -1,7 +1,4 @@
-use Rattle.std.proofs.Common.{rules, ◌≡◌, ◌∙◌, ◌∷◌, [], ap, sym, subst}
-use Rattle.ndarray.specs.Grid.{array_by}
-use Rattle.ndarray.specs.Index.{InBox}
-use Rattle.ndarray.proofs.callers.Collecting.{collect-follows, if_ok-both}
+use Rattle.ndarray.proofs.Common.{rules, ◌≡◌, ◌∙◌, ◌∷◌, [], ap, sym, subst, array_by, InBox, collect-follows, if_ok-both}
 use Rattle.uses.specs.Life.{next_state_at}
 use Rattle.uses.proofs.life.step.Goals as goal
 

@@ -1,7 +1,4 @@
-use Rattle.std.proofs.Common.{rules, ◌≡◌, ◌∙◌, ℤ, Some, ap, int_div, pos, subst, sym}
-use Rattle.ndarray.specs.Grid.{array_by, cell}
-use Rattle.ndarray.specs.Products.{value_or}
-use Rattle.ndarray.proofs.callers.Collecting.{collect-follows}
+use Rattle.ndarray.proofs.Common.{rules, ◌≡◌, ◌∙◌, ℤ, Some, ap, int_div, pos, subst, sym, array_by, cell, value_or, collect-follows}
 use Rattle.uses.specs.Picture.{HasInnerPixels, blur_kernel, mean_pixel, filtered_pixel}
 use Rattle.uses.proofs.Pictures.{blur-sum, inner-pixels}
 use Rattle.uses.proofs.picture.blur.Goals as goal

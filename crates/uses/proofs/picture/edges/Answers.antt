@@ -1,7 +1,4 @@
-use Rattle.std.proofs.Common.{rules, ◌≡◌, ◌∙◌, ℤ, Some, ap, min, pos, subst, sym, unsigned_abs}
-use Rattle.ndarray.specs.Grid.{array_by, cell}
-use Rattle.ndarray.specs.Products.{value_or}
-use Rattle.ndarray.proofs.callers.Collecting.{collect-follows}
+use Rattle.ndarray.proofs.Common.{rules, ◌≡◌, ◌∙◌, ℤ, Some, ap, min, pos, subst, sym, unsigned_abs, array_by, cell, value_or, collect-follows}
 use Rattle.uses.specs.Picture.{HasInnerPixels, edge_kernel, edge_pixel, filtered_pixel}
 use Rattle.uses.proofs.Pictures.{edge-sum, inner-pixels}
 use Rattle.uses.proofs.picture.edges.Goals as goal

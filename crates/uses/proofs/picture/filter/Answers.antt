@@ -1,13 +1,4 @@
-use Rattle.std.proofs.Common.{◌≡◌, ◌∙◌, ◌-◌, ◌∷◌, [], List, ℕ, ap, arith, subst, sym}
-use Rattle.std.specs.Prelude.{slice_index}
-use Rattle.ndarray.specs.Convolution.{valid_counts, valid_length, valid_products}
-use Rattle.ndarray.specs.Index.{InBox}
-use Rattle.ndarray.specs.Integers.{int_products, int_sums}
-use Rattle.ndarray.specs.Sums.{total}
-use Rattle.ndarray.proofs.callers.Elementwise.{array_by-follows}
-use Rattle.ndarray.proofs.cells.Cells.{cell-inside}
-use Rattle.ndarray.proofs.convolution.KernelSums.{double-sum}
-use Rattle.ndarray.proofs.convolution.OneAxis.{valid_counts-two}
+use Rattle.ndarray.proofs.Common.{◌≡◌, ◌∙◌, ◌-◌, ◌∷◌, [], List, ℕ, ap, arith, subst, sym, slice_index, valid_counts, valid_length, valid_products, InBox, int_products, int_sums, total, array_by-follows, cell-inside, double-sum, valid_counts-two}
 use Rattle.uses.proofs.picture.filter.Goals as goal
 
 pub returns-clause-pixels : goal.returns-clause-pixels

@@ -1,7 +1,5 @@
-use Rattle.std.proofs.Common.{rules, ◌≡◌, ◌∙◌, ◌++◌, ◌∷◌, [], ap, map, pos, refl, subst, sym}
-use Rattle.std.specs.Prelude.{All}
+use Rattle.ndarray.proofs.Common.{rules, ◌≡◌, ◌∙◌, ◌++◌, ◌∷◌, [], ap, map, pos, refl, subst, sym, All, YieldsList-at}
 use Rattle.std.specs.Str.Iter.{split_ascii_whitespace_steps, split_ascii_whitespace_text}
-use Rattle.std.proofs.lemmas.Iterator.Consumers.{YieldsList-at}
 use Rattle.uses.specs.Pixels.{IsPixelWord, SpellPixels}
 use Rattle.uses.specs.Spelling.{count_of}
 use Rattle.uses.specs.Words.{words_of}

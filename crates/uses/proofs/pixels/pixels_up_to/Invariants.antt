@@ -1,5 +1,5 @@
 -- These pixels are those of the words so far.
-use Rattle.std.proofs.Common.{map}
+use Rattle.ndarray.proofs.Common.{map}
 use Rattle.uses.specs.Pixels.{SpellPixels}
 use Rattle.uses.proofs.pixels.pixels_up_to.Given as goal
 

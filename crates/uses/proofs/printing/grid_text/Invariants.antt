@@ -1,6 +1,5 @@
 -- The text, with the rows to come, is the whole.
-use Rattle.std.proofs.Common.{◌≡◌, ◌++◌, ◌∷◌, [], map}
-use Rattle.std.specs.Prelude.{flat_map, string_bytes}
+use Rattle.ndarray.proofs.Common.{◌≡◌, ◌++◌, ◌∷◌, [], map, flat_map, string_bytes}
 use Rattle.uses.specs.Printing.{grid_text, mark_of}
 use Rattle.uses.proofs.printing.grid_text.Given as goal
 

@@ -1,6 +1,5 @@
 -- The text, with the cells to come, is the whole.
-use Rattle.std.proofs.Common.{◌≡◌, ◌++◌, map}
-use Rattle.std.specs.Prelude.{string_bytes}
+use Rattle.ndarray.proofs.Common.{◌≡◌, ◌++◌, map, string_bytes}
 use Rattle.uses.specs.Printing.{mark_of}
 use Rattle.uses.proofs.printing.push_cells.Given as goal
 

@@ -1,6 +1,5 @@
 -- The text, with the numbers to come, is the whole.
-use Rattle.std.proofs.Common.{◌≡◌, ◌++◌}
-use Rattle.std.specs.Prelude.{string_bytes}
+use Rattle.ndarray.proofs.Common.{◌≡◌, ◌++◌, string_bytes}
 use Rattle.uses.specs.Printing.{others_text}
 use Rattle.uses.proofs.printing.push_others.Given as goal
 

@@ -1,7 +1,5 @@
 -- The text, with the rows to come, is the whole.
-use Rattle.std.proofs.Common.{◌≡◌, ◌++◌}
-use Rattle.std.specs.Prelude.{string_bytes}
-use Rattle.ndarray.specs.Subviews.{lanes_of}
+use Rattle.ndarray.proofs.Common.{◌≡◌, ◌++◌, string_bytes, lanes_of}
 use Rattle.uses.specs.Printing.{rows_text}
 use Rattle.uses.proofs.printing.push_rows.Given as goal
 

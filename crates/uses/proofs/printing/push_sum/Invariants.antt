@@ -1,7 +1,6 @@
 -- The text, with the numbers to come, is the whole.
-use Rattle.std.proofs.Common.{◌≡◌, ◌++◌, ◌∷◌, []}
+use Rattle.ndarray.proofs.Common.{◌≡◌, ◌++◌, ◌∷◌, [], flat_map, string_bytes}
 use Rattle.std.specs.Fmt.{signed_decimal}
-use Rattle.std.specs.Prelude.{flat_map, string_bytes}
 use Rattle.uses.proofs.printing.push_sum.Given as goal
 
 abbrev pub invariant-loop-number : goal.invariant-loop-number

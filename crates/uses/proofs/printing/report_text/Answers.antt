@@ -1,9 +1,4 @@
-use Rattle.std.proofs.Common.{◌≡◌, ◌∙◌, ◌++◌, ◌∷◌, [], ℤ, List, ap, append-nil, inl, inr, of_z, refl, sym, to_z, w64}
-use Rattle.std.proofs.lemmas.Int.{to_z-of_z}
-use Rattle.std.specs.List.{zip}
-use Rattle.std.specs.Prelude.{flat_map, string_bytes}
-use Rattle.ndarray.specs.Grid.{Grid}
-use Rattle.ndarray.specs.Subviews.{lanes_of}
+use Rattle.ndarray.proofs.Common.{◌≡◌, ◌∙◌, ◌++◌, ◌∷◌, [], ℤ, List, ap, append-nil, inl, inr, of_z, refl, sym, to_z, w64, to_z-of_z, zip, flat_map, string_bytes, Grid, lanes_of}
 use Rattle.uses.specs.Printing.{sum_text}
 use Rattle.uses.proofs.printing.report_text.Goals as goal
 

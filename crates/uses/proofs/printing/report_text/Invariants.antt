@@ -1,8 +1,5 @@
 -- The text, with the rows and sums to come, is that of all rows.
-use Rattle.std.proofs.Common.{◌≡◌, ◌++◌}
-use Rattle.std.specs.List.{zip}
-use Rattle.std.specs.Prelude.{flat_map, string_bytes}
-use Rattle.ndarray.specs.Subviews.{lanes_of}
+use Rattle.ndarray.proofs.Common.{◌≡◌, ◌++◌, zip, flat_map, string_bytes, lanes_of}
 use Rattle.uses.specs.Printing.{sum_text}
 use Rattle.uses.proofs.printing.report_text.Given as goal
 

@@ -1,4 +1,4 @@
-use Rattle.std.proofs.Common.{rules}
+use Rattle.ndarray.proofs.Common.{rules}
 use Rattle.uses.proofs.Written.{no-more, none-written, some-more}
 use Rattle.uses.proofs.program.print.Goals as goal
 use Rattle.uses.proofs.program.print.Goals.{in-Ok, in-Err+else-ne}

@@ -1,5 +1,4 @@
-use Rattle.std.proofs.Common.{inl, inr, ⊎_elim, map, refl, subst}
-use Rattle.std.specs.Prelude.{string_bytes}
+use Rattle.ndarray.proofs.Common.{inl, inr, ⊎_elim, map, refl, subst, string_bytes}
 use Rattle.uses.specs.Answering.{Prints}
 use Rattle.uses.specs.Faults.{IsFaultOf}
 use Rattle.uses.specs.Streams.{ForbidsAnswer}

@@ -1,12 +1,4 @@
-use Rattle.std.proofs.Common.{rules, ◌≡◌, ◌∙◌, ap, arith, of_z, refl, remove, sym, to_z}
-use Rattle.std.specs.Prelude.{FitsSigned}
-use Rattle.std.specs.Int.{w64}
-use Rattle.std.proofs.lemmas.Int.{to_z-of_z}
-use Rattle.ndarray.specs.Grid.{array_by}
-use Rattle.ndarray.specs.Integers.{int_sums}
-use Rattle.ndarray.specs.Sums.{total}
-use Rattle.ndarray.proofs.callers.Lanes.{lanes-summable}
-use Rattle.ndarray.proofs.callers.Products.{two-lengths}
+use Rattle.ndarray.proofs.Common.{rules, ◌≡◌, ◌∙◌, ap, arith, of_z, refl, remove, sym, to_z, FitsSigned, w64, to_z-of_z, array_by, int_sums, total, lanes-summable, two-lengths}
 use Rattle.uses.specs.Report.{column_total, row_total}
 use Rattle.uses.proofs.Reports.{is-axis, lane-sums}
 use Rattle.uses.proofs.report.totals.Goals as goal

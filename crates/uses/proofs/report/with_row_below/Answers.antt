@@ -1,10 +1,6 @@
-use Rattle.std.proofs.Common.{◌≡◌, ◌↔◌, ◌∙◌, ◌∷◌, [], Some, ap, subst}
-use Rattle.std.specs.Prelude.{Err, IfOk}
-use Rattle.ndarray.specs.Errors.{shape_error}
+use Rattle.ndarray.proofs.Common.{◌≡◌, ◌↔◌, ◌∙◌, ◌∷◌, [], Some, ap, subst, Err, IfOk, shape_error, concatenate_error, concatenation, shapes_of, axis_inserted}
 use Rattle.ndarray.specs.declared.base.error.ErrorKind.{ErrorKind}
 use Rattle.ndarray.specs.declared.stacking.error.StackError.TheVariants.{Shape}
-use Rattle.ndarray.specs.Joining.{concatenate_error, concatenation, shapes_of}
-use Rattle.ndarray.specs.Views.{axis_inserted}
 use Rattle.uses.proofs.report.with_row_below.Goals as goal
 
 pub returns-clause-cells : goal.returns-clause-cells

@@ -1,19 +1,6 @@
-use Rattle.std.proofs.Common.{rules, ◌≡◌, ◌∙◌, ◌+◌, ◌<◌, ◌∷◌, [], Some, ap, arith, length, refl, pos, remove, subst, sym}
-use Rattle.std.specs.Prelude.{Err, FitsSigned, slice_index}
-use Rattle.std.specs.Int.{w64}
-use Rattle.ndarray.specs.AlongAxis.{IsTotalOf}
-use Rattle.std.proofs.lemmas.Result.{err_from_is_err_and}
-use Rattle.ndarray.specs.Errors.{shape_error}
-use Rattle.ndarray.specs.Grid.{array_by, cell}
-use Rattle.ndarray.specs.Integers.{int_sums}
-use Rattle.ndarray.specs.Joining.{concatenate_error}
-use Rattle.ndarray.specs.Products.{value_or}
-use Rattle.ndarray.specs.Subviews.{lane}
-use Rattle.ndarray.specs.Sums.{total}
+use Rattle.ndarray.proofs.Common.{rules, ◌≡◌, ◌∙◌, ◌+◌, ◌<◌, ◌∷◌, [], Some, ap, arith, length, refl, pos, remove, subst, sym, Err, FitsSigned, slice_index, w64, IsTotalOf, shape_error, array_by, cell, int_sums, concatenate_error, value_or, lane, total, lanes_of-some, lane-maps, lanes-summable, first-and-rest, row-below}
 use Rattle.ndarray.specs.declared.stacking.error.StackError.TheVariants.{Shape}
-use Rattle.ndarray.proofs.callers.Collecting.{lanes_of-some}
-use Rattle.ndarray.proofs.callers.Lanes.{lane-maps, lanes-summable}
-use Rattle.ndarray.proofs.callers.RowsBelow.{first-and-rest, row-below}
+use Rattle.std.proofs.lemmas.Result.{err_from_is_err_and}
 use Rattle.uses.specs.Report.{total_below}
 use Rattle.uses.proofs.Reports.{is-axis}
 use Rattle.uses.proofs.report.with_totals.Goals as goal

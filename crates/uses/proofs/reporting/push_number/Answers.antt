@@ -1,5 +1,4 @@
-use Rattle.std.proofs.Common.{◌++◌}
-use Rattle.std.specs.Prelude.{decimal}
+use Rattle.ndarray.proofs.Common.{◌++◌, decimal}
 use Rattle.uses.proofs.OneLine.{extends-by, extends-none, in-line_append, number-in_line}
 use Rattle.uses.proofs.reporting.push_number.Goals as goal
 

@@ -1,5 +1,5 @@
 -- The line so far extends what it was.
-use Rattle.std.specs.Prelude.{string_bytes}
+use Rattle.ndarray.proofs.Common.{string_bytes}
 use Rattle.uses.specs.Streams.{Extends}
 use Rattle.uses.proofs.reporting.push_quoted.Given as goal
 

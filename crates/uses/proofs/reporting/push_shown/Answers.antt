@@ -1,6 +1,5 @@
-use Rattle.std.proofs.Common.{◌∙◌, ap, sym}
+use Rattle.ndarray.proofs.Common.{◌∙◌, ap, sym, false≢true}
 use Rattle.std.specs.Char.{encode_utf8, is_control}
-use Rattle.std.proofs.lemmas.Bool.{false≢true}
 use Rattle.uses.proofs.OneLine.{extends-by, extends-none, letter-in_line}
 use Rattle.uses.proofs.reporting.push_shown.Goals as goal
 

@@ -1,11 +1,7 @@
-use Rattle.std.proofs.Common.{◌≡◌, ◌∙◌, ◌∷◌, [], ◌==◌, ap, map, refl, subst, sym}
-use Rattle.std.specs.Prelude.{All}
-use Rattle.std.specs.List.{concat}
+use Rattle.ndarray.proofs.Common.{◌≡◌, ◌∙◌, ◌∷◌, [], ◌==◌, ap, map, refl, subst, sym, All, concat, YieldsList-at, map-append}
 use Rattle.std.specs.Str.Iter.{lines_steps}
 use Rattle.std.specs.Str.Lines.{lines}
-use Rattle.std.proofs.lemmas.Iterator.Consumers.{YieldsList-at}
 use Rattle.std.proofs.lemmas.Iterator.Splits.{YieldsList-from_lines}
-use Rattle.std.proofs.lemmas.List.{map-append}
 use Rattle.std.proofs.lemmas.Str.Ascii.{trim_ascii_end_is}
 use Rattle.uses.specs.Rows.{IsMark, SpellCells}
 use Rattle.uses.specs.Words.{rows_of}

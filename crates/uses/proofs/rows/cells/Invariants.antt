@@ -1,6 +1,5 @@
 -- These cells are those of the rows so far.
-use Rattle.std.proofs.Common.{map}
-use Rattle.std.specs.List.{concat}
+use Rattle.ndarray.proofs.Common.{map, concat}
 use Rattle.uses.specs.Rows.{SpellCells}
 use Rattle.uses.proofs.rows.cells.Given as goal
 

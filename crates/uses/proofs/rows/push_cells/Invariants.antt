@@ -1,5 +1,5 @@
 -- The cells of the bytes so far were appended.
-use Rattle.std.proofs.Common.{take}
+use Rattle.ndarray.proofs.Common.{take}
 use Rattle.uses.specs.Rows.{SpellsMore}
 use Rattle.uses.proofs.rows.push_cells.Given as goal
 

@@ -1,6 +1,5 @@
 -- So many rows were seen, and each has as many columns.
-use Rattle.std.proofs.Common.{◌≡◌, length, map}
-use Rattle.std.specs.Prelude.{All}
+use Rattle.ndarray.proofs.Common.{◌≡◌, length, map, All}
 use Rattle.uses.specs.Rows.{columns_of}
 use Rattle.uses.proofs.rows.rows.Given as goal
 

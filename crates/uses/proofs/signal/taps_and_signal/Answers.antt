@@ -1,4 +1,4 @@
-use Rattle.std.proofs.Common.{subst, sym}
+use Rattle.ndarray.proofs.Common.{subst, sym}
 use Rattle.uses.specs.Signal.{ReadsSignal}
 use Rattle.uses.specs.Spelling.{SpellNumbers}
 use Rattle.uses.specs.Words.{words_of}

@@ -1,8 +1,6 @@
-use Rattle.std.proofs.Common.{rules, ◌≡◌, ◌∙◌, ◌++◌, ◌∷◌, [], map, subst, sym}
-use Rattle.std.specs.Prelude.{All}
+use Rattle.ndarray.proofs.Common.{rules, ◌≡◌, ◌∙◌, ◌++◌, ◌∷◌, [], map, subst, sym, All, YieldsList-at}
 use Rattle.std.specs.Str.Iter.{split_ascii_whitespace_steps}
 use Rattle.std.specs.Str.Parse.{signed_digits_value}
-use Rattle.std.proofs.lemmas.Iterator.Consumers.{YieldsList-at}
 use Rattle.uses.specs.Spelling.{IsNumberWord, SpellNumbers}
 use Rattle.uses.specs.Words.{words_of}
 use Rattle.uses.proofs.FaultsPassedOn.{none-there}

@@ -1,5 +1,5 @@
 -- These numbers are those of the words so far.
-use Rattle.std.proofs.Common.{map}
+use Rattle.ndarray.proofs.Common.{map}
 use Rattle.uses.specs.Spelling.{SpellNumbers}
 use Rattle.uses.proofs.spelling.numbers.Given as goal
 

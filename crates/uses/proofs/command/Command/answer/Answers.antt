@@ -1,5 +1,4 @@
-use Rattle.std.proofs.Common.{IfOk, subst, sym}
-use Rattle.std.specs.Prelude.{IfErr, string_bytes}
+use Rattle.ndarray.proofs.Common.{IfOk, subst, sym, IfErr, string_bytes}
 use Rattle.uses.specs.Answering.{Prints}
 use Rattle.uses.specs.Faults.{IsFaultOf}
 use Rattle.uses.proofs.command.Command.answer.Goals as goal

@@ -1,4 +1,4 @@
-use Rattle.std.proofs.Common.{◌∷◌, [], ap, refl}
+use Rattle.ndarray.proofs.Common.{◌∷◌, [], ap, refl}
 use Rattle.uses.proofs.command.Command.with_number.Goals as goal
 
 pub returns-in_ok-count-in-recurrence-clause-spelled : goal.returns-in_ok-count-in-recurrence-clause-spelled

@@ -1,5 +1,4 @@
-use Rattle.std.proofs.Common.{◌∙◌, ap, sym}
-use Rattle.std.proofs.lemmas.Iterator.Consumers.{count_from_yields_List}
+use Rattle.ndarray.proofs.Common.{◌∙◌, ap, sym, count_from_yields_List}
 use Rattle.uses.specs.Rows.{columns_of}
 use Rattle.uses.proofs.Words.{words-given}
 use Rattle.uses.proofs.rows.Column.count.Goals as goal
