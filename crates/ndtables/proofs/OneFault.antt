@@ -1,5 +1,5 @@
 -- Words have one fault at most that is not `memory`, and none where they have an answer.
-use Rattle.std.proofs.Common.{◌≡◌, ℕ, ◌<◌, ◌≤◌, ◌⊎◌, inl, inr, ℤ, List, [], ◌∷◌, ◌++◌, length, take, refl, sym, ap, ◌∙◌, subst, arith, Bool, nat_eq, get_or}
+use Rattle.std.proofs.Common.{◌≡◌, ℕ, ◌⊎◌, inl, inr, ℤ, List, [], ◌∷◌, length, take, refl, sym, ap, ◌∙◌, subst, arith, Bool, nat_eq, get_or}
 use Rattle.std.specs.Prelude.{◌+◌, ⊤, All, Option, if◌then◌else◌}
 use Rattle.std.proofs.lemmas.List.{length-append}
 use Rattle.std.proofs.Math.Seq.{take-append_seam}
@@ -11,19 +11,22 @@ use Rattle.ndarray.specs.Integers.{int_products, int_sums}
 use Rattle.ndarray.specs.Products.{ShapesMultiply}
 use Rattle.ndarray.specs.Subviews.{ArePositive}
 use Rattle.ndtables.specs.Adding.{CanAdd, ForbidsSums}
-use Rattle.ndtables.specs.Answering.{Answers, Forbids, ForbidsAnswer, IsFirstFault, Prints, name_of}
+use Rattle.ndtables.specs.Answering.{Answers, Computes, Forbids, ForbidsAnswer, ForbidsPrinting, IsFirstFault, name_of}
 use Rattle.ndtables.specs.Convolving.{AreVectors, CanConvolve, CanConvolveInFull}
 use Rattle.ndtables.specs.Faults.{AfterAxisAndTable, AfterCount, AfterLastTable, AfterTable, AfterTables, ForbidsAxisAndTable, ForbidsCells, ForbidsCount, ForbidsLastTable, ForbidsTable, ForbidsTables, ForbidsTotal, ForbidsTotals, LeavesWords}
 use Rattle.ndtables.specs.Multiplying.{CanSumProducts, ForbidsProduct}
-use Rattle.ndtables.specs.Reading.{PrintsTotal, PrintsTotals, ReadsAxisAndTable, ReadsCount, ReadsNumbers, ReadsTable, ReadsTables}
+use Rattle.ndtables.specs.Printing.{HasForm}
+use Rattle.ndtables.specs.Reading.{ComputesTotal, ComputesTotals, ReadsAxisAndTable, ReadsCount, ReadsNumbers, ReadsTable, ReadsTables}
 use Rattle.ndtables.specs.Reducing.{AreInRangeAlong, CanCumulateAlong, CanDifferAlong, ForbidsDifferences, ForbidsMaking, HasAxis, HasOrder, ProductsFit, SumsFit}
-use Rattle.ndtables.specs.Spelling.{IsCellWord, SpellsShape}
+use Rattle.ndtables.specs.Spelling.{IsCellWord}
 use Rattle.ndtables.specs.Streams.{AppendsFront, PrintsEither, line_of}
 use Rattle.ndtables.specs.declared.command.Command.{Command}
 use Rattle.ndtables.specs.declared.command.Command.TheVariants.{Add, Conv, ConvFull, Cumprod, Diff, Dot, Product, ProductAxis, Sum, SumAxis}
 use Rattle.ndtables.specs.declared.fault.Fault.{Fault}
-use Rattle.ndtables.specs.declared.fault.Fault.TheVariants.{Usage, Shape, Number, Range, Memory}
-use Rattle.ndtables.proofs.OneReading.{as-many_words, axis-and_table_words, count-words, same-first, table-words, two-tables_words}
+use Rattle.ndtables.specs.declared.fault.Fault.TheVariants.{Usage, Shape, Number, Range, Input, Memory}
+use Rattle.ndtables.specs.declared.printing.Form.{Form}
+use Rattle.ndtables.specs.declared.printing.Form.TheVariants.{Plain}
+use Rattle.ndtables.proofs.OneReading.{as-many_words, axis-and_table_words, count-words, table-words, two-tables_words}
 use Rattle.ndtables.proofs.ShapeWords.{one-shape}
 
 abbrev Words : Type 0
@@ -47,22 +50,34 @@ making-none shape in_range s r Usage h = absurd h
 making-none shape in_range s r Shape h = absurd (h s)
 making-none shape in_range s r Number h = absurd h
 making-none shape in_range s r Range h = absurd (h.1 r)
+making-none shape in_range s r Input h = absurd h
 making-none shape in_range s r Memory h = refl
 
 making-one : (shape in_range : Type 0) → HasOne (ForbidsMaking shape in_range)
 making-one shape in_range Usage g h k a b = absurd h
 making-one shape in_range Number g h k a b = absurd h
+making-one shape in_range Input g h k a b = absurd h
 making-one shape in_range Memory g h k a b = absurd (a refl)
 making-one shape in_range Shape Usage h k a b = absurd k
 making-one shape in_range Shape Shape h k a b = refl
 making-one shape in_range Shape Number h k a b = absurd k
 making-one shape in_range Shape Range h k a b = absurd (h k.0)
+making-one shape in_range Shape Input h k a b = absurd k
 making-one shape in_range Shape Memory h k a b = absurd (b refl)
 making-one shape in_range Range Usage h k a b = absurd k
 making-one shape in_range Range Shape h k a b = absurd (k h.0)
 making-one shape in_range Range Number h k a b = absurd k
 making-one shape in_range Range Range h k a b = refl
+making-one shape in_range Range Input h k a b = absurd k
 making-one shape in_range Range Memory h k a b = absurd (b refl)
+
+only-shape : (shape : Type 0) (f : Fault) → ForbidsMaking shape ⊤ f → (f ≡ Memory → ⊥) → f ≡ Shape
+only-shape shape Usage h a = absurd h
+only-shape shape Shape h a = refl
+only-shape shape Number h a = absurd h
+only-shape shape Range h a = absurd (h.1 tt)
+only-shape shape Input h a = absurd h
+only-shape shape Memory h a = absurd (a refl)
 
 -- the faults of a sum and of a difference are such, but for `memory`
 module _ (why : Fault → Type 0) (shape in_range : Type 0) (same : (f : Fault) → (f ≡ Memory → ⊥) → why f → ForbidsMaking shape in_range f) where
@@ -74,6 +89,7 @@ sums-making g h Usage not why = why
 sums-making g h Shape not why = why
 sums-making g h Number not why = why
 sums-making g h Range not why = why
+sums-making g h Input not why = why
 sums-making g h Memory not why = absurd (not refl)
 
 sums-none : (g h : Grid ℤ) → CanAdd g h → HasNone (ForbidsSums g h)
@@ -81,6 +97,7 @@ sums-none g h can Usage why = absurd why
 sums-none g h can Shape why = absurd (why can.shapes)
 sums-none g h can Number why = absurd why
 sums-none g h can Range why = absurd (why.1 can)
+sums-none g h can Input why = absurd why
 sums-none g h can Memory why = refl
 
 differences-making : (g : Grid ℤ) (n axis : ℕ) (f : Fault) → (f ≡ Memory → ⊥) → ForbidsDifferences g n axis f → ForbidsMaking (HasOrder g n axis) (CanDifferAlong g n axis) f
@@ -88,6 +105,7 @@ differences-making g n axis Usage not why = why
 differences-making g n axis Shape not why = why
 differences-making g n axis Number not why = why
 differences-making g n axis Range not why = why
+differences-making g n axis Input not why = why
 differences-making g n axis Memory not why = absurd (not refl)
 
 differences-none : (g : Grid ℤ) (n axis : ℕ) → HasOrder g n axis → CanDifferAlong g n axis → HasNone (ForbidsDifferences g n axis)
@@ -95,6 +113,7 @@ differences-none g n axis shape can Usage why = absurd why
 differences-none g n axis shape can Shape why = absurd (why shape)
 differences-none g n axis shape can Number why = absurd why
 differences-none g n axis shape can Range why = absurd (why.1 can)
+differences-none g n axis shape can Input why = absurd why
 differences-none g n axis shape can Memory why = refl
 
 -- what is read
@@ -113,14 +132,17 @@ cells-one n words Usage Usage h k a b = refl
 cells-one n words Usage Shape h k a b = absurd k
 cells-one n words Usage Number h k a b = let le = k.0 in absurd (omega (arith, h, le))
 cells-one n words Usage Range h k a b = absurd k
+cells-one n words Usage Input h k a b = absurd k
 cells-one n words Usage Memory h k a b = absurd (b refl)
 cells-one n words Shape g h k a b = absurd h
 cells-one n words Number Usage h k a b = let le = h.0 in absurd (omega (arith, le, k))
 cells-one n words Number Shape h k a b = absurd k
 cells-one n words Number Number h k a b = refl
 cells-one n words Number Range h k a b = absurd k
+cells-one n words Number Input h k a b = absurd k
 cells-one n words Number Memory h k a b = absurd (b refl)
 cells-one n words Range g h k a b = absurd h
+cells-one n words Input g h k a b = absurd h
 cells-one n words Memory g h k a b = absurd (a refl)
 
 cells-none : (old new : Words) (xs : List ℤ) → ReadsNumbers old new xs → HasNone (ForbidsCells (length xs) old)
@@ -133,6 +155,7 @@ cells-none old new xs r Number h =
     let first : take (length xs) old ≡ r.read = ap (λ n. take n old) (as-many_words old new xs r) ∙ (ap (take (length r.read)) r.words ∙ take-append_seam r.read new) in
     absurd (h.1 (subst (All IsCellWord) (sym first) r.spelled))
 cells-none old new xs r Range h = absurd h
+cells-none old new xs r Input h = absurd h
 cells-none old new xs r Memory h = refl
 
 table-one : (words : Words) → HasOne (ForbidsTable words)
@@ -325,29 +348,29 @@ command-one ProductAxis words = totals-one ProductsFit words
 command-one Sum words = total-one SumsFit words
 command-one SumAxis words = totals-one SumsFit words
 
-total-none : (M : CommutativeMonoid ℤ) (in_range : List ℤ → Type 0) (words : Words) (text : List ℕ) → PrintsTotal M in_range words text → HasNone (ForbidsTotal in_range words)
-total-none M in_range words text p = after-last_none words (λ table. ForbidsMaking ⊤ (in_range table.cells)) p.table p.read (making-none ⊤ (in_range p.table.cells) tt p.fits)
+total-none : (M : CommutativeMonoid ℤ) (in_range : List ℤ → Type 0) (words : Words) (result : Grid ℤ) → ComputesTotal M in_range words result → HasNone (ForbidsTotal in_range words)
+total-none M in_range words result p = after-last_none words (λ table. ForbidsMaking ⊤ (in_range table.cells)) p.table p.read (making-none ⊤ (in_range p.table.cells) tt p.fits)
 
-totals-none : (M : CommutativeMonoid ℤ) (in_range : List ℤ → Type 0) (words : Words) (text : List ℕ) → PrintsTotals M in_range words text → HasNone (ForbidsTotals in_range words)
-totals-none M in_range words text p = after-axis_none words (λ axis table. ForbidsMaking (HasAxis table axis) (AreInRangeAlong in_range table axis)) p.axis p.table p.read
+totals-none : (M : CommutativeMonoid ℤ) (in_range : List ℤ → Type 0) (words : Words) (result : Grid ℤ) → ComputesTotals M in_range words result → HasNone (ForbidsTotals in_range words)
+totals-none M in_range words result p = after-axis_none words (λ axis table. ForbidsMaking (HasAxis table axis) (AreInRangeAlong in_range table axis)) p.axis p.table p.read
     (making-none (HasAxis p.table p.axis) (AreInRangeAlong in_range p.table p.axis) p.added.shape p.added.fits)
 
-command-none : (command : Command) (words : Words) (text : List ℕ) → Prints command words text → HasNone (Forbids command words)
-command-none Add words text p = after-tables_none words ForbidsSums p.left p.right p.read (sums-none p.left p.right p.added.fits)
-command-none Conv words text p = after-tables_none words (λ s t. ForbidsMaking (ArePositive s.lengths t.lengths) (CanConvolve s t)) p.table p.kernel p.read
+command-none : (command : Command) (words : Words) (result : Grid ℤ) → Computes command words result → HasNone (Forbids command words)
+command-none Add words result p = after-tables_none words ForbidsSums p.left p.right p.read (sums-none p.left p.right p.added.fits)
+command-none Conv words result p = after-tables_none words (λ s t. ForbidsMaking (ArePositive s.lengths t.lengths) (CanConvolve s t)) p.table p.kernel p.read
     (making-none (ArePositive p.table.lengths p.kernel.lengths) (CanConvolve p.table p.kernel) p.convolved.shape p.convolved.fits)
-command-none ConvFull words text p = after-tables_none words (λ s t. ForbidsMaking (AreVectors s t) (CanConvolveInFull s t)) p.left p.right p.read
+command-none ConvFull words result p = after-tables_none words (λ s t. ForbidsMaking (AreVectors s t) (CanConvolveInFull s t)) p.left p.right p.read
     (making-none (AreVectors p.left p.right) (CanConvolveInFull p.left p.right) p.convolved.shape p.convolved.fits)
-command-none Cumprod words text p = after-axis_none words (λ n t. ForbidsMaking (HasAxis t n) (CanCumulateAlong t n)) p.axis p.table p.read
+command-none Cumprod words result p = after-axis_none words (λ n t. ForbidsMaking (HasAxis t n) (CanCumulateAlong t n)) p.axis p.table p.read
     (making-none (HasAxis p.table p.axis) (CanCumulateAlong p.table p.axis) p.multiplied.shape p.multiplied.fits)
-command-none Diff words text p = after-count_none words (λ order. AfterAxisAndTable (λ axis table. ForbidsDifferences table order axis)) p.order p.rest p.read_order
+command-none Diff words result p = after-count_none words (λ order. AfterAxisAndTable (λ axis table. ForbidsDifferences table order axis)) p.order p.rest p.read_order
     (after-axis_none p.rest (λ axis table. ForbidsDifferences table p.order axis) p.axis p.table p.read (differences-none p.table p.order p.axis p.subtracted.shape p.subtracted.fits))
-command-none Dot words text p = after-tables_none words ForbidsProduct p.left p.right p.read
+command-none Dot words result p = after-tables_none words ForbidsProduct p.left p.right p.read
     (making-none (ShapesMultiply p.left.lengths p.right.lengths) (CanSumProducts p.left p.right) p.multiplied.shapes p.multiplied.fits)
-command-none Product words text p = total-none int_products ProductsFit words text p
-command-none ProductAxis words text p = totals-none int_products ProductsFit words text p
-command-none Sum words text p = total-none int_sums SumsFit words text p
-command-none SumAxis words text p = totals-none int_sums SumsFit words text p
+command-none Product words result p = total-none int_products ProductsFit words result p
+command-none ProductAxis words result p = totals-none int_products ProductsFit words result p
+command-none Sum words result p = total-none int_sums SumsFit words result p
+command-none SumAxis words result p = totals-none int_sums SumsFit words result p
 
 -- a name is that of one command: by its length and its second letter
 has_letter : List ℕ → ℕ → Bool
@@ -386,9 +409,31 @@ named-back SumAxis = refl
 one-name : (c d : Command) → name_of c ≡ name_of d → c ≡ d
 one-name c d e = sym (named-back c) ∙ (ap command_of e ∙ named-back d)
 
-pub one-fault : (words : Words) → HasOne (ForbidsAnswer words)
-one-fault [] f g h k a b = h ∙ sym k
-one-fault (word ∷ rest) f g h k a b = elim h [
+-- what is computed, and then printed
+printing-one : (form : Form) (command : Command) (words : Words) → HasOne (ForbidsPrinting form command words)
+printing-one form command words f g h k a b = elim h [
+  | inl p ↦ elim k [
+    | inl q ↦ command-one command words f g p q a b
+    | inr q ↦ absurd (a (command-none command words q.0 q.1 f p))
+  ]
+  | inr p ↦ elim k [
+    | inl q ↦ absurd (b (command-none command words p.0 p.1 g q))
+    | inr q ↦ shape-alone p.0 q.0 f g p.2 q.2 a b
+  ]
+]
+  where
+    shape-alone : (r s : Grid ℤ) (f g : Fault) → ForbidsMaking (HasForm form r) ⊤ f → ForbidsMaking (HasForm form s) ⊤ g → (f ≡ Memory → ⊥) → (g ≡ Memory → ⊥) → f ≡ g
+    shape-alone r s f g h k a b = only-shape (HasForm form r) f h a ∙ sym (only-shape (HasForm form s) g k b)
+
+printing-none : (command : Command) (words : Words) (result : Grid ℤ) → Computes command words result → HasNone (ForbidsPrinting Plain command words)
+printing-none command words result p f h = elim h [
+  | inl q ↦ command-none command words result p f q
+  | inr q ↦ making-none ⊤ ⊤ tt tt f q.2
+]
+
+pub one-fault : (form : Form) (words : Words) → HasOne (ForbidsAnswer form words)
+one-fault form [] f g h k a b = h ∙ sym k
+one-fault form (word ∷ rest) f g h k a b = elim h [
   | inl p ↦ elim k [
     | inl q ↦ p.1 ∙ sym q.1
     | inr q ↦ absurd (p.0 q.0 q.1)
@@ -397,21 +442,21 @@ one-fault (word ∷ rest) f g h k a b = elim h [
     | inl q ↦ absurd (q.0 p.0 p.1)
     | inr q ↦
         (let same : p.0 ≡ q.0 = one-name p.0 q.0 (sym p.1 ∙ q.1) in
-        command-one q.0 rest f g (subst (λ c. Forbids c rest f) same p.2) q.2 a b)
+        printing-one form q.0 rest f g (subst (λ c. ForbidsPrinting form c rest f) same p.2) q.2 a b)
   ]
 ]
 
-pub no-fault : (words : Words) (text : List ℕ) → Answers words text → HasNone (ForbidsAnswer words)
+pub no-fault : (words : Words) (text : List ℕ) → Answers Plain words text → HasNone (ForbidsAnswer Plain words)
 no-fault words text answer f why =
-    let h : ForbidsAnswer (name_of answer.command ∷ answer.arguments) f = subst (λ ws. ForbidsAnswer ws f) answer.named why in
+    let h : ForbidsAnswer Plain (name_of answer.command ∷ answer.arguments) f = subst (λ ws. ForbidsAnswer Plain ws f) answer.named why in
     elim h [
       | inl p ↦ absurd (p.0 answer.command refl)
       | inr p ↦
           (let same : p.0 ≡ answer.command = one-name p.0 answer.command (sym p.1) in
-          command-none answer.command answer.arguments text answer.prints f (subst (λ c. Forbids c answer.arguments f) same p.2))
+          printing-none answer.command answer.arguments answer.result answer.computed f (subst (λ c. ForbidsPrinting Plain c answer.arguments f) same p.2))
     ]
 
-pub no-first : (words : Words) (text : List ℕ) (fault : Fault) → Answers words text → IsFirstFault words fault → ⊥
+pub no-first : (words : Words) (text : List ℕ) (fault : Fault) → Answers Plain words text → IsFirstFault words fault → ⊥
 no-first words text fault answer first = first.1 (no-fault words text answer fault first.0)
 
 is-memory : (fault : Fault) → (fault ≡ Memory) ⊎ (fault ≡ Memory → ⊥)
@@ -419,11 +464,12 @@ is-memory Usage = inr (λ e. cc)
 is-memory Shape = inr (λ e. cc)
 is-memory Number = inr (λ e. cc)
 is-memory Range = inr (λ e. cc)
+is-memory Input = inr (λ e. cc)
 is-memory Memory = inl refl
 
 -- a fault that is why the words have no answer is the first, or `memory`
-pub first-line : (words : Words) (why fault : Fault) (old new : Option (List ℕ)) → ForbidsAnswer words why → IsFirstFault words fault → AppendsFront old new (line_of why) → PrintsEither fault old new
+pub first-line : (words : Words) (why fault : Fault) (old new : Option (List ℕ)) → ForbidsAnswer Plain words why → IsFirstFault words fault → AppendsFront old new (line_of why) → PrintsEither fault old new
 first-line words why fault old new forbids first line = elim (is-memory why) [
   | inl e ↦ inr (subst (λ f. AppendsFront old new (line_of f)) e line)
-  | inr not ↦ inl (subst (λ f. AppendsFront old new (line_of f)) (one-fault words why fault forbids first.0 not first.1) line)
+  | inr not ↦ inl (subst (λ f. AppendsFront old new (line_of f)) (one-fault Plain words why fault forbids first.0 not first.1) line)
 ]

@@ -1,11 +1,11 @@
 -- Pieces of a list, and texts that are joined while they are made.
-use Rattle.std.proofs.Common.{◌≡◌, ℕ, zero, suc, ◌+◌, ◌-◌, ◌*◌, ◌<◌, ◌≤◌, ℤ, List, [], ◌∷◌, ◌++◌, length, take, drop, false, refl, sym, ap, ◌∙◌, append_assoc, rules, arith}
+use Rattle.std.proofs.Common.{◌≡◌, ℕ, zero, suc, ◌+◌, ◌-◌, ◌*◌, ◌<◌, ◌≤◌, ℤ, List, [], ◌∷◌, ◌++◌, length, take, drop, false, true, refl, sym, ap, ◌∙◌, append_assoc, rules, arith}
 use Rattle.std.specs.Prelude.{flat_map, ◌&&◌, nat_lt, nat_eq}
 use Rattle.std.specs.List.{join_by}
 use Rattle.std.proofs.lemmas.List.{take-take, take_all, drop-take, drop-drop}
 use Rattle.ndarray.specs.Grid.{Grid}
 use Rattle.ndarray.specs.Index.{size}
-use Rattle.ndtables.specs.Printing.{pieces, array_text, cells_text, separator_text}
+use Rattle.ndtables.specs.Printing.{pieces, array_text_by, cells_text, separator_text}
 
 -- the pieces are made of the first elements alone
 pub pieces-take : {A : Type 0} (n s : ℕ) (xs : List A) → pieces n s (take (n * s) xs) ≡ pieces n s xs
@@ -70,8 +70,8 @@ module _ {X : Type 0} (f : X → List ℕ) (sep : List ℕ) where
       ∙ ap (λ zs. old ++ joined_after f sep first zs) (sym e))))
 
 -- the subarrays along the first axis are made of the first cells alone
-pub cells_text-first : (n : ℕ) (ns : List ℕ) (xs : List ℤ) → cells_text (n ∷ ns) (take (size (n ∷ ns)) xs) ≡ join_by (cells_text ns) (separator_text ns) (pieces n (size ns) xs)
-cells_text-first n ns xs = ap (join_by (cells_text ns) (separator_text ns)) (pieces-take n (size ns) xs)
+pub cells_text-first : (b : List ℕ) (n : ℕ) (ns : List ℕ) (xs : List ℤ) → cells_text b (n ∷ ns) (take (size (n ∷ ns)) xs) ≡ join_by (cells_text b ns) (separator_text b ns) (pieces n (size ns) xs)
+cells_text-first b n ns xs = ap (join_by (cells_text b ns) (separator_text b ns)) (pieces-take n (size ns) xs)
 
 few-axes : (a b : ℕ) → a ≤ 1 → (nat_lt 1 a && nat_eq b 0) ≡ false
 few-axes a b h = search rules
@@ -79,15 +79,23 @@ few-axes a b h = search rules
 some-cells : (a b : ℕ) → 0 < b → (nat_lt 1 a && nat_eq b 0) ≡ false
 some-cells a b h = search rules
 
-lines : (g : Grid ℤ) → length g.cells ≡ size g.lengths → (nat_lt 1 (length g.lengths) && nat_eq (length g.cells) 0) ≡ false → cells_text g.lengths (take (size g.lengths) g.cells) ++ 10 ∷ [] ≡ array_text g
-lines g whole e =
-    let all : take (size g.lengths) g.cells ≡ g.cells = take_all (size g.lengths) g.cells (omega arith) in
-    rw e (ap (λ xs. cells_text g.lengths xs ++ 10 ∷ []) all)
+no-cells : (a b : ℕ) → 1 < a → b ≡ 0 → (nat_lt 1 a && nat_eq b 0) ≡ true
+no-cells a b h e = search rules
 
--- an array of at most one axis has a line
-pub array_text-line : (g : Grid ℤ) → length g.cells ≡ size g.lengths → length g.lengths ≤ 1 → cells_text g.lengths (take (size g.lengths) g.cells) ++ 10 ∷ [] ≡ array_text g
-array_text-line g whole h = lines g whole (few-axes _ _ h)
+module _ (b : List ℕ) (g : Grid ℤ) where
+  lines : length g.cells ≡ size g.lengths → (nat_lt 1 (length g.lengths) && nat_eq (length g.cells) 0) ≡ false → cells_text b g.lengths (take (size g.lengths) g.cells) ++ 10 ∷ [] ≡ array_text_by b g
+  lines whole e =
+      let all : take (size g.lengths) g.cells ≡ g.cells = take_all (size g.lengths) g.cells (omega arith) in
+      rw e (ap (λ xs. cells_text b g.lengths xs ++ 10 ∷ []) all)
 
--- and so has each with cells
-pub array_text-lines : (g : Grid ℤ) → length g.cells ≡ size g.lengths → 0 < length g.cells → cells_text g.lengths (take (size g.lengths) g.cells) ++ 10 ∷ [] ≡ array_text g
-array_text-lines g whole h = lines g whole (some-cells _ _ h)
+  -- an array of at most one axis has a line
+  pub array_text-line : length g.cells ≡ size g.lengths → length g.lengths ≤ 1 → cells_text b g.lengths (take (size g.lengths) g.cells) ++ 10 ∷ [] ≡ array_text_by b g
+  array_text-line whole h = lines whole (few-axes _ _ h)
+
+  -- and so has each with cells
+  pub array_text-lines : length g.cells ≡ size g.lengths → 0 < length g.cells → cells_text b g.lengths (take (size g.lengths) g.cells) ++ 10 ∷ [] ≡ array_text_by b g
+  array_text-lines whole h = lines whole (some-cells _ _ h)
+
+  -- one of more axes without cells is no text
+  pub array_text-none : 1 < length g.lengths → length g.cells ≡ 0 → array_text_by b g ≡ []
+  array_text-none h e = rw (no-cells (length g.lengths) (length g.cells) h e) refl

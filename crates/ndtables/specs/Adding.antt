@@ -5,7 +5,7 @@ use Rattle.ndarray.specs.Broadcast.{BroadcastTogether}
 use Rattle.ndarray.specs.Elementwise.{CanCombine, Combines}
 use Rattle.ndarray.specs.Grid.{Grid}
 use Rattle.ndtables.specs.declared.fault.Fault.{Fault}
-use Rattle.ndtables.specs.declared.fault.Fault.TheVariants.{Usage, Shape, Number, Range, Memory}
+use Rattle.ndtables.specs.declared.fault.Fault.TheVariants.{Usage, Shape, Number, Range, Input, Memory}
 
 -- the shapes of two arrays broadcast together, and the sum of the two cells at each index list is an `i64`
 abbrev pub CanAdd : Grid ℤ → Grid ℤ → Type 0
@@ -22,4 +22,5 @@ ForbidsSums g h Usage = ⊥
 ForbidsSums g h Shape = BroadcastTogether g.lengths h.lengths → ⊥
 ForbidsSums g h Number = ⊥
 ForbidsSums g h Range = BroadcastTogether g.lengths h.lengths × (CanAdd g h → ⊥)
+ForbidsSums g h Input = ⊥
 ForbidsSums g h Memory = CanAdd g h

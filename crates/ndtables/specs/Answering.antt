@@ -1,13 +1,17 @@
--- What the program prints for its words, and why it does not.
-use Rattle.std.specs.Prelude.{◌≡◌, ◌⊎◌, ℕ, List, [], ◌∷◌, codes}
+-- What the program prints for the words of a command, and why it does not.
+use Rattle.std.specs.Prelude.{◌≡◌, ◌⊎◌, ⊤, ℕ, ℤ, List, [], ◌∷◌, codes}
+use Rattle.ndarray.specs.Grid.{Grid}
 use Rattle.ndarray.specs.Integers.{int_products, int_sums}
 use Rattle.ndtables.specs.Faults.{ForbidsAdd, ForbidsConv, ForbidsConvFull, ForbidsCumprod, ForbidsDiff, ForbidsDot, ForbidsTotal, ForbidsTotals}
-use Rattle.ndtables.specs.Reading.{PrintsAdd, PrintsConv, PrintsConvFull, PrintsCumprod, PrintsDiff, PrintsDot, PrintsTotal, PrintsTotals}
-use Rattle.ndtables.specs.Reducing.{ProductsFit, SumsFit}
+use Rattle.ndtables.specs.Printing.{HasForm, form_text}
+use Rattle.ndtables.specs.Reading.{ComputesAdd, ComputesConv, ComputesConvFull, ComputesCumprod, ComputesDiff, ComputesDot, ComputesTotal, ComputesTotals}
+use Rattle.ndtables.specs.Reducing.{ForbidsMaking, ProductsFit, SumsFit}
 use Rattle.ndtables.specs.declared.command.Command.{Command}
 use Rattle.ndtables.specs.declared.command.Command.TheVariants.{Add, Conv, ConvFull, Cumprod, Diff, Dot, Product, ProductAxis, Sum, SumAxis}
 use Rattle.ndtables.specs.declared.fault.Fault.{Fault}
 use Rattle.ndtables.specs.declared.fault.Fault.TheVariants.{Memory, Usage}
+use Rattle.ndtables.specs.declared.printing.Form.{Form}
+use Rattle.ndtables.specs.declared.printing.Form.TheVariants.{Plain}
 
 -- the name of a command
 abbrev pub name_of : Command → List ℕ
@@ -22,27 +26,30 @@ name_of ProductAxis = codes "product-axis"
 name_of Sum = codes "sum"
 name_of SumAxis = codes "sum-axis"
 
--- what the command prints for its arguments
-abbrev pub Prints : Command → List (List ℕ) → List ℕ → Type 0
-Prints Add = PrintsAdd
-Prints Conv = PrintsConv
-Prints ConvFull = PrintsConvFull
-Prints Cumprod = PrintsCumprod
-Prints Diff = PrintsDiff
-Prints Dot = PrintsDot
-Prints Product = PrintsTotal int_products ProductsFit
-Prints ProductAxis = PrintsTotals int_products ProductsFit
-Prints Sum = PrintsTotal int_sums SumsFit
-Prints SumAxis = PrintsTotals int_sums SumsFit
+-- what the command computes of its arguments
+abbrev pub Computes : Command → List (List ℕ) → Grid ℤ → Type 0
+Computes Add = ComputesAdd
+Computes Conv = ComputesConv
+Computes ConvFull = ComputesConvFull
+Computes Cumprod = ComputesCumprod
+Computes Diff = ComputesDiff
+Computes Dot = ComputesDot
+Computes Product = ComputesTotal int_products ProductsFit
+Computes ProductAxis = ComputesTotals int_products ProductsFit
+Computes Sum = ComputesTotal int_sums SumsFit
+Computes SumAxis = ComputesTotals int_sums SumsFit
 
--- the words are a command and its arguments, and the text is what it prints
-pub record Answers (words : List (List ℕ)) (text : List ℕ) : Type 0 where
+-- the words are a command and its arguments, and the text is what it computes of them, printed in the form
+pub record Answers (form : Form) (words : List (List ℕ)) (text : List ℕ) : Type 0 where
   pub command : Command
   pub arguments : List (List ℕ)
+  pub result : Grid ℤ
   pub named : words ≡ name_of command ∷ arguments
-  pub prints : Prints command arguments text
+  pub computed : Computes command arguments result
+  pub shape : HasForm form result
+  pub printed : text ≡ form_text form result
 
--- the fault is why the command prints nothing for its arguments
+-- the fault is why the command computes nothing of its arguments
 abbrev pub Forbids : Command → List (List ℕ) → Fault → Type 0
 Forbids Add = ForbidsAdd
 Forbids Conv = ForbidsConv
@@ -59,19 +66,15 @@ Forbids SumAxis = ForbidsTotals SumsFit
 abbrev pub NamesNoCommand : List ℕ → Type 0
 NamesNoCommand word = (command : Command) → word ≡ name_of command → ⊥
 
+-- the fault is why the command prints nothing for its arguments: it computes nothing of them, or the result has no such form, or allocation failure
+abbrev pub ForbidsPrinting : Form → Command → List (List ℕ) → Fault → Type 0
+ForbidsPrinting form command arguments fault = Forbids command arguments fault ⊎ ((result : Grid ℤ) × Computes command arguments result × ForbidsMaking (HasForm form result) ⊤ fault)
+
 -- the fault is why words have no answer: there is no word, or the first is no command's name, or the fault is that of the command
-abbrev pub ForbidsAnswer : List (List ℕ) → Fault → Type 0
-ForbidsAnswer [] fault = fault ≡ Usage
-ForbidsAnswer (word ∷ arguments) fault = (NamesNoCommand word × (fault ≡ Usage)) ⊎ ((command : Command) × (word ≡ name_of command) × Forbids command arguments fault)
+abbrev pub ForbidsAnswer : Form → List (List ℕ) → Fault → Type 0
+ForbidsAnswer form [] fault = fault ≡ Usage
+ForbidsAnswer form (word ∷ arguments) fault = (NamesNoCommand word × (fault ≡ Usage)) ⊎ ((command : Command) × (word ≡ name_of command) × ForbidsPrinting form command arguments fault)
 
 -- the fault is the first that the words have, as they are read from left to right and then computed with
 abbrev pub IsFirstFault : List (List ℕ) → Fault → Type 0
-IsFirstFault words fault = ForbidsAnswer words fault × (fault ≡ Memory → ⊥)
-
--- some fault is why the words have no answer
-abbrev pub HasFault : List (List ℕ) → Type 0
-HasFault words = (fault : Fault) × ForbidsAnswer words fault
-
--- the words have an answer
-abbrev pub HasAnswer : List (List ℕ) → Type 0
-HasAnswer words = (text : List ℕ) × Answers words text
+IsFirstFault words fault = ForbidsAnswer Plain words fault × (fault ≡ Memory → ⊥)

@@ -1,4 +1,4 @@
--- Why words have no answer: which fault comes first, as they are read from left to right, and then computed with.
+-- Why nothing is computed of words: which fault comes first, as they are read from left to right, and then computed with.
 use Rattle.std.specs.Prelude.{◌≡◌, ◌⊎◌, ◌<◌, ◌≤◌, ⊤, ℕ, ℤ, List, [], ◌∷◌, length, take, All}
 use Rattle.ndarray.specs.Grid.{Grid}
 use Rattle.ndarray.specs.Index.{size}
@@ -11,7 +11,7 @@ use Rattle.ndtables.specs.Reading.{ReadsAxisAndTable, ReadsCount, ReadsTable, Re
 use Rattle.ndtables.specs.Reducing.{AreInRangeAlong, CanCumulateAlong, ForbidsDifferences, ForbidsMaking, HasAxis}
 use Rattle.ndtables.specs.Spelling.{IsCellWord, IsCountWord, SpellsNoShape, SpellsShape}
 use Rattle.ndtables.specs.declared.fault.Fault.{Fault}
-use Rattle.ndtables.specs.declared.fault.Fault.TheVariants.{Usage, Shape, Number, Range, Memory}
+use Rattle.ndtables.specs.declared.fault.Fault.TheVariants.{Usage, Shape, Number, Range, Input, Memory}
 
 -- the fault is why no axis or order was read: there is no word, or it spells none
 abbrev pub ForbidsCount : List (List ℕ) → Fault → Type 0
@@ -24,6 +24,7 @@ ForbidsCells n words Usage = length words < n
 ForbidsCells n words Shape = ⊥
 ForbidsCells n words Number = (n ≤ length words) × (All IsCellWord (take n words) → ⊥)
 ForbidsCells n words Range = ⊥
+ForbidsCells n words Input = ⊥
 ForbidsCells n words Memory = n ≤ length words
 
 -- the fault is why no table was read: there is no word, or it spells no shape, or the fault is that of its cells
@@ -68,34 +69,34 @@ AfterTables computes words fault = ForbidsTables words fault ⊎ ((left : Grid �
 abbrev pub AfterAxisAndTable : (ℕ → Grid ℤ → Fault → Type 0) → List (List ℕ) → Fault → Type 0
 AfterAxisAndTable computes words fault = ForbidsAxisAndTable words fault ⊎ ((axis : ℕ) × (table : Grid ℤ) × ReadsAxisAndTable words axis table × computes axis table fault)
 
--- why the total of a table was not printed
+-- why the total of a table was not computed
 abbrev pub ForbidsTotal : (List ℤ → Type 0) → List (List ℕ) → Fault → Type 0
 ForbidsTotal in_range = AfterLastTable (λ table. ForbidsMaking ⊤ (in_range table.cells))
 
--- why the array of the sums of two tables was not printed
+-- why the array of the sums of two tables was not computed
 abbrev pub ForbidsAdd : List (List ℕ) → Fault → Type 0
 ForbidsAdd = AfterTables ForbidsSums
 
--- why the valid convolution of a table with a kernel was not printed
+-- why the valid convolution of a table with a kernel was not computed
 abbrev pub ForbidsConv : List (List ℕ) → Fault → Type 0
 ForbidsConv = AfterTables (λ table kernel. ForbidsMaking (ArePositive table.lengths kernel.lengths) (CanConvolve table kernel))
 
--- why the full convolution of two tables was not printed
+-- why the full convolution of two tables was not computed
 abbrev pub ForbidsConvFull : List (List ℕ) → Fault → Type 0
 ForbidsConvFull = AfterTables (λ left right. ForbidsMaking (AreVectors left right) (CanConvolveInFull left right))
 
--- why the array of the totals of the lanes along an axis was not printed
+-- why the array of the totals of the lanes along an axis was not computed
 abbrev pub ForbidsTotals : (List ℤ → Type 0) → List (List ℕ) → Fault → Type 0
 ForbidsTotals in_range = AfterAxisAndTable (λ axis table. ForbidsMaking (HasAxis table axis) (AreInRangeAlong in_range table axis))
 
--- why the difference of an order along an axis was not printed
+-- why the difference of an order along an axis was not computed
 abbrev pub ForbidsDiff : List (List ℕ) → Fault → Type 0
 ForbidsDiff = AfterCount (λ order. AfterAxisAndTable (λ axis table. ForbidsDifferences table order axis))
 
--- why the product of two tables was not printed
+-- why the product of two tables was not computed
 abbrev pub ForbidsDot : List (List ℕ) → Fault → Type 0
 ForbidsDot = AfterTables ForbidsProduct
 
--- why the running products along an axis were not printed
+-- why the running products along an axis were not computed
 abbrev pub ForbidsCumprod : List (List ℕ) → Fault → Type 0
 ForbidsCumprod = AfterAxisAndTable (λ axis table. ForbidsMaking (HasAxis table axis) (CanCumulateAlong table axis))

@@ -2,10 +2,14 @@ pub mod Adding
 pub mod Answering
 pub mod Convolving
 pub mod Faults
+pub mod Lines
 pub mod Multiplying
+pub mod Pages
 pub mod Printing
 pub mod Reading
+pub mod Records
 pub mod Reducing
 pub mod Spelling
 pub mod Stored
 pub mod Streams
+pub mod Words

@@ -1,15 +1,13 @@
--- What is read off the words of a command line.
+-- What is read off words, and what is computed of it.
 use Rattle.std.specs.Prelude.{◌≡◌, ℕ, ℤ, List, [], ◌∷◌, ◌++◌, map, All}
-use Rattle.std.specs.Fmt.{signed_decimal}
 use Rattle.std.specs.Str.Parse.{digits_value, signed_digits_value}
 use Rattle.ndarray.specs.Algebra.{CommutativeMonoid}
-use Rattle.ndarray.specs.Grid.{Grid, IsGrid}
+use Rattle.ndarray.specs.Grid.{Grid, IsGrid, grid}
 use Rattle.ndarray.specs.Sums.{total}
 use Rattle.ndarray.specs.declared.base.shape.Order.{Order}
 use Rattle.ndtables.specs.Adding.{AreSums}
 use Rattle.ndtables.specs.Convolving.{IsFullConvolution, IsValidConvolution}
 use Rattle.ndtables.specs.Multiplying.{IsProduct}
-use Rattle.ndtables.specs.Printing.{array_text}
 use Rattle.ndtables.specs.Reducing.{AreDifferences, AreRunningProducts, AreTotalsAlong}
 use Rattle.ndtables.specs.Spelling.{IsCellWord, IsCountWord, SpellsShape}
 
@@ -49,75 +47,61 @@ pub record ReadsAxisAndTable (words : List (List ℕ)) (axis : ℕ) (table : Gri
   pub read_axis : ReadsCount words rest axis
   pub read_table : ReadsTable rest [] table
 
--- all of the words were read as a table, its cells are in range, and the text is their total, as a line
-pub record PrintsTotal (M : CommutativeMonoid ℤ) (in_range : List ℤ → Type 0) (words : List (List ℕ)) (text : List ℕ) : Type 0 where
+-- all of the words were read as a table, its cells are in range, and the result, of no axes, is their total
+pub record ComputesTotal (M : CommutativeMonoid ℤ) (in_range : List ℤ → Type 0) (words : List (List ℕ)) (result : Grid ℤ) : Type 0 where
   pub table : Grid ℤ
   pub read : ReadsTable words [] table
   pub fits : in_range table.cells
-  pub line : text ≡ signed_decimal (total M table.cells) ++ 10 ∷ []
+  pub total : result ≡ grid [] (total M table.cells ∷ [])
 
--- all of the words were read as two tables, one after the other, and the text is the array of their sums
-pub record PrintsAdd (words : List (List ℕ)) (text : List ℕ) : Type 0 where
+-- all of the words were read as two tables, one after the other, and the result is the array of their sums
+pub record ComputesAdd (words : List (List ℕ)) (sums : Grid ℤ) : Type 0 where
   pub left : Grid ℤ
   pub right : Grid ℤ
-  pub sums : Grid ℤ
   pub read : ReadsTables words left right
   pub added : AreSums left right sums
-  pub lines : text ≡ array_text sums
 
--- all of the words were read as two tables, and the text is the valid convolution of the first with the second
-pub record PrintsConv (words : List (List ℕ)) (text : List ℕ) : Type 0 where
+-- all of the words were read as two tables, and the result is the valid convolution of the first with the second
+pub record ComputesConv (words : List (List ℕ)) (sums : Grid ℤ) : Type 0 where
   pub table : Grid ℤ
   pub kernel : Grid ℤ
-  pub sums : Grid ℤ
   pub read : ReadsTables words table kernel
   pub convolved : IsValidConvolution table kernel sums
-  pub lines : text ≡ array_text sums
 
--- all of the words were read as two tables, and the text is their full convolution
-pub record PrintsConvFull (words : List (List ℕ)) (text : List ℕ) : Type 0 where
+-- all of the words were read as two tables, and the result is their full convolution
+pub record ComputesConvFull (words : List (List ℕ)) (sums : Grid ℤ) : Type 0 where
   pub left : Grid ℤ
   pub right : Grid ℤ
-  pub sums : Grid ℤ
   pub read : ReadsTables words left right
   pub convolved : IsFullConvolution left right sums
-  pub lines : text ≡ array_text sums
 
--- all of the words were read as two tables, one after the other, and the text is their product
-pub record PrintsDot (words : List (List ℕ)) (text : List ℕ) : Type 0 where
+-- all of the words were read as two tables, one after the other, and the result is their product
+pub record ComputesDot (words : List (List ℕ)) (product : Grid ℤ) : Type 0 where
   pub left : Grid ℤ
   pub right : Grid ℤ
-  pub product : Grid ℤ
   pub read : ReadsTables words left right
   pub multiplied : IsProduct left right product
-  pub lines : text ≡ array_text product
 
--- all of the words were read as an axis and a table, and the text is the array of the totals of the table's lanes along the axis
-pub record PrintsTotals (M : CommutativeMonoid ℤ) (in_range : List ℤ → Type 0) (words : List (List ℕ)) (text : List ℕ) : Type 0 where
+-- all of the words were read as an axis and a table, and the result is the array of the totals of the table's lanes along the axis
+pub record ComputesTotals (M : CommutativeMonoid ℤ) (in_range : List ℤ → Type 0) (words : List (List ℕ)) (totals : Grid ℤ) : Type 0 where
   pub axis : ℕ
   pub table : Grid ℤ
-  pub totals : Grid ℤ
   pub read : ReadsAxisAndTable words axis table
   pub added : AreTotalsAlong M in_range table axis totals
-  pub lines : text ≡ array_text totals
 
--- all of the words were read as an order, an axis and a table, and the text is the table's difference of that order along the axis
-pub record PrintsDiff (words : List (List ℕ)) (text : List ℕ) : Type 0 where
+-- all of the words were read as an order, an axis and a table, and the result is the table's difference of that order along the axis
+pub record ComputesDiff (words : List (List ℕ)) (differences : Grid ℤ) : Type 0 where
   pub order : ℕ
   pub axis : ℕ
   pub table : Grid ℤ
-  pub differences : Grid ℤ
   pub rest : List (List ℕ)
   pub read_order : ReadsCount words rest order
   pub read : ReadsAxisAndTable rest axis table
   pub subtracted : AreDifferences table order axis differences
-  pub lines : text ≡ array_text differences
 
--- all of the words were read as an axis and a table, and the text is the array of the table's running products along the axis
-pub record PrintsCumprod (words : List (List ℕ)) (text : List ℕ) : Type 0 where
+-- all of the words were read as an axis and a table, and the result is the array of the table's running products along the axis
+pub record ComputesCumprod (words : List (List ℕ)) (products : Grid ℤ) : Type 0 where
   pub axis : ℕ
   pub table : Grid ℤ
-  pub products : Grid ℤ
   pub read : ReadsAxisAndTable words axis table
   pub multiplied : AreRunningProducts table axis products
-  pub lines : text ≡ array_text products

@@ -9,7 +9,7 @@ use Rattle.ndarray.specs.Integers.{int_sums, magnitude_product}
 use Rattle.ndarray.specs.Subviews.{lanes_of}
 use Rattle.ndarray.specs.Sums.{IsSummable, total}
 use Rattle.ndtables.specs.declared.fault.Fault.{Fault}
-use Rattle.ndtables.specs.declared.fault.Fault.TheVariants.{Usage, Shape, Number, Range, Memory}
+use Rattle.ndtables.specs.declared.fault.Fault.TheVariants.{Usage, Shape, Number, Range, Input, Memory}
 
 -- the array has an axis of that number
 abbrev pub HasAxis : Grid ℤ → ℕ → Type 0
@@ -47,6 +47,7 @@ ForbidsMaking shape in_range Usage = ⊥
 ForbidsMaking shape in_range Shape = shape → ⊥
 ForbidsMaking shape in_range Number = ⊥
 ForbidsMaking shape in_range Range = shape × (in_range → ⊥)
+ForbidsMaking shape in_range Input = ⊥
 ForbidsMaking shape in_range Memory = shape × in_range
 
 -- the third number is the first minus the second
@@ -77,6 +78,7 @@ ForbidsDifferences g n axis Usage = ⊥
 ForbidsDifferences g n axis Shape = HasOrder g n axis → ⊥
 ForbidsDifferences g n axis Number = ⊥
 ForbidsDifferences g n axis Range = HasOrder g n axis × (CanDifferAlong g n axis → ⊥)
+ForbidsDifferences g n axis Input = ⊥
 ForbidsDifferences g n axis Memory = HasOrder g n axis
 
 -- the third number is the product of the two

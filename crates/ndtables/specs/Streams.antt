@@ -1,9 +1,9 @@
 -- What is written to the two streams.
 use Rattle.std.specs.Prelude.{◌≡◌, ◌⊎◌, ℕ, List, [], ◌∷◌, ◌++◌, Option, codes}
 use Rattle.std.specs.Io.KnownBytes.{Appends}
-use Rattle.ndtables.specs.Answering.{Answers, ForbidsAnswer}
+use Rattle.ndtables.specs.Lines.{AnswersLine, ForbidsLine}
 use Rattle.ndtables.specs.declared.fault.Fault.{Fault}
-use Rattle.ndtables.specs.declared.fault.Fault.TheVariants.{Usage, Shape, Number, Range, Memory}
+use Rattle.ndtables.specs.declared.fault.Fault.TheVariants.{Usage, Shape, Number, Range, Input, Memory}
 
 -- the word of a fault
 abbrev pub word_of : Fault → List ℕ
@@ -11,6 +11,7 @@ word_of Usage = codes "usage"
 word_of Shape = codes "shape"
 word_of Number = codes "number"
 word_of Range = codes "range"
+word_of Input = codes "input"
 word_of Memory = codes "memory"
 
 -- the line that a fault prints: `ndtables: `, its word and a newline
@@ -27,16 +28,22 @@ pub record AppendsUpTo (old new : Option (List ℕ)) (text rest : List ℕ) : Ty
 abbrev pub AppendsFront : Option (List ℕ) → Option (List ℕ) → List ℕ → Type 0
 AppendsFront old new text = (rest : List ℕ) × AppendsUpTo old new text rest
 
--- a fault is why the words have no answer, and the stream took its line, or a front of that
-pub record PrintsFault (words : List (List ℕ)) (old new : Option (List ℕ)) : Type 0 where
-  pub fault : Fault
-  pub forbids : ForbidsAnswer words fault
-  pub line : AppendsFront old new (line_of fault)
-
--- the words have an answer, and the stream took it, or a front of it
-pub record PrintsFront (words : List (List ℕ)) (old new : Option (List ℕ)) : Type 0 where
+-- the command line has an answer, which the stream took whole
+pub record PrintsAnswer (line : List (List ℕ)) (remaining old new : Option (List ℕ)) : Type 0 where
   pub text : List ℕ
-  pub answer : Answers words text
+  pub answer : AnswersLine line remaining text
+  pub printed : Appends old new text
+
+-- a fault is why the command line has no answer, and the stream took the fault's line, or a front of that
+pub record PrintsFault (line : List (List ℕ)) (remaining old new : Option (List ℕ)) : Type 0 where
+  pub fault : Fault
+  pub forbids : ForbidsLine line remaining fault
+  pub told : AppendsFront old new (line_of fault)
+
+-- the command line has an answer, and the stream took a front of it
+pub record PrintsFront (line : List (List ℕ)) (remaining old new : Option (List ℕ)) : Type 0 where
+  pub text : List ℕ
+  pub answer : AnswersLine line remaining text
   pub front : AppendsFront old new text
 
 -- the stream took the line of the fault, or of `memory`, or a front of that

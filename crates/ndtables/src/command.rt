@@ -1,51 +1,53 @@
-//! The commands: each reads its arguments and returns the text that it prints.
+//! The commands: each reads its arguments and returns what it computes of them.
 
-ghost use Rattle.std.specs.Prelude.{◌≡◌, MatchOption, IfOk, IfErr, string_bytes};
+ghost use Rattle.std.specs.Prelude.{◌≡◌, ◌∷◌, [], MatchOption, IfOk, IfErr};
+ghost use Rattle.ndarray.specs.Grid.{grid};
 ghost use Rattle.ndarray.specs.Integers.{int_products, int_sums};
 ghost use Rattle.ndtables.specs.Faults.{ForbidsAdd, ForbidsConv, ForbidsConvFull, ForbidsCumprod, ForbidsDiff, ForbidsDot, ForbidsTotal, ForbidsTotals};
-ghost use Rattle.ndtables.specs.Reading.{PrintsAdd, PrintsConv, PrintsConvFull, PrintsCumprod, PrintsDiff, PrintsDot, PrintsTotal, PrintsTotals};
+ghost use Rattle.ndtables.specs.Reading.{ComputesAdd, ComputesConv, ComputesConvFull, ComputesCumprod, ComputesDiff, ComputesDot, ComputesTotal, ComputesTotals};
 ghost use Rattle.ndtables.specs.Reducing.{ProductsFit, SumsFit};
 
 use crate::adding::sums_in_range;
 use crate::convolving::{full_convolution, valid_convolution};
 use crate::fault::Fault;
 use crate::multiplying::dot_in_range;
-use crate::printing::text_of;
 use crate::reducing::{
     differences, product_in_range, products_along, running_products, sum_in_range, sums_along,
 };
+use crate::views::Made;
 use crate::words::Words;
-use std::alloc::Global;
+use ndarray::{Array, IxDyn};
+use std::alloc::{AllocError, Global};
 
 /// A command, by its name.
 #[derive(Clone, Copy, PartialEq, Eq, Debug)]
 pub enum Command {
-    /// `add TABLE TABLE` prints the array of the sums of the cells of two tables, whose shapes are
+    /// `add TABLE TABLE` computes the array of the sums of the cells of two tables, whose shapes are
     /// broadcast together.
     Add,
-    /// `conv TABLE KERNEL` prints the valid convolution of a table with a kernel.
+    /// `conv TABLE KERNEL` computes the valid convolution of a table with a kernel.
     Conv,
-    /// `conv-full TABLE TABLE` prints the full convolution of two tables of one axis each.
+    /// `conv-full TABLE TABLE` computes the full convolution of two tables of one axis each.
     ConvFull,
-    /// `cumprod K TABLE` prints the array of the running products along axis K.
+    /// `cumprod K TABLE` computes the array of the running products along axis K.
     Cumprod,
-    /// `diff N K TABLE` prints the difference of order N along axis K.
+    /// `diff N K TABLE` computes the difference of order N along axis K.
     Diff,
-    /// `dot TABLE TABLE` prints the product of two tables: the sums of the products of the lanes of the
+    /// `dot TABLE TABLE` computes the product of two tables: the sums of the products of the lanes of the
     /// left along its last axis and the lanes of the right along its last axis but one, or its only one.
     Dot,
-    /// `product TABLE` prints the product of all cells.
+    /// `product TABLE` computes the product of all cells.
     Product,
-    /// `product-axis K TABLE` prints the array of the products of the lanes along axis K.
+    /// `product-axis K TABLE` computes the array of the products of the lanes along axis K.
     ProductAxis,
-    /// `sum TABLE` prints the sum of all cells.
+    /// `sum TABLE` computes the sum of all cells.
     Sum,
-    /// `sum-axis K TABLE` prints the array of the sums of the lanes along axis K.
+    /// `sum-axis K TABLE` computes the array of the sums of the lanes along axis K.
     SumAxis,
 }
 
 impl Command {
-    ghost use Rattle.ndtables.specs.Answering.{name_of, Forbids, NamesNoCommand, Prints};
+    ghost use Rattle.ndtables.specs.Answering.{name_of, Computes, Forbids, NamesNoCommand};
 
     /// The command of a name.
     pub fn named(name: &str) -> Option<Command>
@@ -66,12 +68,12 @@ impl Command {
         }
     }
 
-    /// Reads the command's arguments, which are all of the words, and returns what it prints.
+    /// Reads the command's arguments, which are all of the words, and returns what it computes of them.
     ///
     /// The fault is the first one that holds as the words are read from left to right, then of what is
     /// computed, or `memory`.
-    pub fn answer(self, alloc: Global, words: Words<'_>) -> Result<String, Fault>
-        ensures text { IfOk result (λ text. Prints self words.entry (string_bytes text)) }
+    pub fn answer(self, alloc: Global, words: Words<'_>) -> Made
+        ensures computed { IfOk result (Computes self words.entry) }
         ensures err { IfErr result (Forbids self words.entry) }
     {
         match self {
@@ -90,102 +92,111 @@ impl Command {
 }
 
 /// `add TABLE TABLE`.
-fn add(alloc: Global, words: Words<'_>) -> Result<String, Fault>
-    ensures text { IfOk result (λ text. PrintsAdd words.entry (string_bytes text)) }
+fn add(alloc: Global, words: Words<'_>) -> Made
+    ensures computed { IfOk result (ComputesAdd words.entry) }
     ensures err { IfErr result (ForbidsAdd words.entry) }
 {
     let (left, right) = words.two_tables(alloc)?;
     let sums = sums_in_range(alloc, &left.view(), &right.view())?;
-    Ok(text_of(alloc, &sums.view())?)
+    Ok(sums)
 }
 
 /// `conv TABLE KERNEL`.
-fn conv(alloc: Global, words: Words<'_>) -> Result<String, Fault>
-    ensures text { IfOk result (λ text. PrintsConv words.entry (string_bytes text)) }
+fn conv(alloc: Global, words: Words<'_>) -> Made
+    ensures computed { IfOk result (ComputesConv words.entry) }
     ensures err { IfErr result (ForbidsConv words.entry) }
 {
     let (table, kernel) = words.two_tables(alloc)?;
     let sums = valid_convolution(alloc, &table.view(), &kernel.view())?;
-    Ok(text_of(alloc, &sums.view())?)
+    Ok(sums)
 }
 
 /// `conv-full TABLE TABLE`.
-fn conv_full(alloc: Global, words: Words<'_>) -> Result<String, Fault>
-    ensures text { IfOk result (λ text. PrintsConvFull words.entry (string_bytes text)) }
+fn conv_full(alloc: Global, words: Words<'_>) -> Made
+    ensures computed { IfOk result (ComputesConvFull words.entry) }
     ensures err { IfErr result (ForbidsConvFull words.entry) }
 {
     let (left, right) = words.two_tables(alloc)?;
     let sums = full_convolution(alloc, &left.view(), &right.view())?;
-    Ok(text_of(alloc, &sums.view())?)
+    Ok(sums)
 }
 
 /// `cumprod K TABLE`.
-fn cumprod(alloc: Global, words: Words<'_>) -> Result<String, Fault>
-    ensures text { IfOk result (λ text. PrintsCumprod words.entry (string_bytes text)) }
+fn cumprod(alloc: Global, words: Words<'_>) -> Made
+    ensures computed { IfOk result (ComputesCumprod words.entry) }
     ensures err { IfErr result (ForbidsCumprod words.entry) }
 {
     let (axis, table) = words.axis_and_table(alloc)?;
     let products = running_products(alloc, &table.view(), axis)?;
-    Ok(text_of(alloc, &products.view())?)
+    Ok(products)
 }
 
 /// `diff N K TABLE`.
-fn diff(alloc: Global, mut words: Words<'_>) -> Result<String, Fault>
-    ensures text { IfOk result (λ text. PrintsDiff words.entry (string_bytes text)) }
+fn diff(alloc: Global, mut words: Words<'_>) -> Made
+    ensures computed { IfOk result (ComputesDiff words.entry) }
     ensures err { IfErr result (ForbidsDiff words.entry) }
 {
     let order = words.count()?;
     let (axis, table) = words.axis_and_table(alloc)?;
     let differences = differences(alloc, &table.view(), order, axis)?;
-    Ok(text_of(alloc, &differences.view())?)
+    Ok(differences)
 }
 
 /// `dot TABLE TABLE`.
-fn dot(alloc: Global, words: Words<'_>) -> Result<String, Fault>
-    ensures text { IfOk result (λ text. PrintsDot words.entry (string_bytes text)) }
+fn dot(alloc: Global, words: Words<'_>) -> Made
+    ensures computed { IfOk result (ComputesDot words.entry) }
     ensures err { IfErr result (ForbidsDot words.entry) }
 {
     let (left, right) = words.two_tables(alloc)?;
     let product = dot_in_range(alloc, &left.view(), &right.view())?;
-    Ok(text_of(alloc, &product.view())?)
+    Ok(product)
 }
 
 /// `product TABLE`.
-fn product(alloc: Global, words: Words<'_>) -> Result<String, Fault>
-    ensures text { IfOk result (λ text. PrintsTotal int_products ProductsFit words.entry (string_bytes text)) }
+fn product(alloc: Global, words: Words<'_>) -> Made
+    ensures computed { IfOk result (ComputesTotal int_products ProductsFit words.entry) }
     ensures err { IfErr result (ForbidsTotal ProductsFit words.entry) }
 {
     let table = words.last_table(alloc)?;
     let product = product_in_range(&table.view()).ok_or(Fault::Range)?;
-    Ok(format!(in alloc; "{product}\n")?)
+    let product = number(alloc, product)?;
+    Ok(product)
 }
 
 /// `product-axis K TABLE`.
-fn product_axis(alloc: Global, words: Words<'_>) -> Result<String, Fault>
-    ensures text { IfOk result (λ text. PrintsTotals int_products ProductsFit words.entry (string_bytes text)) }
+fn product_axis(alloc: Global, words: Words<'_>) -> Made
+    ensures computed { IfOk result (ComputesTotals int_products ProductsFit words.entry) }
     ensures err { IfErr result (ForbidsTotals ProductsFit words.entry) }
 {
     let (axis, table) = words.axis_and_table(alloc)?;
     let products = products_along(alloc, &table.view(), axis)?;
-    Ok(text_of(alloc, &products.view())?)
+    Ok(products)
 }
 
 /// `sum TABLE`.
-fn sum(alloc: Global, words: Words<'_>) -> Result<String, Fault>
-    ensures text { IfOk result (λ text. PrintsTotal int_sums SumsFit words.entry (string_bytes text)) }
+fn sum(alloc: Global, words: Words<'_>) -> Made
+    ensures computed { IfOk result (ComputesTotal int_sums SumsFit words.entry) }
     ensures err { IfErr result (ForbidsTotal SumsFit words.entry) }
 {
     let table = words.last_table(alloc)?;
     let total = sum_in_range(&table.view()).ok_or(Fault::Range)?;
-    Ok(format!(in alloc; "{total}\n")?)
+    let total = number(alloc, total)?;
+    Ok(total)
 }
 
 /// `sum-axis K TABLE`.
-fn sum_axis(alloc: Global, words: Words<'_>) -> Result<String, Fault>
-    ensures text { IfOk result (λ text. PrintsTotals int_sums SumsFit words.entry (string_bytes text)) }
+fn sum_axis(alloc: Global, words: Words<'_>) -> Made
+    ensures computed { IfOk result (ComputesTotals int_sums SumsFit words.entry) }
     ensures err { IfErr result (ForbidsTotals SumsFit words.entry) }
 {
     let (axis, table) = words.axis_and_table(alloc)?;
     let sums = sums_along(alloc, &table.view(), axis)?;
-    Ok(text_of(alloc, &sums.view())?)
+    Ok(sums)
+}
+
+/// The array of no axes whose cell is a number.
+fn number(alloc: Global, number: i64) -> Result<Array<i64, IxDyn>, AllocError>
+    ensures { IfOk result (λ a. a ≡ grid [] (number ∷ [])) }
+{
+    Array::from_elem(alloc, IxDyn(&[]), number)
 }

@@ -7,8 +7,8 @@ ghost use Rattle.ndtables.specs.Reducing.{ForbidsMaking};
 
 use crate::fault::Fault;
 use crate::views::{Made, View};
+use ndarray::Ix1;
 use ndarray::conv::{conv_full, conv_full_ok, conv_valid, conv_valid_ok, full_fits, valid_fits};
-use ndarray::{Array, Ix1};
 use std::alloc::Global;
 
 /// The valid convolution of a table with a kernel.
@@ -33,11 +33,7 @@ pub fn valid_convolution(alloc: Global, table: &View<'_>, kernel: &View<'_>) -> 
 ///
 /// The fault is `shape` where one has another number of axes, or the first between zeros would be too long, else `range` where at some
 /// place the absolute values of the products add up to no `i64`, else `memory`.
-pub fn full_convolution(
-    alloc: Global,
-    left: &View<'_>,
-    right: &View<'_>,
-) -> Result<Array<i64, Ix1>, Fault>
+pub fn full_convolution(alloc: Global, left: &View<'_>, right: &View<'_>) -> Made
     ensures sums { IfOk result (IsFullConvolution left.now right.now) }
     ensures err { IfErr result (ForbidsMaking (AreVectors left.now right.now) (CanConvolveInFull left.now right.now)) }
 {
@@ -54,5 +50,5 @@ pub fn full_convolution(
         return Err(Fault::Range);
     }
     let sums = conv_full(alloc, &x, &y)?;
-    Ok(sums)
+    Ok(sums.into_dimensionality().unwrap())
 }

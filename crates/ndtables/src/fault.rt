@@ -5,7 +5,7 @@ ghost use Rattle.std.specs.Prelude.{◌≡◌};
 
 use std::alloc::{AllocError, AllocFailed};
 
-/// A fault of the words, or allocation failure. It prints as a line with its word.
+/// A fault of the words or of the input, or allocation failure. It prints as a line with its word.
 #[derive(Clone, Copy, PartialEq, Eq, Debug)]
 pub enum Fault {
     /// No command, an unknown one, a missing word, or a word too many.
@@ -17,6 +17,8 @@ pub enum Fault {
     Number,
     /// A result, on the way too, that may not fit its type.
     Range,
+    /// An input that cannot be read, is no text, or has a word of more than 4096 bytes.
+    Input,
     /// A failed allocation.
     Memory,
 }
@@ -33,6 +35,7 @@ impl Fault {
             Fault::Shape => "ndtables: shape\n",
             Fault::Number => "ndtables: number\n",
             Fault::Range => "ndtables: range\n",
+            Fault::Input => "ndtables: input\n",
             Fault::Memory => "ndtables: memory\n",
         }
     }

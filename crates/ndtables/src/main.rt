@@ -5,10 +5,14 @@ mod adding;
 mod command;
 mod convolving;
 mod fault;
+mod help;
+mod input;
 mod multiplying;
 mod printing;
 mod program;
+mod records;
 mod reducing;
+mod source;
 mod spelling;
 mod table;
 mod views;
@@ -20,7 +24,13 @@ use std::{env, io};
 
 fn main(rt: HostRuntime) -> ExitCode {
     let line = given_words(&rt);
-    let status = program::run_line(rt.alloc(), line, &mut rt.stdout(), &mut rt.stderr());
+    let status = program::run_line(
+        rt.alloc(),
+        line,
+        rt.stdin(),
+        &mut rt.stdout(),
+        &mut rt.stderr(),
+    );
     ExitCode::from(status)
 }
 

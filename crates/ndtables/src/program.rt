@@ -1,34 +1,40 @@
-//! The program over any words and any two streams.
+//! The program over any words, any reader and any two streams.
 
-ghost use Rattle.std.specs.Prelude.{◌≡◌, ◌⊎◌, ℕ, List, map, IfOk, IfErr, OnErr, OnOk, drop, string_bytes};
+ghost use Rattle.std.specs.Prelude.{◌≡◌, ◌⊎◌, ◌++◌, length, map, IfOk, IfErr, OnErr, OnOk, drop, string_bytes};
 ghost use Rattle.std.specs.Result.{IsOkAnd};
 ghost use Rattle.std.specs.Io.KnownBytes.{Appends};
-ghost use Rattle.ndtables.specs.Answering.{Answers, ForbidsAnswer, HasAnswer, HasFault, IsFirstFault};
-ghost use Rattle.ndtables.specs.Streams.{AppendsFront, PrintsEither, PrintsFault, PrintsFront, line_of};
+ghost use Rattle.ndtables.specs.Answering.{Answers, ForbidsAnswer, IsFirstFault};
+ghost use Rattle.ndtables.specs.Lines.{AnswersLine, ForbidsLine, StandsAlone};
+ghost use Rattle.ndtables.specs.Streams.{AppendsFront, PrintsAnswer, PrintsEither, PrintsFault, PrintsFront, line_of};
+ghost use Rattle.ndtables.specs.Words.{words_of};
 
 use crate::command::Command;
 use crate::fault::Fault;
+use crate::help::Page;
+use crate::printing::Form;
+use crate::source::Source;
 use crate::words::Words;
 use std::alloc::Global;
 use std::io;
-use std::io::{ErrorKind, Write};
+use std::io::{ErrorKind, Read, Write};
 
 /// Answers the words of a command line, of which the first is the program's name, and gives the exit
 /// status, as [`run`] does of the others. Words that could not be had are the fault `memory`.
-pub fn run_line<X: Drop, W: Write, E: Write>(
+pub fn run_line<X: Drop, R: Read + Drop, W: Write, E: Write>(
     alloc: Global,
     line: Result<Vec<String>, X>,
+    input: R,
     out: &mut W,
     err: &mut E,
 ) -> u8
     ensures status { (result ≡ 0) ⊎ (result ≡ 2) }
-    ensures answered { result ≡ 0 → IsOkAnd line (λ words. (text : List ℕ) × Answers (drop 1 (map string_bytes words.items)) text × Appends (W.contents out.old) (W.contents out.new) text × (err.new ≡ err.old)) }
-    ensures first { IfOk line (λ words. (fault : Fault) → IsFirstFault (drop 1 (map string_bytes words.items)) fault → (result ≡ 2) × (out.new ≡ out.old) × PrintsEither fault (E.contents err.old) (E.contents err.new)) }
-    ensures printed { IfOk line (λ words. result ≡ 2 → (PrintsFault (drop 1 (map string_bytes words.items)) (E.contents err.old) (E.contents err.new) × (out.new ≡ out.old)) ⊎ (PrintsFront (drop 1 (map string_bytes words.items)) (W.contents out.old) (W.contents out.new) × (err.new ≡ err.old))) }
+    ensures answered { result ≡ 0 → IsOkAnd line (λ words. PrintsAnswer (drop 1 (map string_bytes words.items)) (R.remaining input) (W.contents out.old) (W.contents out.new) × (err.new ≡ err.old)) }
+    ensures first { IfOk line (λ words. StandsAlone (drop 1 (map string_bytes words.items)) → (fault : Fault) → IsFirstFault (drop 1 (map string_bytes words.items)) fault → (result ≡ 2) × (out.new ≡ out.old) × PrintsEither fault (E.contents err.old) (E.contents err.new)) }
+    ensures printed { IfOk line (λ words. result ≡ 2 → (PrintsFault (drop 1 (map string_bytes words.items)) (R.remaining input) (E.contents err.old) (E.contents err.new) × (out.new ≡ out.old)) ⊎ (PrintsFront (drop 1 (map string_bytes words.items)) (R.remaining input) (W.contents out.old) (W.contents out.new) × (err.new ≡ err.old))) }
     ensures none { OnErr line ((result ≡ 2) × (out.new ≡ out.old) × AppendsFront (E.contents err.old) (E.contents err.new) (line_of Fault.Memory)) }
 {
     match line {
-        Ok(words) => run(alloc, after_name(words.as_slice()), out, err),
+        Ok(words) => run(alloc, after_name(words.as_slice()), input, out, err),
         Err(_) => report(Fault::Memory, err),
     }
 }
@@ -43,20 +49,26 @@ fn after_name(words: &[String]) -> &[String]
     }
 }
 
-/// Answers the words, which are those after the program's name, and gives the exit status.
+/// Answers the words, which are those after the program's name, and gives the exit status. The input is read only where the last word
+/// is `-` or the first `--csv`.
 ///
-/// The status is 0 where the result is on `out`. Else it is 2: the first fault of the words, or
-/// allocation failure, leaves nothing on `out` and one line on `err`, and after a fault of a stream,
+/// The status is 0 where the result is on `out`. Else it is 2: the first fault of the words, or of the
+/// input, or allocation failure, leaves nothing on `out` and one line on `err`, and after a fault of a stream,
 /// which has then taken a front of the text, nothing more is printed on either.
-pub fn run<W: Write, E: Write>(alloc: Global, words: &[String], out: &mut W, err: &mut E) -> u8
+pub fn run<R: Read + Drop, W: Write, E: Write>(
+    alloc: Global,
+    words: &[String],
+    input: R,
+    out: &mut W,
+    err: &mut E,
+) -> u8
     ensures status { (result ≡ 0) ⊎ (result ≡ 2) }
-    ensures answered { result ≡ 0 → (text : List ℕ) × Answers (map string_bytes words.now) text × Appends (W.contents out.old) (W.contents out.new) text }
-    ensures unanswered { result ≡ 2 → (HasFault (map string_bytes words.now) × (out.new ≡ out.old)) ⊎ HasAnswer (map string_bytes words.now) }
+    ensures answered { result ≡ 0 → PrintsAnswer (map string_bytes words.now) (R.remaining input) (W.contents out.old) (W.contents out.new) }
     ensures quiet { result ≡ 0 → err.new ≡ err.old }
-    ensures first { (fault : Fault) → IsFirstFault (map string_bytes words.now) fault → (result ≡ 2) × (out.new ≡ out.old) × PrintsEither fault (E.contents err.old) (E.contents err.new) }
-    ensures printed { result ≡ 2 → (PrintsFault (map string_bytes words.now) (E.contents err.old) (E.contents err.new) × (out.new ≡ out.old)) ⊎ (PrintsFront (map string_bytes words.now) (W.contents out.old) (W.contents out.new) × (err.new ≡ err.old)) }
+    ensures first { StandsAlone (map string_bytes words.now) → (fault : Fault) → IsFirstFault (map string_bytes words.now) fault → (result ≡ 2) × (out.new ≡ out.old) × PrintsEither fault (E.contents err.old) (E.contents err.new) }
+    ensures printed { result ≡ 2 → (PrintsFault (map string_bytes words.now) (R.remaining input) (E.contents err.old) (E.contents err.new) × (out.new ≡ out.old)) ⊎ (PrintsFront (map string_bytes words.now) (R.remaining input) (W.contents out.old) (W.contents out.new) × (err.new ≡ err.old)) }
 {
-    match answer(alloc, words) {
+    match answer(alloc, words, input) {
         Ok(text) => match print(text.as_str(), out) {
             Ok(()) => 0,
             Err(_) => 2,
@@ -66,13 +78,37 @@ pub fn run<W: Write, E: Write>(alloc: Global, words: &[String], out: &mut W, err
 }
 
 /// What the words ask to be printed, whole; or the first fault, where they have no answer.
-fn answer(alloc: Global, words: &[String]) -> Result<String, Fault>
-    ensures text { IfOk result (λ text. Answers (map string_bytes words.now) (string_bytes text)) }
-    ensures err { IfErr result (ForbidsAnswer (map string_bytes words.now)) }
+fn answer<R: Read + Drop>(alloc: Global, words: &[String], input: R) -> Result<String, Fault>
+    ensures text { IfOk result (λ text. AnswersLine (map string_bytes words.now) (R.remaining input) (string_bytes text)) }
+    ensures err { IfErr result (ForbidsLine (map string_bytes words.now) (R.remaining input)) }
 {
-    let mut words = Words::new(words);
+    if let Some(page) = Page::asked(words) {
+        return Ok(String::from_str(alloc, page.text())?);
+    }
+    let (source, words) = Source::asked(words);
+    let (form, words) = Form::asked(words);
+    match source.given(alloc, words, input) {
+        Ok((words, text, count)) => computed(alloc, form, words, text.as_str(), count),
+        Err(fault) => Err(fault),
+    }
+}
+
+/// What the command of these words and of those of a text prints, in a form. Requires that the text has so many words.
+fn computed(
+    alloc: Global,
+    form: Form,
+    words: &[String],
+    text: &str,
+    count: usize,
+) -> Result<String, Fault>
+    requires { count ≡ length (words_of text.now) }
+    ensures text { IfOk result (λ printed. Answers form (map string_bytes words.now ++ words_of text.now) (string_bytes printed)) }
+    ensures err { IfErr result (ForbidsAnswer form (map string_bytes words.now ++ words_of text.now)) }
+{
+    let mut words = Words::new(words, text, count);
     let command = Command::named(words.word()?).ok_or(Fault::Usage)?;
-    command.answer(alloc, words)
+    let array = command.answer(alloc, words)?;
+    form.text_of(alloc, &array.view())
 }
 
 /// Writes a text to a stream. After an error the stream has taken a front of it.

@@ -1,9 +1,10 @@
 //! How lengths, cells and shapes are spelled.
 
-ghost use Rattle.std.specs.Prelude.{◌≡◌, ◌≤◌, length, SomeIff, IfOk, IfErr};
+ghost use Rattle.std.specs.Prelude.{◌≡◌, ◌≤◌, ◌<◌, ◌^◌, pos, length, SomeIff, IfOk, IfErr, IfSome};
+ghost use Rattle.std.specs.Char.{digit_value};
 ghost use Rattle.std.specs.Int.{w64};
-ghost use Rattle.std.specs.Str.Parse.{digits_value, ParsesSigned};
-ghost use Rattle.ndtables.specs.Spelling.{IsCountWord, SpellsLengths, SpellsNoLengths, SpellsNoShape, SpellsShape};
+ghost use Rattle.std.specs.Str.Parse.{IsNumeral, digits_value, signed_digits_value, ParsesSigned};
+ghost use Rattle.ndtables.specs.Spelling.{IsCellWord, IsCountWord, SpellsLengths, SpellsNoLengths, SpellsNoShape, SpellsShape};
 
 use crate::fault::Fault;
 use arrayvec::ArrayVec;
@@ -26,7 +27,48 @@ pub fn cell(word: &str) -> Result<i64, Fault>
     ensures value { ParsesSigned w64 10 word.now result }
     ensures err { IfErr result (λ fault. fault ≡ Fault.Number) }
 {
+    // Much faster than `parse`, for nearly all cells.
+    if let Some(number) = short_cell(word.as_bytes()) {
+        return Ok(number);
+    }
     word.parse::<i64>().map_err(|_| Fault::Number)
+}
+
+/// The cell that up to 18 digits after an optional `-` spell.
+fn short_cell(word: &[u8]) -> Option<i64>
+    ensures { IfSome result (λ number. IsCellWord word.now × (number ≡ signed_digits_value 10 word.now)) }
+{
+    if let [b'-', digits @ ..] = word {
+        let number = natural(digits)?;
+        return Some(-number);
+    }
+    natural(word)
+}
+
+/// The number of up to 18 digits.
+fn natural(digits: &[u8]) -> Option<i64>
+    ensures { IfSome result (λ number. IsNumeral 10 digits.now × (number ≡ pos (digits_value 10 digits.now)) × (digits_value 10 digits.now < 2 ^ 63)) }
+{
+    // So many digits fit, and no sum needs to be tested.
+    if digits.is_empty() || digits.len() > 18 {
+        return None;
+    }
+    let mut number = 0u64;
+    for byte in digits {
+        let digit = digit(*byte)?;
+        number = number * 10 + digit;
+    }
+    i64::try_from(number).ok()
+}
+
+/// The number of a digit.
+fn digit(byte: u8) -> Option<u64>
+    ensures { IfSome result (λ digit. (digit ≡ digit_value byte) × (digit_value byte < 10)) }
+{
+    if !byte.is_ascii_digit() {
+        return None;
+    }
+    Some(u64::from(byte - b'0'))
 }
 
 /// A shape word: `.` for no axes, or lengths joined by `x`, and at its end an `f` where the table

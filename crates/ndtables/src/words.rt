@@ -1,8 +1,9 @@
-//! The words of a command line, read from left to right.
+//! The words of a command line and of an input, read from left to right.
 
-ghost use Rattle.std.specs.Prelude.{◌≡◌, ◌≤◌, ◌↔◌, ◌∷◌, [], map, length, IfOk, IfErr, OnErr, MatchResult, IsOk, string_bytes};
+ghost use Rattle.std.specs.Prelude.{◌≡◌, ◌≤◌, ◌↔◌, ◌∷◌, ◌++◌, [], map, length, IfOk, IfErr, OnErr, MatchResult, IsOk, IsTrue, string_bytes};
 ghost use Rattle.ndtables.specs.Faults.{ForbidsAxisAndTable, ForbidsCells, ForbidsCount, ForbidsLastTable, ForbidsTable, ForbidsTables};
 ghost use Rattle.ndtables.specs.Reading.{ReadsAxisAndTable, ReadsCount, ReadsNumbers, ReadsTable, ReadsTables};
+ghost use Rattle.ndtables.specs.Words.{words_of};
 
 use crate::fault::Fault;
 use crate::spelling;
@@ -10,34 +11,47 @@ use crate::table::Table;
 use ndarray::{Axis, IxDyn, Lengths};
 use std::alloc::Global;
 use std::marker::Model;
+use std::str::SplitAsciiWhitespace;
 
-/// The words that are still to be read.
+/// The words that are still to be read: those of a command line, and then those of a text.
 #[derive(Drop)]
 pub struct Words<'a> {
     rest: &'a [String],
+    more: SplitAsciiWhitespace<'a>,
+    left: usize,
 }
 
 impl<'a> Model for Words<'a> {
-    ghost use Rattle.std.specs.Prelude.{ℕ, List, map, string_bytes};
+    ghost use Rattle.std.specs.Prelude.{◌≡◌, ◌++◌, ℕ, List, length, map, string_bytes};
+    ghost use Rattle.std.specs.Str.Iter.{split_ascii_whitespace_text};
+    ghost use Rattle.ndtables.specs.Words.{words_of};
 
     ghost Value = { List (List ℕ) };
 
-    ghost view = { λ w. map string_bytes w.rest.now };
+    ghost view = { λ w. map string_bytes w.rest.now ++ words_of (split_ascii_whitespace_text w.more) };
+
+    ghost invariant = { λ w. w.left ≡ length (words_of (split_ascii_whitespace_text w.more)) };
 }
 
 impl<'a> Words<'a> {
-    /// All of the words are still to be read.
-    pub fn new(words: &'a [String]) -> Self
-        ensures { result ≡ map string_bytes words.now }
+    /// All of these words, and of the words of a text, are still to be read. Requires that the text has so many words.
+    pub fn new(words: &'a [String], text: &'a str, count: usize) -> Self
+        requires { count ≡ length (words_of text.now) }
+        ensures { result ≡ map string_bytes words.now ++ words_of text.now }
     {
-        Words { rest: words }
+        Words {
+            rest: words,
+            more: text.split_ascii_whitespace(),
+            left: count,
+        }
     }
 
-    /// How many words are still to be read.
-    pub fn len(&self) -> usize
-        ensures { result ≡ length self.now }
+    /// Whether so many words are still to be read.
+    pub fn has(&self, count: usize) -> bool
+        ensures { IsTrue result ↔ (count ≤ length self.now) }
     {
-        self.rest.len()
+        let given = self.rest.len();
+        count <= given || count - given <= self.left
     }
 
     /// Reads the next word. Where there is none the fault is `usage`.
@@ -45,9 +59,15 @@ impl<'a> Words<'a> {
         ensures cases { MatchResult result (λ word. self.old ≡ word.now ∷ self.new) (λ fault. (self.old ≡ []) × (fault ≡ Fault.Usage)) }
         ensures err { OnErr result (self.new ≡ self.old) }
     {
-        let (word, rest) = self.rest.split_first().ok_or(Fault::Usage)?;
-        self.rest = rest;
-        Ok(word.as_str())
+        if let [word, rest @ ..] = self.rest {
+            self.rest = rest;
+            return Ok(word.as_str());
+        }
+        let Some(word) = self.more.next() else {
+            return Err(Fault::Usage);
+        };
+        self.left -= 1;
+        Ok(word)
     }
 
     /// Reads the next word as a number: one or more ASCII digits that fit `usize`. Else the fault is
@@ -72,7 +92,7 @@ impl<'a> Words<'a> {
     {
         let (dim, order) = spelling::shape(self.word()?)?;
         let size = dim.size();
-        if self.len() < size {
+        if !self.has(size) {
             return Err(Fault::Usage);
         }
         let cells = self.cells(alloc, size)?;
@@ -128,10 +148,9 @@ impl<'a> Words<'a> {
         ensures none_left { IsOk result ↔ (self.now ≡ []) }
         ensures err { IfErr result (λ fault. fault ≡ Fault.Usage) }
     {
-        if self.rest.is_empty() {
-            Ok(())
-        } else {
-            Err(Fault::Usage)
+        if self.has(1) {
+            return Err(Fault::Usage);
         }
+        Ok(())
     }
 }

@@ -1,6 +1,5 @@
 use Rattle.std.proofs.Common.{inl, inr, subst}
-use Rattle.std.proofs.lemmas.Result.{err_from_is_err_and}
-use Rattle.ndtables.specs.Reducing.{ForbidsDifferences, HasOrder}
+use Rattle.ndtables.specs.Reducing.{ForbidsDifferences}
 use Rattle.ndtables.specs.Faults.{ForbidsDiff}
 use Rattle.ndtables.proofs.FaultsPassedOn.{passed-on}
 use Rattle.ndtables.proofs.command.diff.Goals as goal
@@ -16,11 +15,3 @@ returns-in_err-differences-clause-err c =
     let fault = c.in_err-differences.field-0.0 in
     let forbids = subst (λ g. ForbidsDifferences g order axis fault) c.view.ensures.same c.in_err-differences.ensures.err in
     passed-on (ForbidsDiff c.args.words) c.from_residual-in_err-differences.result c.in_err-differences.field-0.0 c.from_residual-in_err-differences.ensures.1 (inr (order, c.count.new.self, c.in_ok-order.ensures.read, inr (axis, c.in_ok-axis.table, c.in_ok-axis.ensures.read, forbids)))
-
-pub returns-in_err-text_of-clause-err : goal.returns-in_err-text_of-clause-err
-returns-in_err-text_of-clause-err c =
-    let p = err_from_is_err_and c.from_residual-in_err-text_of.result c.from_residual-in_err-text_of.ensures.1 in
-    let order = c.in_ok-order.order in
-    let axis = c.in_ok-axis.axis.0 in
-    let forbids = subst (λ g. HasOrder g order axis) c.view.ensures.same c.in_ok-differences.ensures.differences.shape in
-    rw (p.1, p.2) (inr (order, c.count.new.self, c.in_ok-order.ensures.read, inr (axis, c.in_ok-axis.table, c.in_ok-axis.ensures.read, forbids)))

@@ -1,4 +1,4 @@
-use Rattle.std.proofs.Common.{◌∷◌, [], ◌∙◌, ℕ, length, rules, subst}
+use Rattle.std.proofs.Common.{◌∷◌, [], ◌∙◌, ℕ, length, rules, subst, sym, ◌≡◌}
 use Rattle.std.specs.Prelude.{slice_index}
 use Rattle.ndarray.specs.Convolution.{convolution_products, full_length}
 use Rattle.ndarray.specs.Integers.{int_products, int_sums}
@@ -21,5 +21,7 @@ returns-clause-sums c =
       fits = search rules;
       cells = array_by-follows sums (n ∷ []) (λ is. at (slice_index is 0)) made.whole made.lengths made.cells ∙ array_by-one at n;
     } in
-    subst (λ g. IsFullConvolution g c.args.right.now sums) (c.in-Ok.ensures.value ∙ c.view.ensures.same)
-    (subst (λ h. IsFullConvolution x h sums) (c.in-Ok-into_dimensionality.ensures.value ∙ c.view-2.ensures.same) of_vectors)
+    let dynamic : sums ≡ c.unwrap.result = sym (rw c.unwrap.ensures at c.into_dimensionality-3.ensures.value) in
+    subst (IsFullConvolution c.args.left.now c.args.right.now) dynamic
+    (subst (λ g. IsFullConvolution g c.args.right.now sums) (c.in-Ok.ensures.value ∙ c.view.ensures.same)
+    (subst (λ h. IsFullConvolution x h sums) (c.in-Ok-into_dimensionality.ensures.value ∙ c.view-2.ensures.same) of_vectors))

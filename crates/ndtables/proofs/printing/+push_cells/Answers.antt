@@ -9,18 +9,20 @@ use Rattle.ndtables.proofs.printing.+push_cells.Goals as goal
 
 pub loop-init : goal.loop-init
 loop-init g t c =
+    let b = c.args.between.now in
     let ns = c.in-Some.rest.now in
     let n = c.in-Some.length.now in
     let xs = c.args.cells.now in
-    let before = string_bytes c.args.text.now in
+    let first = string_bytes c.args.text.now in
     record {
       utf8 = search rules;
-      text = ap (λ z. before ++ z) (joined-from_nothing (cells_text ns) (separator_text ns) (pieces (n - 0) (size ns) xs)) ∙ ap (λ m. before ++ join_by (cells_text ns) (separator_text ns) (pieces m (size ns) xs)) (none-made n);
+      text = ap (λ z. first ++ z) (joined-from_nothing (cells_text b ns) (separator_text b ns) (pieces (n - 0) (size ns) xs)) ∙ ap (λ m. first ++ join_by (cells_text b ns) (separator_text b ns) (pieces m (size ns) xs)) (none-made n);
       rest = ap (λ m. drop (m * size ns) xs) (none-made n);
     }
 
 pub loop-preserved : goal.loop-preserved
 loop-preserved g t c =
+    let b = c.args.between.now in
     let ns = c.in-Some.rest.now in
     let s = size ns in
     let n = c.in-Some.length.now in
@@ -28,34 +30,36 @@ loop-preserved g t c =
     let xs = c.loop.cells in
     let before = string_bytes c.push_str.new.self in
     let now = string_bytes c.push_cells.new.text in
-    let a : before ≡ string_bytes c.loop.text ++ c.loop.between.now = search rules in
-    let b : now ≡ before ++ cells_text ns (take s xs) = c.in_ok-push_cells.ensures.text in
+    let told : before ≡ string_bytes c.loop.text ++ c.loop.before.now = search rules in
+    let more : now ≡ before ++ cells_text b ns (take s xs) = c.in_ok-push_cells.ensures.text in
     let cells : c.push_cells.new.cells ≡ drop s xs = c.in_ok-push_cells.ensures.rest in
     record {
       utf8 = search rules;
-      text = ap (λ z. now ++ joined_after (cells_text ns) (separator_text ns) z (pieces (n - (k + 1)) s c.push_cells.new.cells)) c.separator-between.ensures
-          ∙ (ap (λ ys. now ++ joined_after (cells_text ns) (separator_text ns) (separator_text ns) (pieces (n - (k + 1)) s ys)) cells
-          ∙ (joined-more (cells_text ns) (separator_text ns) before now (string_bytes c.loop.text) c.loop.between.now (take s xs) (pieces (n - (k + 1)) s (drop s xs)) (pieces (n - k) s xs) (pieces-left n k s xs c.loop-test.true) a b
+      text = ap (λ z. now ++ joined_after (cells_text b ns) (separator_text b ns) z (pieces (n - (k + 1)) s c.push_cells.new.cells)) c.separator-before.ensures
+          ∙ (ap (λ ys. now ++ joined_after (cells_text b ns) (separator_text b ns) (separator_text b ns) (pieces (n - (k + 1)) s ys)) cells
+          ∙ (joined-more (cells_text b ns) (separator_text b ns) before now (string_bytes c.loop.text) c.loop.before.now (take s xs) (pieces (n - (k + 1)) s (drop s xs)) (pieces (n - k) s xs) (pieces-left n k s xs c.loop-test.true) told more
           ∙ c.loop.invariant.text));
       rest = ap (drop ((n - (k + 1)) * s)) cells ∙ (cells-left n k s xs c.loop-test.true ∙ c.loop.invariant.rest);
     }
 
 pub returns-clause-text : goal.returns-clause-text
 returns-clause-text g t c =
+    let b = c.args.between.now in
     let ns = c.in-Some.rest.now in
     let n = c.in-Some.length.now in
-    let f = cells_text ns in
+    let f = cells_text b ns in
     let ended = all-made n c.loop.counter c.loop-test.false in
     let lengths : c.args.lengths.now ≡ n ∷ ns = c.in-Some.ensures.cases.0 in
     let cells = c.args.cells.now in
     sym (append-nil (string_bytes c.loop.text))
-    ∙ (ap (λ m. string_bytes c.loop.text ++ joined_after f (separator_text ns) c.loop.between.now (pieces m (size ns) c.loop.cells)) (sym ended)
+    ∙ (ap (λ m. string_bytes c.loop.text ++ joined_after f (separator_text b ns) c.loop.before.now (pieces m (size ns) c.loop.cells)) (sym ended)
     ∙ (c.loop.invariant.text
-    ∙ (ap (λ z. string_bytes c.args.text.now ++ z) (sym (cells_text-first n ns cells))
-    ∙ ap (λ ms. string_bytes c.args.text.now ++ cells_text ms (take (size ms) cells)) (sym lengths))))
+    ∙ (ap (λ z. string_bytes c.args.text.now ++ z) (sym (cells_text-first b n ns cells))
+    ∙ ap (λ ms. string_bytes c.args.text.now ++ cells_text b ms (take (size ms) cells)) (sym lengths))))
 
 pub returns-clause-rest : goal.returns-clause-rest
 returns-clause-rest g t c =
+    let b = c.args.between.now in
     let ns = c.in-Some.rest.now in
     let n = c.in-Some.length.now in
     let lengths : c.args.lengths.now ≡ n ∷ ns = c.in-Some.ensures.cases.0 in

@@ -14,8 +14,8 @@ decreases-push_cells g l = length l.lengths.now
 -- the text so far, before that of the subarrays to come, and the cells to come
 abbrev pub invariant-loop : goal.invariant-loop
 invariant-loop g l = record {
-  utf8 : shadow (Utf8 l.between);
-  text : string_bytes l.text ++ joined_after (cells_text l.rest) (separator_text l.rest) l.between (pieces (l.end - l.counter) (size l.rest) l.cells)
-      ≡ string_bytes l.initial.text ++ join_by (cells_text l.rest) (separator_text l.rest) (pieces l.end (size l.rest) l.initial.cells);
+  utf8 : shadow (Utf8 l.before);
+  text : string_bytes l.text ++ joined_after (cells_text l.between l.rest) (separator_text l.between l.rest) l.before (pieces (l.end - l.counter) (size l.rest) l.cells)
+      ≡ string_bytes l.initial.text ++ join_by (cells_text l.between l.rest) (separator_text l.between l.rest) (pieces l.end (size l.rest) l.initial.cells);
   rest : drop ((l.end - l.counter) * size l.rest) l.cells ≡ drop (l.end * size l.rest) l.initial.cells;
 }

@@ -1,0 +1,10 @@
+-- The number of the digits so far.
+use Rattle.std.proofs.Common.{◌≡◌, take}
+use Rattle.std.specs.Str.Parse.{AllDigits, digits_value}
+use Rattle.ndtables.proofs.spelling.natural.Given as goal
+
+abbrev pub invariant-loop-byte : goal.invariant-loop-byte
+invariant-loop-byte l = record {
+  digits : AllDigits 10 (take l.byte-index l.digits);
+  value : l.number ≡ digits_value 10 (take l.byte-index l.digits);
+}
