@@ -45,10 +45,6 @@ pub use Rattle.ndarray.specs.Triangles.{column_minus_row, lower_triangle, upper_
 pub use Rattle.ndarray.specs.Views.{axis_inserted, axis_part, broadcast_to}
 pub use Rattle.ndarray.specs.WholeValues.{HasMagnitudesInRange}
 pub use Rattle.ndarray.specs.base.Ranks.{rank}
-pub use Rattle.ndarray.specs.declared.base.error.ErrorKind.{ErrorKind}
-pub use Rattle.ndarray.specs.declared.base.shape.Order.{Order}
-pub use Rattle.ndarray.specs.declared.base.shape.Order.TheVariants.{ColumnMajor, RowMajor}
-pub use Rattle.ndarray.specs.declared.stacking.error.StackError.TheVariants.{Memory, Shape}
 pub use Rattle.ndarray.proofs.algebra.Totals.{op_unit}
 pub use Rattle.ndarray.proofs.boxes.Orders.{length-row_order}
 pub use Rattle.ndarray.proofs.boxes.ProductShapes.{inner-matrices}

@@ -21,8 +21,7 @@ use ndarray::laws::{
     concat_adds, fold_orders, parts_join, ranges_pass, running_totals, triangles_transpose,
 };
 use ndarray::{
-    Array, ArrayBase, ArrayView, Axis, Data, Ix1, Ix2, Lengths, StackError,
-    concatenate, stack,
+    Array, ArrayBase, ArrayView, Axis, Data, Ix1, Ix2, Lengths, StackError, concatenate, stack,
 };
 use std::alloc::{AllocError, Global};
 

@@ -148,14 +148,14 @@ items-of_stack {A} axis k (g ∷ gs) h whole none here =
 
     stack_whole : IsGrid stack
     stack_whole = tabulate-whole (insert ns axis many) (stack_cell axis (g ∷ gs)) (λ is b.
-          let l = length-insert ns axis many le in
-          let room = get_or-insert_at ns axis many 0 le in
-          let below = InBox-get (insert ns axis many) is axis b (omega (arith, l, le)) in
-          let k : ℕ = get_or is axis 0 in
-          let lt : k < length (g ∷ gs) = omega (arith, below, room, count) in
-          let o = own k lt in
-          let (x, here) = cell-Some (get_or (g ∷ gs) k g) o.0 (remove is axis) (subst (λ ms. InBox ms (remove is axis)) (remove-inserted ns axis many le ∙ sym o.1) (InBox-removed (insert ns axis many) is axis (omega (arith, l, le)) b)) in
-          (x, ap (option_and_then (λ h. cell h (remove is axis))) (slice_get-get_or (g ∷ gs) k g lt) ∙ here))
+        let l = length-insert ns axis many le in
+        let room = get_or-insert_at ns axis many 0 le in
+        let below = InBox-get (insert ns axis many) is axis b (omega (arith, l, le)) in
+        let k : ℕ = get_or is axis 0 in
+        let lt : k < length (g ∷ gs) = omega (arith, below, room, count) in
+        let o = own k lt in
+        let (x, here) = cell-Some (get_or (g ∷ gs) k g) o.0 (remove is axis) (subst (λ ms. InBox ms (remove is axis)) (remove-inserted ns axis many le ∙ sym o.1) (InBox-removed (insert ns axis many) is axis (omega (arith, l, le)) b)) in
+        (x, ap (option_and_then (λ h. cell h (remove is axis))) (slice_get-get_or (g ∷ gs) k g lt) ∙ here))
 
     each : (k : ℕ) → k < length (g ∷ gs) → axis_item stack axis k ≡ get_or (g ∷ gs) k g
     each k below =
@@ -163,6 +163,6 @@ items-of_stack {A} axis k (g ∷ gs) h whole none here =
         let l : k < many = omega (arith, count, below) in
         sym (tabulate-is (get_or (g ∷ gs) k g) (remove stack.lengths axis) (λ js. cell stack (insert js axis k)) o.0 (o.1 ∙ sym (remove-inserted ns axis many le))
         (λ js b.
-            let b2 : InBox ns js = subst (λ ms. InBox ms js) o.1 b in
-            let long = InBox-length ns js b2 in
-            sym (tabulate-cell (insert ns axis many) (stack_cell axis (g ∷ gs)) (insert js axis k) stack_whole (there k js l b2) ∙ named js k below (omega (arith, long, le)))))
+        let b2 : InBox ns js = subst (λ ms. InBox ms js) o.1 b in
+        let long = InBox-length ns js b2 in
+        sym (tabulate-cell (insert ns axis many) (stack_cell axis (g ∷ gs)) (insert js axis k) stack_whole (there k js l b2) ∙ named js k below (omega (arith, long, le)))))

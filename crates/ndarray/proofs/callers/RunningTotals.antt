@@ -61,7 +61,6 @@ module _ {A B C : Type 0} (plus : CommutativeMonoid C) (value : A → C) (value_
         ∙ (plus.unit_op (total_by plus value (take (suc i) (lane g axis (remove is axis)).cells)) ∙ ap (λ n. total_by plus value (take n (lane g axis (remove is axis)).cells)) more));
   }
 
-
 -- An array of such totals, as the lemmas of scans make it.
 module _ {C : Type 0} (M : CommutativeMonoid C) (axis : ℕ) (g r : Grid C) where
   pub totals-made : r ≡ array_by g.lengths (λ is. total M (take (slice_index is axis + 1) (lane g axis (remove is axis)).cells)) → HasRunningTotals M (λ x. x) axis g r

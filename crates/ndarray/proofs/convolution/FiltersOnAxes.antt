@@ -130,13 +130,13 @@ module _ {C : Type 0} (plus times : CommutativeMonoid C)
       high : (i j : ℕ) → k ≤ i → term i j (i + j) ≡ plus.unit
       high i j ge = box-neutral full (λ ss. times.op (inner i j ss) (v ((i + j) ∷ ss))) (λ ss.
           ap (λ t. times.op t (v ((i + j) ∷ ss))) (box-neutral (map suc ss) (λ is. times.op (f (i ∷ is)) (h (j ∷ differences ss is))) (λ is.
-              ap (λ t. times.op t (h (j ∷ differences ss is))) (out (i ∷ is) (λ b. let lt = b.0 in omega (arith, lt, ge))) ∙ absorbs (h (j ∷ differences ss is))))
+          ap (λ t. times.op t (h (j ∷ differences ss is))) (out (i ∷ is) (λ b. let lt = b.0 in omega (arith, lt, ge))) ∙ absorbs (h (j ∷ differences ss is))))
           ∙ absorbs (v ((i + j) ∷ ss)))
 
       wide : (i j : ℕ) → l ≤ j → term i j (i + j) ≡ plus.unit
       wide i j ge = box-neutral full (λ ss. times.op (inner i j ss) (v ((i + j) ∷ ss))) (λ ss.
           ap (λ t. times.op t (v ((i + j) ∷ ss))) (box-neutral (map suc ss) (λ is. times.op (f (i ∷ is)) (h (j ∷ differences ss is))) (λ is.
-              ap (times.op (f (i ∷ is))) (also (j ∷ differences ss is) (λ b. let lt = b.0 in omega (arith, lt, ge))) ∙ (times.commutes (f (i ∷ is)) plus.unit ∙ absorbs (f (i ∷ is)))))
+          ap (times.op (f (i ∷ is))) (also (j ∷ differences ss is) (λ b. let lt = b.0 in omega (arith, lt, ge))) ∙ (times.commutes (f (i ∷ is)) plus.unit ∙ absorbs (f (i ∷ is)))))
           ∙ absorbs (v ((i + j) ∷ ss)))
 
       left-side : ((i j : ℕ) → box ks (λ is. box ls (λ js. times.op (times.op (f (i ∷ is)) (h (j ∷ js))) (v ((i + j) ∷ sums is js)))) ≡ term i j (i + j))
@@ -144,19 +144,19 @@ module _ {C : Type 0} (plus times : CommutativeMonoid C)
       left-side rest =
           box-cons plus (λ is. box (l ∷ ls) (λ js. times.op (times.op (f is) (h js)) (v (sums is js)))) k ks
           ∙ total-same plus _ (λ i. over plus (λ j. term i j (i + j)) 0 l) (range_with_len 0 k) (λ i.
-              box-same ks _ (λ is. over plus (λ j. box ls (λ js. times.op (times.op (f (i ∷ is)) (h (j ∷ js))) (v ((i + j) ∷ sums is js)))) 0 l)
-              (λ is. box-cons plus (λ js. times.op (times.op (f (i ∷ is)) (h js)) (v (sums (i ∷ is) js))) l ls)
-              ∙ (total-swap plus (λ is j. box ls (λ js. times.op (times.op (f (i ∷ is)) (h (j ∷ js))) (v ((i + j) ∷ sums is js)))) (row_order ks) (range_with_len 0 l)
-              ∙ total-same plus _ (λ j. term i j (i + j)) (range_with_len 0 l) (λ j. rest i j)))
+          box-same ks _ (λ is. over plus (λ j. box ls (λ js. times.op (times.op (f (i ∷ is)) (h (j ∷ js))) (v ((i + j) ∷ sums is js)))) 0 l)
+          (λ is. box-cons plus (λ js. times.op (times.op (f (i ∷ is)) (h js)) (v (sums (i ∷ is) js))) l ls)
+          ∙ (total-swap plus (λ is j. box ls (λ js. times.op (times.op (f (i ∷ is)) (h (j ∷ js))) (v ((i + j) ∷ sums is js)))) (row_order ks) (range_with_len 0 l)
+          ∙ total-same plus _ (λ j. term i j (i + j)) (range_with_len 0 l) (λ j. rest i j)))
 
       right-side : box (full_length k l ∷ full) (λ s. times.op (box (map suc s) (λ is. times.op (f is) (h (differences s is)))) (v s)) ≡ over plus (λ s. over plus (λ i. term i (s - i) s) 0 (suc s)) 0 (full_length k l)
       right-side =
           box-cons plus (λ s. times.op (box (map suc s) (λ is. times.op (f is) (h (differences s is)))) (v s)) (full_length k l) full
           ∙ total-same plus _ (λ s. over plus (λ i. term i (s - i) s) 0 (suc s)) (range_with_len 0 (full_length k l)) (λ s.
-              box-same full _ (λ ss. over plus (λ i. times.op (inner i (s - i) ss) (v (s ∷ ss))) 0 (suc s)) (λ ss.
-                  ap (λ t. times.op t (v (s ∷ ss))) (box-cons plus (λ is. times.op (f is) (h (differences (s ∷ ss) is))) (suc s) (map suc ss))
-                  ∙ multiplied (λ i. inner i (s - i) ss) (v (s ∷ ss)) (range_with_len 0 (suc s)))
-              ∙ total-swap plus (λ ss i. times.op (inner i (s - i) ss) (v (s ∷ ss))) (row_order full) (range_with_len 0 (suc s)))
+          box-same full _ (λ ss. over plus (λ i. times.op (inner i (s - i) ss) (v (s ∷ ss))) 0 (suc s)) (λ ss.
+          ap (λ t. times.op t (v (s ∷ ss))) (box-cons plus (λ is. times.op (f is) (h (differences (s ∷ ss) is))) (suc s) (map suc ss))
+          ∙ multiplied (λ i. inner i (s - i) ss) (v (s ∷ ss)) (range_with_len 0 (suc s)))
+          ∙ total-swap plus (λ ss i. times.op (inner i (s - i) ss) (v (s ∷ ss))) (row_order full) (range_with_len 0 (suc s)))
 
   -- ---- arrays of values
 
@@ -243,11 +243,11 @@ module _ {C : Type 0} (plus times : CommutativeMonoid C)
           filtered-sum plus times (λ x. x) middle l (array_by-whole (valid_counts a.lengths ks) (λ ps. total plus (valid_products times (λ x. x) a k ps))) whole_l (axes_l ∙ sym axes-middle) ps b
           ∙ (ap (total plus) (map-same (λ js. times.op (at l js) (at middle (place js))) (λ js. box ks (λ is. times.op (times.op (at k is) (at l js)) (seen ps (sums is js)))) (InBox ls) (row_order ls)
           (λ js inside.
-              ap (times.op (at l js)) (middle-at js inside)
-              ∙ (times.commutes (at l js) (box ks (λ is. times.op (at k is) (seen ps (sums is js))))
-              ∙ (multiplied (λ is. times.op (at k is) (seen ps (sums is js))) (at l js) (row_order ks)
-              ∙ box-same ks _ (λ is. times.op (times.op (at k is) (at l js)) (seen ps (sums is js)))
-              (λ is. times.commutes (times.op (at k is) (seen ps (sums is js))) (at l js) ∙ moved (at l js) (at k is) (seen ps (sums is js))))))
+          ap (times.op (at l js)) (middle-at js inside)
+          ∙ (times.commutes (at l js) (box ks (λ is. times.op (at k is) (seen ps (sums is js))))
+          ∙ (multiplied (λ is. times.op (at k is) (seen ps (sums is js))) (at l js) (row_order ks)
+          ∙ box-same ks _ (λ is. times.op (times.op (at k is) (at l js)) (seen ps (sums is js)))
+          (λ is. times.commutes (times.op (at k is) (seen ps (sums is js))) (at l js) ∙ moved (at l js) (at k is) (seen ps (sums is js))))))
           (row_order-is ls).within)
           ∙ (total-swap plus (λ js is. times.op (times.op (at k is) (at l js)) (seen ps (sums is js))) (row_order ls) (row_order ks)
           ∙ (box-by_sums ks ls (axes_l ∙ sym axes_k) some_k some_l (at k) (at l) (seen ps) (neutral-outside k) (neutral-outside l)

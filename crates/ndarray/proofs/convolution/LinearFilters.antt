@@ -55,8 +55,8 @@ module _ {A C : Type 0} (plus times : CommutativeMonoid C) (value : A → C) whe
   filtered-sum g kernel whole whole_kernel axes ps b =
       products-total plus times value g kernel whole whole_kernel axes ps b
       ∙ total-same plus _ _ (row_order kernel.lengths) (λ js.
-          ap (λ t. times.op t (value_or value plus.unit (cell g (meeting g kernel.lengths ps js)))) (same-value (cell kernel js))
-          ∙ ap (times.op (at kernel js)) (same-value (cell g (meeting g kernel.lengths ps js))))
+      ap (λ t. times.op t (value_or value plus.unit (cell g (meeting g kernel.lengths ps js)))) (same-value (cell kernel js))
+      ∙ ap (times.op (at kernel js)) (same-value (cell g (meeting g kernel.lengths ps js))))
 
   module _ (distributes : (x y z : C) → times.op x (plus.op y z) ≡ plus.op (times.op x y) (times.op x z)) (absorbs : (x : C) → times.op plus.unit x ≡ plus.unit) where
     pub filters-of_sums : FiltersOfSums plus times value
@@ -69,7 +69,7 @@ module _ {A C : Type 0} (plus times : CommutativeMonoid C) (value : A → C) whe
         filtered-sum r kernel adds.sums.whole whole (axes ∙ sym (ap length own)) ps (subst (λ ns. InBox (valid_counts ns ms) ps) (sym own) b)
         ∙ (ap (λ ns. total plus (map (λ js. times.op (at kernel js) (at r (window_index (single_steps ns) ps (mirrored ms js)))) (row_order ms))) own
         ∙ (total-same plus _ (λ js. plus.op (left js) (right js)) (row_order ms) (λ js.
-            ap (times.op (at kernel js)) (at-sum plus value g h r adds (meeting g ms ps js)) ∙ distributes (at kernel js) (at g (meeting g ms ps js)) (at h (meeting g ms ps js)))
+        ap (times.op (at kernel js)) (at-sum plus value g h r adds (meeting g ms ps js)) ∙ distributes (at kernel js) (at g (meeting g ms ps js)) (at h (meeting g ms ps js)))
         ∙ (total-plus plus left right (row_order ms)
         ∙ (ap (λ t. plus.op t (total plus (map right (row_order ms)))) (sym (filtered-sum g kernel adds.left whole axes ps b))
         ∙ ap (plus.op (total plus (valid_products times value g kernel ps)))
@@ -86,10 +86,10 @@ module _ {A C : Type 0} (plus times : CommutativeMonoid C) (value : A → C) whe
         filtered-sum g m whole adds.sums.whole (ap length own ∙ axes) ps (subst (λ ms. InBox (valid_counts g.lengths ms) ps) (sym own) b)
         ∙ (ap (λ ms. total plus (map (λ js. times.op (at m js) (at g (meeting g ms ps js))) (row_order ms))) own
         ∙ (total-same plus _ (λ js. plus.op (left js) (right js)) (row_order k.lengths) (λ js.
-            times.commutes (at m js) (seen js)
-            ∙ (ap (times.op (seen js)) (at-sum plus value k l m adds js)
-            ∙ (distributes (seen js) (at k js) (at l js)
-            ∙ (ap (λ t. plus.op t (times.op (seen js) (at l js))) (times.commutes (seen js) (at k js)) ∙ ap (plus.op (left js)) (times.commutes (seen js) (at l js))))))
+        times.commutes (at m js) (seen js)
+        ∙ (ap (times.op (seen js)) (at-sum plus value k l m adds js)
+        ∙ (distributes (seen js) (at k js) (at l js)
+        ∙ (ap (λ t. plus.op t (times.op (seen js) (at l js))) (times.commutes (seen js) (at k js)) ∙ ap (plus.op (left js)) (times.commutes (seen js) (at l js))))))
         ∙ (total-plus plus left right (row_order k.lengths)
         ∙ (ap (λ t. plus.op t (total plus (map right (row_order k.lengths)))) (sym (filtered-sum g k whole adds.left axes ps b))
         ∙ ap (plus.op (total plus (valid_products times value g k ps)))
@@ -104,7 +104,7 @@ module _ {A C : Type 0} (plus times : CommutativeMonoid C) (value : A → C) whe
         filtered-sum r kernel by.products.whole whole (axes ∙ sym (ap length own)) ps (subst (λ ns. InBox (valid_counts ns ms) ps) (sym own) b)
         ∙ (ap (λ ns. total plus (map (λ js. times.op (at kernel js) (at r (window_index (single_steps ns) ps (mirrored ms js)))) (row_order ms))) own
         ∙ (total-same plus _ (λ js. times.op (one js) factor) (row_order ms) (λ js.
-            ap (times.op (at kernel js)) (at-product plus value times distributes absorbs factor g r by (meeting g ms ps js)) ∙ sym (times.associates (at kernel js) (at g (meeting g ms ps js)) factor))
+        ap (times.op (at kernel js)) (at-product plus value times distributes absorbs factor g r by (meeting g ms ps js)) ∙ sym (times.associates (at kernel js) (at g (meeting g ms ps js)) factor))
         ∙ (total-multiplied plus value times distributes absorbs factor one (row_order ms)
         ∙ ap (λ t. times.op t factor) (sym (filtered-sum g kernel by.whole whole axes ps b)))))
 
@@ -116,8 +116,8 @@ module _ {A C : Type 0} (plus times : CommutativeMonoid C) (value : A → C) whe
         filtered-sum g m whole by.products.whole (ap length own ∙ axes) ps (subst (λ ms. InBox (valid_counts g.lengths ms) ps) (sym own) b)
         ∙ (ap (λ ms. total plus (map (λ js. times.op (at m js) (at g (meeting g ms ps js))) (row_order ms))) own
         ∙ (total-same plus _ (λ js. times.op (one js) factor) (row_order k.lengths) (λ js.
-            ap (λ t. times.op t (seen js)) (at-product plus value times distributes absorbs factor k m by js)
-            ∙ (times.associates (at k js) factor (seen js) ∙ (ap (times.op (at k js)) (times.commutes factor (seen js)) ∙ sym (times.associates (at k js) (seen js) factor))))
+        ap (λ t. times.op t (seen js)) (at-product plus value times distributes absorbs factor k m by js)
+        ∙ (times.associates (at k js) factor (seen js) ∙ (ap (times.op (at k js)) (times.commutes factor (seen js)) ∙ sym (times.associates (at k js) (seen js) factor))))
         ∙ (total-multiplied plus value times distributes absorbs factor one (row_order k.lengths)
         ∙ ap (λ t. times.op t factor) (sym (filtered-sum g k whole by.whole axes ps b)))))
 
