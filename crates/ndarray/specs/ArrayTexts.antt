@@ -1,5 +1,5 @@
 -- The text of an array.
-use Rattle.std.specs.Prelude.{codes, ℕ, zero, suc, ◌+◌, ◌%◌, ◌==◌, if◌then◌else◌, List, [], ◌∷◌, ◌++◌, length, replicate, take, drop, Option, Some, None}
+use Rattle.std.specs.Prelude.{codes, ℕ, zero, suc, ◌+◌, ◌==◌, if◌then◌else◌, List, [], ◌∷◌, ◌++◌, length, replicate, take, drop, Option, Some}
 use Rattle.std.specs.Fmt.{◌++?◌, debug_list, decimal}
 use Rattle.ndarray.specs.Index.{size}
 

@@ -1,5 +1,5 @@
 -- Ranges of products of three and of four arrays of whole numbers.
-use Rattle.std.specs.Prelude.{◌≢◌, ℕ, ℤ, ◌*◌, List, [], ◌∷◌, slice_index}
+use Rattle.std.specs.Prelude.{◌≢◌, ℤ, ◌*◌, [], ◌∷◌, slice_index}
 use Rattle.ndarray.specs.Grid.{Grid}
 use Rattle.ndarray.specs.Index.{size}
 use Rattle.ndarray.specs.Products.{HasProductsInRange, column_of, matrix_of, product_of}

@@ -1,13 +1,18 @@
 -- Arrays of what a function gives at each cell, and whether two arrays are the same by a test of their elements.
-use Rattle.std.specs.Prelude.{◌≡◌, ℕ, Bool, ◌&&◌, List, [], ◌∷◌, map, nat_eq, Some}
+use Rattle.std.specs.Prelude.{◌≡◌, ℕ, Bool, ◌&&◌, List, [], ◌∷◌, map, nat_eq, remove, Some}
 use Rattle.std.specs.Cmp.Lexicographic.{pointwise}
 use Rattle.std.specs.Fn.{Shared}
 use denote.Ref.{Bor, MutBor}
-use Rattle.ndarray.specs.Grid.{Grid, IsGrid, cell, grid}
+use Rattle.ndarray.specs.Grid.{Grid, IsGrid, array_by, cell, grid}
+use Rattle.ndarray.specs.Subviews.{lane}
 
 -- h of each cell
 abbrev pub mapped : {A B : Type 0} → (A → B) → Grid A → Grid B
 mapped h g = grid g.lengths (map h g.cells)
+
+-- h of each lane along an axis: an array without that axis
+abbrev pub lanes_mapped : {A B : Type 0} → (Grid A → B) → Grid A → ℕ → Grid B
+lanes_mapped h g axis = array_by (remove g.lengths axis) (λ js. h (lane g axis js))
 
 -- h of the elements of two lists, side by side
 abbrev pub map_two : {A B C : Type 0} → (A → B → C) → List A → List B → List C

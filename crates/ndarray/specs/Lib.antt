@@ -26,6 +26,7 @@ pub mod FoldWhiles
 pub mod Grid
 pub mod Index
 pub mod IndexedUpdates
+pub mod Indexing
 pub mod IntegerProducts
 pub mod Integers
 pub mod Joining

@@ -1,6 +1,6 @@
-//! Convolutions: of an array with a kernel, where the kernel lies within the array, and of two vectors in full.
+//! Convolutions: the valid one of an array with a kernel, and the full one of two vectors.
 //!
-//! A convolution is defined on the values of the cells (`specs/Convolution.antt`), and each call requires that at each place every
+//! A convolution is defined on the values of the cells (`specs/Convolution.antt`), and each call requires that in each of its sums every
 //! selection of the products has its sum in range, so that no order of adding leaves the range.
 
 ghost use Rattle.std.specs.Prelude.{ℕ, List, ◌≡◌, ◌+◌, ◌*◌, ◌^◌, ◌<◌, ◌≤◌, ◌++◌, IfOk, IsTrue, ◌↔◌, drop, length, pos, replicate, reverse};
@@ -32,13 +32,13 @@ use crate::{
 };
 use std::alloc::{AllocError, Global};
 
-/// The valid convolution of an array with a kernel of as many axes: at each position at which the kernel lies within the array, the
-/// sum of the products of the cells there with the kernel's cells, which are taken from the other end on each axis. On an axis
-/// of length n and a kernel's length m there are n - m + 1 positions, and none where m is greater than n.
+/// The valid convolution of an array with a kernel of as many axes: at each position at which the kernel lies within the array, the sum of
+/// the products of the cells there with those of the mirrored kernel, whose cells are reversed on each axis. On an axis of length n on
+/// which the kernel has length m there are n - m + 1 positions, and none if m is greater than n.
 ///
-/// Requires as many axes on both sides and kernel lengths of at least 1; check with [`conv_valid_ok`]. Requires too that at each position
-/// every selection of the products has its sum in range, for which [`valid_fits`] is enough. The error is allocation failure; where
-/// the result has no cells there is none. Nothing but the result is allocated.
+/// Requires equal numbers of axes and kernel lengths of at least 1; check with [`conv_valid_ok`]. Requires too that at each position every
+/// selection of the products has its sum in range, for which [`valid_fits`] is enough. The error is an allocation failure, and is never
+/// reported if the result has no cells. Nothing but the result is allocated.
 ///
 /// ```
 /// // a = [[1, 2, 3], [4, 5, 6], [7, 8, 9]], k = [[1, 0], [0, 2]]
@@ -56,7 +56,7 @@ pub fn conv_valid<A: LinalgScalar, S: Data<Elem = A>, S2: Data<Elem = A>, D: Dim
     over_windows(alloc, &a.view(), &mirrored_view(&k.view()))
 }
 
-/// Whether two arrays have a valid convolution: as many axes on both sides, and kernel lengths of at least 1.
+/// Whether two arrays have a valid convolution: they have equal numbers of axes, and each kernel length is at least 1.
 ///
 /// ```
 /// let a = ArrayView::from_shape((3, 3), &[1, 2, 3, 4, 5, 6, 7, 8, 9])?;
@@ -74,10 +74,10 @@ pub fn conv_valid_ok<S: Data, S2: Data, D: Dimension>(
 }
 
 /// Whether at each position of the valid convolution of two arrays of integers the absolute values of the products add up to at most
-/// the type's greatest number. Then [`conv_valid`] may be asked for.
+/// the type's greatest number. Then [`conv_valid`] may be called.
 ///
-/// Requires shapes that have a valid convolution; check with [`conv_valid_ok`]. The test allocates nothing. It may say no where the
-/// convolution could be taken, as where large products of both signs are added.
+/// Requires that the two have a valid convolution; check with [`conv_valid_ok`]. The test allocates nothing. It may return `false` although
+/// the convolution may be computed, as for large products of both signs.
 ///
 /// ```
 /// if conv_valid_ok(&a, &k) && valid_fits(&a, &k) {
@@ -108,8 +108,8 @@ fn mirrored_view<'a, A, D: Lengths>(array: &'a ArrayView<'_, A, D>) -> ArrayView
     mirrored
 }
 
-/// At each position of a window of the lengths of an array on another, the sum of the products of the window's cells with that array's.
-/// Where the other array's cells lie by columns, so do those of the result.
+/// At each position of a window with the lengths of one array on the other, the sum of the products of the window's cells with that
+/// array's. If the other array is read faster in column order, the result is column-major.
 fn over_windows<A: LinalgScalar, D: Dimension>(
     alloc: Global,
     a: &ArrayView<'_, A, D>,
@@ -126,7 +126,7 @@ fn over_windows<A: LinalgScalar, D: Dimension>(
     }
 }
 
-/// The same of both arrays with their axes reversed, and reversed back.
+/// The sums over windows, computed on the transposes of both arrays and transposed back.
 fn over_columns<A: LinalgScalar, D: Dimension>(
     alloc: Global,
     a: ArrayView<'_, A, D>,
@@ -142,7 +142,8 @@ fn over_columns<A: LinalgScalar, D: Dimension>(
     Ok(sums.reversed_axes())
 }
 
-/// The same by rows of the result where these are no shorter than the kernel's and of eight cells or more, else window by window.
+/// The sums over windows: row by row of the result if its rows are no shorter than the kernel's and have at least eight cells, else window
+/// by window.
 fn over_rows<A: LinalgScalar, D: Dimension>(
     alloc: Global,
     a: &ArrayView<'_, A, D>,
@@ -217,8 +218,8 @@ fn windows_fit<A: IntegerElem, D: Dimension>(
     all_in_either_order(windows, WindowTest(mirrored.view()))
 }
 
-/// Whether the absolute values of the products of a window's cells with those of an array of its lengths add up to at most the type's greatest
-/// number, as a call.
+/// Whether the absolute values of the products of a window's cells with those of an array of its lengths add up to at most the type's
+/// greatest number, as a call.
 #[derive(Drop)]
 struct WindowTest<'k, A, D: Lengths>(ArrayView<'k, A, D>);
 
@@ -234,13 +235,13 @@ impl<'a, 'k, A: IntegerElem, D: Lengths> ItemCall<ArrayView<'a, A, D>> for Windo
     }
 }
 
-/// The full convolution of two vectors: at s the sum of the products of `x[i]` and `y[j]` over all i and j with i + j = s. Of lengths n
-/// and m it has length n + m - 1, and length 0 where one of them has no cells.
+/// The full convolution of two vectors: at s, the sum of the products `x[i] * y[j]` over all i and j with i + j = s. If the vectors have
+/// the lengths n and m, it has length n + m - 1, or length 0 if one of them has no cells.
 ///
-/// Requires, where both have cells, that n + 2m - 2 is at most `isize::MAX`; check with [`conv_full_ok`]. Requires too that at each s every
-/// selection of the products has its sum in range, for which [`full_fits`] is enough. The error is allocation failure; where one of
-/// them has no cells there is none. Besides the result, a copy of the longer vector between zeros is allocated, on each side one fewer than
-/// the other has cells.
+/// Requires, if both have cells, that n + 2m - 2 is at most `isize::MAX`; check with [`conv_full_ok`]. Requires too that at each s every
+/// selection of the products has its sum in range, for which [`full_fits`] is enough. The error is an allocation failure, and is never
+/// reported if one of them has no cells. Besides the result, a copy of the longer vector is allocated, with zeros on each side: one fewer
+/// than the other vector has cells.
 ///
 /// ```
 /// // x = [1, 2, 3], y = [1, 1]
@@ -264,7 +265,8 @@ pub fn conv_full<A: LinalgScalar, S: Data<Elem = A>, S2: Data<Elem = A>>(
     }
 }
 
-/// The same of two vectors of which the first is mostly the longer one: each of its cells between zeros is multiplied with each of the second.
+/// The same for two vectors of which the first is mostly the longer one: the valid convolution of the first, between zeros, with the
+/// second.
 fn convolution_of_longer<A: LinalgScalar>(
     alloc: Global,
     x: &ArrayView<'_, A, Ix1>,
@@ -283,7 +285,8 @@ fn convolution_of_longer<A: LinalgScalar>(
     conv_valid(alloc, &padded, y)
 }
 
-/// Whether two vectors have a full convolution: where both have cells, of lengths n and m, n + 2m - 2 is at most `isize::MAX`.
+/// Whether the full convolution of two vectors of lengths n and m may be computed: n + 2m - 2 is at most `isize::MAX`, or one of them has
+/// no cells.
 ///
 /// ```
 /// if conv_full_ok(&x, &y) && full_fits(&x, &y) {
@@ -298,11 +301,11 @@ pub fn conv_full_ok<S: Data, S2: Data>(x: &ArrayBase<S, Ix1>, y: &ArrayBase<S2, 
     n == 0 || m == 0 || 2 * (m - 1) <= isize::MAX as usize - n
 }
 
-/// Whether at each s of the full convolution of two vectors of integers the absolute values of the products add up to at most the
-/// type's greatest number. Then [`conv_full`] may be asked for, where [`conv_full_ok`] says yes too.
+/// Whether at each s of the full convolution of two vectors of integers the absolute values of the products add up to at most the type's
+/// greatest number. Then [`conv_full`] may be called if [`conv_full_ok`] is true too.
 ///
-/// Requires nothing, and the test allocates nothing. It may say no where the convolution could be taken, as where large products of both
-/// signs are added. Where one of the vectors has no cells it says yes.
+/// Requires nothing, and the test allocates nothing. It may return `false` although the convolution may be computed, as for large products
+/// of both signs. If one of the vectors has no cells, it returns `true`.
 ///
 /// ```
 /// if conv_full_ok(&x, &y) && full_fits(&x, &y) {
@@ -319,7 +322,7 @@ pub fn full_fits<A: IntegerScalar, S: Data<Elem = A>, S2: Data<Elem = A>>(
     overlaps_fit(&x.view(), &mirrored_view(&y.view()))
 }
 
-/// The same of views, the second seen from its other end, for [`full_fits`].
+/// The test of [`full_fits`] for views, the second of which is mirrored.
 fn overlaps_fit<A: IntegerElem>(x: &ArrayView<'_, A, Ix1>, mirrored: &ArrayView<'_, A, Ix1>) -> bool
     ensures magnitudes { IsTrue result ↔ HasFullMagnitudesInRange A.value A.fits x.now.cells (reverse mirrored.now.cells) }
     ensures selections { IsTrue result → HasFullSelectionsInRange A.value A.fits x.now.cells (reverse mirrored.now.cells) }
@@ -340,7 +343,8 @@ fn overlaps_fit<A: IntegerElem>(x: &ArrayView<'_, A, Ix1>, mirrored: &ArrayView<
     true
 }
 
-/// The same at one s. There the cells of each vector from the first on that meets a cell of the other are multiplied, place by place.
+/// The same test at one s: the cells of the two vectors are multiplied in pairs, each vector from its first cell on that meets a cell of
+/// the other.
 fn overlap_fits<A: IntegerElem>(
     x: &ArrayView<'_, A, Ix1>,
     mirrored: &ArrayView<'_, A, Ix1>,

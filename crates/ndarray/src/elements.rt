@@ -1,4 +1,4 @@
-//! Elements that have values, and that add and multiply as their values do.
+//! Types of elements that have values, and that add and multiply as their values do.
 
 ghost use Rattle.std.specs.Prelude.{◌≡◌, ◌↔◌, IsTrue};
 ghost use Rattle.ndarray.specs.Algebra.{CommutativeMonoid};
@@ -13,10 +13,10 @@ pub use crate::elements::whole_values::IntegerScalar;
 use num_traits::{One, Zero};
 use std::ops::{Add, Div, Mul, Sub};
 
-/// An element that may be next to an array as a scalar: `&array + scalar`. For `bool` and the integer types.
+/// A type whose values may be scalars on the right of an operator with an array, as in `&array + scalar`: `bool` and the integer types.
 pub trait ScalarOperand: 'static + Clone {}
 
-/// An element that has a value.
+/// An element type whose elements have values. Those of the integer types are whole numbers.
 pub trait Valued: Copy {
     // The values.
     ghost Carrier: { Type 0 };
@@ -32,7 +32,7 @@ pub trait Valued: Copy {
     // Whether a value is in range, as for an integer type each from its least to its greatest.
     ghost InRange: { Carrier → Type 0 };
 
-    /// Proves that the value of an element is in range.
+    /// Proves that the value of the element is in range. The call does nothing.
     fn tell_range(self)
         ensures { InRange (meaning self) };
 
@@ -40,8 +40,8 @@ pub trait Valued: Copy {
     ghost same_meaning: { (a b : Self) → meaning a ≡ meaning b → a ≡ b };
 }
 
-/// An element that adds as its value does: where the sum of two values is in range, `+` is defined
-/// and returns the element of that value.
+/// An element type that adds as the values do: if the sum of two values is in range, `+` is defined and returns the element with that
+/// value.
 pub trait SumElem: Valued + Zero + Add<Self, Output = Self> {
     // The element `zero` has the value zero, and `is_zero` tells the elements of that value.
     ghost zero_meaning: { Self.meaning Self.zero ≡ Self.addition.unit };
@@ -64,8 +64,8 @@ pub trait SumElem: Valued + Zero + Add<Self, Output = Self> {
         → Self.meaning r ≡ Self.addition.op (Self.meaning a) (Self.meaning b) };
 }
 
-/// An element that multiplies as its value does: where the product of two values is in range, `*` is
-/// defined and returns the element of that value.
+/// An element type that multiplies as the values do: if the product of two values is in range, `*` is defined and returns the element with
+/// that value.
 pub trait ProductElem: Valued + One + Mul<Self, Output = Self> {
     // The element `one` has the value one, and `is_one` tells the elements of that value.
     ghost one_meaning: { Self.meaning Self.one ≡ Self.multiplication.unit };
@@ -88,8 +88,8 @@ pub trait ProductElem: Valued + One + Mul<Self, Output = Self> {
         → Self.meaning r ≡ Self.multiplication.op (Self.meaning a) (Self.meaning b) };
 }
 
-/// An element whose values add up and multiply: multiplication distributes over addition, and zero absorbs. Of `-` and
-/// `/` nothing is asked.
+/// An element type for matrix products: it adds and multiplies as the values do, multiplication of values distributes over addition, and
+/// zero times a value is zero. Nothing is required of `-` and `/`.
 pub trait LinalgScalar: 'static
     + SumElem
     + ProductElem

@@ -1,4 +1,4 @@
-//! Arrays of their own from arrays and views of any kind.
+//! Owned arrays made of arrays and views of any storage.
 
 ghost use Rattle.std.specs.Prelude.{◌≡◌, ◌⊎◌, IfOk, IsOk, length, ⊤};
 ghost use Rattle.std.specs.List.{AllZip};
@@ -15,13 +15,13 @@ use crate::zip::collecting::try_collect_items;
 use std::alloc::{AllocError, Global};
 
 impl<A: Clone, S: Data<Elem = A>, D: Lengths> ArrayBase<S, D> {
-    /// An array of the same lengths whose cells are clones of this one's.
+    /// An owned array with the same lengths, whose cells are clones of this one's.
     ///
-    /// The error is allocation failure, for the array or for a clone.
+    /// The error is an allocation failure, for the array or for a clone, and is never reported if there are no cells.
     ///
     /// ```
     /// let a = ArrayView::from_shape((2, 3), &[1, 2, 3, 4, 5, 6])?;
-    /// a.t().to_owned(alloc)?; // an array of its own, [[1, 4], [2, 5], [3, 6]]
+    /// a.t().to_owned(alloc)?; // an owned array, [[1, 4], [2, 5], [3, 6]]
     /// ```
     pub fn to_owned(&self, alloc: Global) -> Result<Array<A, D>, AllocError>
         ensures lengths { IfOk result (λ a. a.lengths ≡ self.now.lengths) }
@@ -34,11 +34,11 @@ impl<A: Clone, S: Data<Elem = A>, D: Lengths> ArrayBase<S, D> {
         clone_of(alloc, &self.view())
     }
 
-    /// An array of the same lengths and cells: this one, where it owns its cells, else one with clones of
-    /// them. Of a `CowArray` that owns them, which a contract does not see, it is not promised that it is
-    /// this one.
+    /// An owned array with the same lengths and cells: this one if it owns its cells, else one with clones of them. Contracts do not see
+    /// whether a `CowArray` owns its cells, so for one the contract says only that the cells are the same or clones.
     ///
-    /// The error is allocation failure, for the array or for a clone; this array is then gone.
+    /// The error is an allocation failure, for the array or for a clone, and is never reported if the array is an `Array` or has no cells.
+    /// It drops this array.
     ///
     /// ```
     /// let a = ArrayView::from_shape((2, 3), &[1, 2, 3, 4, 5, 6])?;
@@ -72,7 +72,7 @@ fn clone_of<A: Clone, D: Lengths>(
     try_collect_items(alloc, array.view(), order_in_memory(array), Clones)
 }
 
-/// The order in which a view's cells lie side by side, and row order where they do not.
+/// The order in which a view's cells lie side by side, and row order if they do not.
 fn order_in_memory<A, D: Lengths>(array: &ArrayView<'_, A, D>) -> Order {
     let order = array.fast_order();
     match array.slice_in(order) {

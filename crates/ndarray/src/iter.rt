@@ -1,4 +1,4 @@
-//! Iterators over the cells of an array, in row order, and the names of those over its subviews.
+//! Iterators over the cells of an array, in row order. The iterators over its subviews are exported here too.
 
 ghost use Rattle.std.specs.Prelude.{◌≡◌, ◌<◌, ◌^◌, length};
 ghost use Rattle.ndarray.specs.Orders.{HasInOrder};

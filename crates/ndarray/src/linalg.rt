@@ -1,8 +1,8 @@
 //! Products of vectors and matrices.
 //!
-//! A product is defined on the values of the cells (`specs/Matrices.antt`): at row i and column j, the sum of the products
-//! of row i of the left matrix with column j of the right one. Each call requires that every selection of the products of an
-//! inner sum has its sum in range, so that no order of adding leaves the range.
+//! A product is defined on the values of the cells (`specs/Matrices.antt`): its value at row i and column j is the sum of the products of
+//! the cells of row i of the left matrix with those of column j of the right one, an inner sum. Each call requires that every selection of
+//! the products of an inner sum has its sum in range, so that no order of adding leaves the range.
 
 mod chain_range_tests;
 mod chains;

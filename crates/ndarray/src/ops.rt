@@ -1,9 +1,9 @@
 //! Operations on arrays, cell by cell.
 //!
-//! `+ - * / % & | ^ << >>` between arrays whose shapes are broadcast together, and between an array and a scalar: of each
-//! pair of cells, the operation of the elements. They allocate the array that they return from the allocator of an
-//! operand that is an `Array`, or write it into the cells of one that they own, and return `Err` where an allocation
-//! fails. The assigning forms, as `+=`, allocate nothing. What they require, the head of the crate says.
+//! `+ - * / % & | ^ << >>` between arrays whose shapes are broadcast together, and between an array and a scalar, compute the elements'
+//! operation on each pair of cells. They write the result into the cells of an operand that they own, or allocate it by the allocator of an
+//! operand that is an `Array`, and return `Err` if an allocation fails. The assigning forms, as `+=`, allocate nothing. The head of the
+//! crate says what they require.
 
 ghost use Rattle.std.specs.Prelude.{◌≡◌, ◌↔◌, IsTrue, MatchOption};
 ghost use Rattle.ndarray.specs.Broadcast.{BroadcastTogether, broadcast_lengths};
@@ -35,9 +35,8 @@ use crate::base::storage::Data;
 pub use crate::ops::left_scalars::scalar_left;
 
 impl<S: Data, D: Lengths> ArrayBase<S, D> {
-    /// Whether the shapes of this array and another broadcast together, as the operators require: aligned at the last
-    /// axes, each two lengths that meet are equal, or one is 1, and the lengths of the result that are not 0 multiply to
-    /// at most `isize::MAX`.
+    /// Whether the shapes of this array and another broadcast together, as the operators require: aligned at the last axes, each two
+    /// lengths that meet are equal or one of them is 1, and the nonzero lengths of the result multiply to at most `isize::MAX`.
     ///
     /// ```
     /// if a.broadcast_ok(&b) {
@@ -52,8 +51,8 @@ impl<S: Data, D: Lengths> ArrayBase<S, D> {
         self.broadcast_dim(rhs).is_some()
     }
 
-    /// The lengths of this array and another broadcast together, which are those of what the operators return. `None`
-    /// exactly where `broadcast_ok` says no.
+    /// The lengths of this array and another broadcast together, which are those of the operators' results; `None` exactly if
+    /// `broadcast_ok` returns `false`.
     ///
     /// ```
     /// // tests each pair of cells before the sums are computed

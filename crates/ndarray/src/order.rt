@@ -1,4 +1,4 @@
-//! The two orders of a box, and the walk over its index lists.
+//! The two orders of a box, and the iterator over its index lists.
 
 ghost use Rattle.std.specs.Prelude.{◌≡◌, List, ℕ, ◌+◌, ◌<◌, ◌≤◌, ◌^◌, length, take, drop, ⊤, ◌↔◌, Contains, IfSome, IsPermutation, IsTrue, MatchOption, []};
 ghost use Rattle.std.specs.Iterator.{YieldsFirstBy, YieldsLastBy, UpTo, item_count};
@@ -19,9 +19,9 @@ use std::alloc::AllocError;
 use std::iter::ExactSizeIterator;
 use std::marker::Model;
 
-/// The index lists of a box that are still to come, in one of the two orders.
+/// The iterator over the index lists of a box, in row order or in column order. A contract sees it as the list of those still to come.
 ///
-/// A walk allocates nothing, and neither does any of its steps.
+/// Neither making it nor any of its steps allocates.
 #[derive(Drop)]
 pub struct Walk<D: Lengths> {
     dim: D,
@@ -42,8 +42,8 @@ impl<D: Lengths> Model for Walk<D> {
     ghost invariant = { λ w. WalksFrom w.order (D.numbers w.dim) (D.numbers w.index) w.left };
 }
 
-/// How many index lists make a row, of those that are left on an axis. Where the axis is short it is one, since
-/// then a step of the walk costs less than a new row.
+/// How many of the index lists that are left on an axis are taken as a row. On a short axis it is one, since a step of the walk then costs
+/// less than a new row.
 #[inline(always)]
 fn row_len(left: usize, len: usize) -> usize
     requires { 0 < left }
@@ -78,13 +78,11 @@ fn advance<D: Lengths>(order: Order, dim: &D, index: &mut D)
 }
 
 impl<D: Lengths> Walk<D> {
-    /// The whole box of the lengths, in the order.
+    /// An iterator over the index lists of the box of the lengths, in the order.
     ///
-    /// Requires that the lengths that are not 0 multiply to at most `isize::MAX`; check with
-    /// `size_ok` of the dimension.
+    /// Requires that the nonzero lengths multiply to at most `isize::MAX`; check with `size_ok` of the dimension.
     ///
-    /// There is one list alone that is the box in the order. In either order it is a rearrangement
-    /// of the box in row order.
+    /// Only one list is the box in the order. Column order is a rearrangement of row order.
     ///
     /// ```
     /// for index in Walk::new(Ix2(2, 2), Order::RowMajor) { .. } // (0, 0), (0, 1), (1, 0), (1, 1)
@@ -118,7 +116,7 @@ impl<D: Lengths> Walk<D> {
         self.left
     }
 
-    /// The same, which the limit on shapes bounds.
+    /// How many index lists are still to come, which the limit on shapes bounds.
     pub(crate) fn bounded_len(&self) -> usize
         ensures value { result ≡ length self.now }
         ensures fits { result < 2 ^ 63 }
@@ -168,7 +166,7 @@ impl<D: Lengths> Walk<D> {
         }
     }
 
-    /// The same once more.
+    /// A copy of it.
     pub(crate) fn again(&self) -> Self
         ensures { result ≡ self.now }
     {

@@ -22,14 +22,13 @@ pub use crate::stacking::error::StackError;
 use crate::stacking::shapes::{concatenated_shape, stacked_shape};
 use std::alloc::{AllocError, Global};
 
-/// The array of clones of the cells of several arrays, one after another along an axis. It has the lengths of the first, but
-/// along that axis the sum of all.
+/// The array of clones of the cells of several arrays, one array after another along an axis. It has the lengths of the first, but along
+/// that axis the sum of the lengths of all.
 ///
-/// The error is, as the first that holds: `Unsupported` without arrays; `OutOfBounds` for an axis that the first array
-/// does not have; `IncompatibleShape` where an array has another number of axes than the first one, or another length
-/// on an axis that is not the joined one; `Overflow` where the nonzero lengths of the result multiply to more than
-/// `isize::MAX`. Where none of these holds it is allocation failure, for the array or for a clone. Requires that a
-/// clone that is made equals its source.
+/// The error is the first of these that applies: `Unsupported` if there are no arrays; `OutOfBounds` if the first array does not have the
+/// axis; `IncompatibleShape` if an array has another number of axes than the first one, or another length on an axis other than the joined
+/// one; `Overflow` if the nonzero lengths of the result multiply to more than `isize::MAX`. If none applies, the error is an allocation
+/// failure, for the array or for a clone, and is never reported if the result has no cells. Requires that each clone equals its source.
 ///
 /// ```
 /// let a = ArrayView::from_shape((2, 2), &[1, 2, 3, 4])?;
@@ -54,13 +53,13 @@ pub fn concatenate<A: Clone, D: RemoveAxis>(
     Ok(joined)
 }
 
-/// The array of clones of the cells of several arrays along a new axis, whose index names the array. It has the lengths of
-/// one, with the number of arrays put in at that axis.
+/// The array of clones of the cells of several arrays, stacked along a new axis: item i along it is array i. It has the lengths of one
+/// array, with the number of arrays put in at that axis.
 ///
-/// The error is, as the first that holds: `Unsupported` without arrays; `OutOfBounds` for an axis above the number of
-/// axes of the first array; `IncompatibleShape` where shapes are unequal; `RangeLimited` where the result would have more
-/// than 32 axes; `Overflow` where its nonzero lengths multiply to more than `isize::MAX`. Where none of these holds it is
-/// allocation failure, for the array or for a clone. Requires that a clone that is made equals its source.
+/// The error is the first of these that applies: `Unsupported` if there are no arrays; `OutOfBounds` if the axis is above the number of
+/// axes of the first array; `IncompatibleShape` if shapes are unequal; `RangeLimited` if the result would have more than 32 axes;
+/// `Overflow` if its nonzero lengths multiply to more than `isize::MAX`. If none applies, the error is an allocation failure, for the array
+/// or for a clone, and is never reported if the result has no cells. Requires that each clone equals its source.
 ///
 /// ```
 /// let a = ArrayView::from_shape(2, &[1, 2])?;

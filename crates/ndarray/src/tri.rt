@@ -20,11 +20,11 @@ use num_traits::Zero;
 use std::alloc::{AllocError, Global};
 
 impl<A: Clone + Zero, S: Data<Elem = A>, D: Lengths> ArrayBase<S, D> {
-    /// The cells on and above a diagonal of the last two axes: clones of those whose column less their row is at least
-    /// `k`, and zero elsewhere. It has the lengths of this array. With fewer than two axes all cells are kept.
+    /// The upper triangle of the last two axes: an array of the same lengths, with clones of the cells whose column minus row is at least
+    /// `k`, and zero elsewhere. With fewer than two axes all cells are kept.
     ///
-    /// The error is allocation failure, for the array or for a clone. Requires that a clone that is made equals its
-    /// source.
+    /// Requires that each clone equals its source. The error is an allocation failure, for the array or for a clone, and is never reported
+    /// if there are no cells.
     ///
     /// ```
     /// let view = ArrayView::from_shape((2, 3), &[1, 2, 3, 4, 5, 6])?;
@@ -42,11 +42,11 @@ impl<A: Clone + Zero, S: Data<Elem = A>, D: Lengths> ArrayBase<S, D> {
         diagonals(alloc, &self.view(), k, isize::MAX)
     }
 
-    /// The cells on and below a diagonal of the last two axes: clones of those whose column less their row is at most
-    /// `k`, and zero elsewhere. It has the lengths of this array. With fewer than two axes all cells are kept.
+    /// The lower triangle of the last two axes: an array of the same lengths, with clones of the cells whose column minus row is at most
+    /// `k`, and zero elsewhere. With fewer than two axes all cells are kept.
     ///
-    /// The error is allocation failure, for the array or for a clone. Requires that a clone that is made equals its
-    /// source.
+    /// Requires that each clone equals its source. The error is an allocation failure, for the array or for a clone, and is never reported
+    /// if there are no cells.
     ///
     /// ```
     /// let view = ArrayView::from_shape((2, 3), &[1, 2, 3, 4, 5, 6])?;
@@ -65,8 +65,8 @@ impl<A: Clone + Zero, S: Data<Elem = A>, D: Lengths> ArrayBase<S, D> {
     }
 }
 
-/// The diagonals from one number of column less row to another, and zero elsewhere. Where the cells lie by columns, it is done on
-/// the array with its last two axes exchanged.
+/// The cells whose column minus row lies between two numbers, and zero elsewhere. An array that is read faster in column order is computed
+/// with its last two axes exchanged.
 fn diagonals<A: Clone + Zero, D: Lengths>(
     alloc: Global,
     array: &ArrayView<'_, A, D>,
@@ -93,7 +93,7 @@ fn diagonals<A: Clone + Zero, D: Lengths>(
     }
 }
 
-/// The same of an array with two axes at least, with its last two exchanged and exchanged back.
+/// The same for an array with at least two axes, computed with its last two exchanged and then exchanged back.
 fn diagonals_by_columns<A: Clone + Zero, D: Lengths>(
     alloc: Global,
     array: &ArrayView<'_, A, D>,
@@ -125,7 +125,7 @@ fn opposite(bound: isize) -> isize
     -bound
 }
 
-/// The same of an array with two axes at least, row by row.
+/// The same for an array with at least two axes, row by row.
 fn diagonals_by_rows<A: Clone + Zero, D: Lengths>(
     alloc: Global,
     array: &ArrayView<'_, A, D>,

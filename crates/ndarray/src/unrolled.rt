@@ -1,4 +1,4 @@
-//! Folds, inner sums and comparisons of slices, eight elements a turn.
+//! Folds, inner products and comparisons of slices, eight elements at a time.
 
 ghost use Rattle.std.specs.Prelude.{◌≡◌, ◌↔◌, ◌+◌, ◌<◌, ℕ, Bool, IsTrue, length, nat_lt, slice_index_or};
 ghost use Rattle.std.specs.List.{FoldsTo};
@@ -124,17 +124,17 @@ impl<'a, A: Copy, I: Fn() -> A, F: Fn(A, A) -> A> PartialResults for FoldParts<'
     }
 }
 
-/// The fold of the elements of a slice: what `f` makes of what `init` returns and each element in turn, the first one first. It
-/// allocates nothing.
+/// The fold of the elements of a slice: the total begins with what `init` returns, and `f` takes the total and the next element and returns
+/// the next total. It allocates nothing.
 ///
-/// It is made by eight partial results and an accumulator, each begun by a call of `init` of its own. While at least eight
-/// elements are left, that at place `i` goes to result `i % 8`. Then the accumulator takes results 0 and 4 joined by `f`, then
-/// 1 and 5, 2 and 6, 3 and 7, and after them the at most seven elements that are left.
+/// It is computed with eight partial results and an accumulator, each begun by its own call of `init`. While at least eight elements are
+/// left, the element at index `i` goes to partial result `i % 8`. Then the accumulator takes the partial results 0 and 4 joined by `f`,
+/// then 1 and 5, 2 and 6, 3 and 7, and after them the at most seven elements that are left.
 ///
-/// Requires that `init` may be called and returns one value alone, and of any two selections of the elements without a common
-/// one that `f` may be called with their folds and returns the fold of both together. So it is for `+` of a list each selection
-/// of which has its sum in range, as that of [`sums_fit`](crate::ArrayBase::sums_fit), and for an operation that associates,
-/// commutes and may always be called.
+/// Requires that `init` may be called and always returns the same value, and that for any two selections of the elements without a common
+/// one `f` may be called with their folds and returns the fold of both together. This holds for `+` from zero if each selection of the
+/// elements has its sum in range, as [`sums_fit`](crate::ArrayBase::sums_fit) tests, and for an associative and commutative operation that
+/// may always be called, from its neutral element.
 ///
 /// ```
 /// let numbers = [3u8, 1, 4];
@@ -189,12 +189,13 @@ impl<'a, A: LinalgScalar> PartialResults for ProductParts<'a, A> {
     }
 }
 
-/// The sum of the products of two slices' elements, place by place, and zero where they have none. It allocates nothing.
+/// The inner product of two slices: the sum of the products of their elements at each index, which is zero if they have none. It allocates
+/// nothing.
 ///
-/// It is made as that of [`unrolled_fold`], from zeros: of the products, eight partial results and an accumulator.
+/// It is computed as [`unrolled_fold`] is, with eight partial results and an accumulator that begin with zero.
 ///
-/// Requires slices of one length, and that every selection of the products has its sum in range. For vectors of integers
-/// [`dot_fits`](crate::reduce::dot_fits) is enough.
+/// Requires that the slices are equally long, and that every selection of the products has its sum in range. For integers
+/// [`dot_fits`](crate::reduce::dot_fits) of views of the slices is enough.
 ///
 /// ```
 /// let inner = unrolled_dot(&[1i64, 2, 3], &[4, 5, 6]); // 32
@@ -210,9 +211,9 @@ pub fn unrolled_dot<A: LinalgScalar>(xs: &[A], ys: &[A]) -> A
     })
 }
 
-/// Whether each element of a slice equals that of another at its place. It allocates nothing.
+/// Whether each element of a slice equals the element of another at the same index. It allocates nothing.
 ///
-/// Eight are compared a turn, and nothing after a turn with two that differ. Requires slices of one length.
+/// Requires that the slices are equally long. Elements are compared eight at a time, and none after eight of which some differ.
 ///
 /// ```
 /// let same = unrolled_eq(&[1u8, 2, 3], &[1, 2, 3]); // true

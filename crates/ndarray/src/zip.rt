@@ -1,4 +1,4 @@
-//! Walking up to six producers together.
+//! Calls on up to six producers in lock step.
 
 ghost use Rattle.std.specs.Prelude.{◌≡◌, ◌↔◌, ℕ, List, Some, IsTrue};
 ghost use Rattle.ndarray.specs.Broadcast.{BroadcastsTo};
@@ -35,40 +35,42 @@ pub use crate::zip::producer::{IntoBroadcast, IntoNdProducer, KeepsLengths, NdPr
 use std::alloc::AllocError;
 use std::marker::{Model, PhantomData};
 
-/// Producers of the same lengths as one of nested pairs of their items, and their number: [`One`] to [`Six`].
+/// Producers of the same lengths as one producer of nested pairs of their items, and their number as a type: [`One`] to [`Six`].
 #[derive(Drop)]
 pub struct Parts<N, K> {
-    /// The one producer.
+    /// The producer of nested pairs.
     pub nested: N,
     number: PhantomData<K>,
 }
 
-/// One to six producers of the same lengths, to be walked together.
+/// One to six producers of the same lengths, whose items at each index list are passed to a closure together.
 ///
 /// ```
-/// // the sum of the products of two tables' cells, however each of them lies
+/// // the sum of the products of two tables' cells, whatever their memory layouts
 /// Zip::from(&a).and(&b).fold(0, |sum, x, y| sum + x * y);
 /// ```
 ///
-/// A producer is a reference to an array, a view (a view to write in yields `&mut` cells), an [`AxisIter`](crate::subviews::AxisIter) and the
-/// other lists of subviews, or [`indices`](crate::indices). At each index list the closure gets one item of each.
+/// Producers are references to arrays, views (a view to write in yields `&mut` cells), [`AxisIter`](crate::subviews::AxisIter) and the
+/// other types of subviews but `AxisChunksIter`, and [`indices`](crate::indices). At each index list the closure gets one item of each.
 ///
 /// # Joining
 ///
-/// - [`from`](Self::from): the first producer. [`indexed`](Self::indexed): the index patterns and a producer.
+/// - [`from`](Self::from): the first producer. [`indexed`](Self::indexed): the index lists, as patterns, and a producer.
 /// - [`and`](Self::and): one more of the same lengths; [`fits`](Self::fits) tests that.
 /// - [`and_broadcast`](Self::and_broadcast): an array that is broadcast to the lengths; [`broadcasts`](Self::broadcasts) tests that.
 /// - [`size`](Self::size): how many index lists there are.
 ///
-/// # Walking
+/// # Calls
 ///
-/// - [`for_each`](Self::for_each), [`fold`](Self::fold), [`fold_while`](Self::fold_while), [`all`](Self::all), [`any`](Self::any): calls at all items, or
-///   up to an end.
-/// - [`map_collect`](Self::map_collect): an array of results. [`map_assign_into`](Self::map_assign_into): results left in an array.
+/// - [`for_each`](Self::for_each), [`fold`](Self::fold), [`fold_while`](Self::fold_while), [`all`](Self::all), [`any`](Self::any): calls
+///   for all index lists, or up to the first that decides.
+/// - [`map_collect`](Self::map_collect): an array of results. [`map_assign_into`](Self::map_assign_into): results written to the cells of
+///   an array.
 ///
-/// The walk goes in row order or in column order, whichever is fast for the parts. A contract says that it is one of the two, so a closure
-/// whose effect depends on the order has two possible results; the lemmas of `docs/CALLING.md` are for closures where both are equal.
-/// A walk allocates nothing but the array that it collects.
+/// The calls go through the index lists in row order or in column order, whichever suits the memory layouts. A contract says that it is one
+/// of the two, so a closure whose effect depends on the order has two possible results; the lemmas of `docs/CALLING.md` are for closures
+/// for which both are equal. Each call requires that the closure may be called so in both orders. Only `map_collect` allocates, and only
+/// the array that it returns.
 #[derive(Drop)]
 pub struct Zip<P, D> {
     pub(crate) parts: P,
@@ -107,7 +109,7 @@ impl<N: Clone, D, K> Clone for Zip<Parts<N, K>, D> {
 }
 
 impl Zip<(), ()> {
-    /// Begins with a producer, or a reference to an array.
+    /// A `Zip` of one producer, or of the cells of an array by reference.
     ///
     /// ```
     /// Zip::from(a.rows()).for_each(|row| { .. });
@@ -118,8 +120,8 @@ impl Zip<(), ()> {
         Zip::of(part.into_producer())
     }
 
-    /// Begins with the index patterns and a producer, or a reference to an array: the item at an
-    /// index list is its pattern, and the producer's item.
+    /// A `Zip` of the index lists and a producer, or the cells of an array by reference: the closure gets an index list, as a pattern, and
+    /// the producer's item there.
     ///
     /// ```
     /// // 10 * i + j at (i, j)
@@ -141,7 +143,7 @@ impl Zip<(), ()> {
 }
 
 impl<N: NdProducer<Dim = D>, D: Lengths, K> Zip<Parts<N, K>, D> {
-    /// The number of index lists.
+    /// The number of index lists, which is the number of items of each producer.
     ///
     /// ```
     /// let a = ArrayView::from_shape((2, 3), &[1, 2, 3, 4, 5, 6])?;
@@ -153,7 +155,7 @@ impl<N: NdProducer<Dim = D>, D: Lengths, K> Zip<Parts<N, K>, D> {
         self.parts.nested.raw_dim().size()
     }
 
-    /// Whether a producer has the same lengths.
+    /// Whether a producer has the same lengths as those of this `Zip`, so that `and` may be called with it.
     ///
     /// ```
     /// let zip = Zip::from(&a);
@@ -167,7 +169,7 @@ impl<N: NdProducer<Dim = D>, D: Lengths, K> Zip<Parts<N, K>, D> {
         self.parts.nested.raw_dim().slice() == part.raw_dim().slice()
     }
 
-    /// Whether an array broadcasts to the lengths.
+    /// Whether an array broadcasts to the lengths of this `Zip`, so that `and_broadcast` may be called with it.
     ///
     /// ```
     /// let zip = Zip::from(&table);

@@ -4,11 +4,11 @@ use Rattle.std.specs.List.{range_with_len}
 use Rattle.ndarray.specs.Algebra.{CommutativeMonoid}
 use Rattle.ndarray.specs.AlongAxis.{IsTotalOf}
 use Rattle.ndarray.specs.Broadcast.{broadcast_lengths}
-use Rattle.ndarray.specs.Elementwise.{Combines, Maps}
+use Rattle.ndarray.specs.Elementwise.{Maps}
 use Rattle.ndarray.specs.Grid.{Grid, IsGrid, cell}
 use Rattle.ndarray.specs.Index.{InBox, row_order}
 use Rattle.ndarray.specs.Subviews.{lane, lanes_of}
-use Rattle.ndarray.specs.SumLaws.{AddsUp, LaneTotalsAdd, LaneTotalsMultiply, MultipliesBy, TotalsAdd, TotalsMultiply}
+use Rattle.ndarray.specs.SumLaws.{AddsUp, LaneTotalsAdd, MultipliesBy, TotalsAdd}
 use Rattle.ndarray.specs.Sums.{total, total_by}
 use Rattle.ndarray.specs.Views.{broadcast_to}
 use Rattle.ndarray.proofs.algebra.AxisSums.{cells-total, lane-total}

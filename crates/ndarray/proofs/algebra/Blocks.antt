@@ -1,10 +1,9 @@
 -- Products of matrices of blocks.
-use Rattle.std.proofs.Common.{◌≡◌, ◌∙◌, ◌+◌, ◌-◌, ◌<◌, ◌≤◌, ◌⊎◌, inl, inr, ℕ, zero, suc, Bool, true, false, if◌then◌else◌, ap, arith, refl, sym}
+use Rattle.std.proofs.Common.{◌≡◌, ◌∙◌, ◌+◌, ◌-◌, ◌<◌, ℕ, Bool, true, false, if◌then◌else◌, ap, arith, refl, sym}
 use Rattle.std.specs.Prelude.{nat_lt}
 use Rattle.std.proofs.lemmas.Bool.{le-ltb, lt-ltb}
 use Rattle.ndarray.specs.Algebra.{CommutativeMonoid}
 use Rattle.ndarray.specs.BlockLaws.{BlocksMultiply, ColumnsMultiply, RowsMultiply, RowsOfProducts}
-use Rattle.ndarray.specs.Matrices.{Matrix}
 use Rattle.ndarray.proofs.algebra.MatrixProducts.{sum_below, sum_same, sum_split}
 
 module _ {C : Type 0} (plus times : CommutativeMonoid C) where

@@ -1,8 +1,8 @@
 -- Folds whose steps commute, in each order.
-use Rattle.std.proofs.Common.{◌≡◌, ◌∙◌, ℕ, List, [], ◌∷◌, Option, Some, None, ap, sym, refl}
+use Rattle.std.proofs.Common.{◌≡◌, ◌∙◌, List, [], ◌∷◌, Option, Some, None, ap, sym, refl}
 use Rattle.std.specs.Prelude.{filter_map}
 use Rattle.std.specs.List.{cons_option, fold}
-use Rattle.ndarray.specs.Grid.{Grid, cell}
+use Rattle.ndarray.specs.Grid.{cell}
 use Rattle.ndarray.specs.OrderLaws.{FoldsOverBoxesAgree, FoldsOverCellsAgree, StepsCommute}
 use Rattle.ndarray.specs.Index.{row_order}
 use Rattle.ndarray.specs.Orders.{box_in}

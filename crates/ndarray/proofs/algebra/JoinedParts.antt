@@ -1,14 +1,14 @@
 -- The parts of an array joined again, and the items of a stack.
-use Rattle.std.proofs.Common.{◌≡◌, ◌∙◌, ℕ, zero, suc, ◌+◌, ◌-◌, ◌<◌, ◌≤◌, Bool, true, false, if◌then◌else◌, inl, inr, List, [], ◌∷◌, length, map, set, get_or, Option, Some, None, ap, sym, refl, arith, subst, insert, remove}
-use Rattle.std.specs.Prelude.{All, nat_lt, not, ◌&&◌, slice_get, option_and_then}
+use Rattle.std.proofs.Common.{◌≡◌, ◌∙◌, ℕ, ◌+◌, ◌-◌, ◌<◌, ◌≤◌, true, if◌then◌else◌, inl, inr, List, [], ◌∷◌, length, set, get_or, Option, None, ap, sym, refl, arith, subst, insert, remove}
+use Rattle.std.specs.Prelude.{nat_lt, not, ◌&&◌, slice_get, option_and_then}
 use Rattle.std.specs.List.{list_all}
 use Rattle.std.proofs.lemmas.Bool.{cases_lt, le-ltb, lt-ltb, not_from_true}
 use Rattle.std.proofs.lemmas.List.{get_or-set_same, length-map, length-set, set-get_or, set-set}
 use Rattle.std.proofs.lemmas.Option.{slice_get-get_or, slice_get_within}
 use Rattle.std.proofs.lemmas.List.Edits.{get_or-insert_at, length-insert}
-use Rattle.ndarray.specs.Grid.{Grid, IsGrid, cell, same_index, tabulate}
+use Rattle.ndarray.specs.Grid.{Grid, IsGrid, cell, same_index}
 use Rattle.ndarray.specs.Index.{InBox}
-use Rattle.ndarray.specs.Joining.{concatenate_error, concatenation, concatenation_cell, concatenation_lengths, is_same_but_along, is_within_limit, shapes_of, stack_cell, stack_lengths, stack_of}
+use Rattle.ndarray.specs.Joining.{concatenate_error, concatenation, concatenation_cell, concatenation_lengths, is_same_but_along, is_within_limit, shapes_of, stack_cell, stack_of}
 use Rattle.ndarray.specs.JoiningLaws.{ItemsOfStackAreParts, PartsCanBeJoined, PartsJoin, two_parts}
 use Rattle.ndarray.specs.Limits.{IsWithinLimit}
 use Rattle.ndarray.specs.Views.{axis_item, axis_part}

@@ -1,5 +1,5 @@
 -- Totals of joined arrays.
-use Rattle.std.proofs.Common.{◌≡◌, ◌∙◌, ℕ, zero, suc, ◌+◌, ◌-◌, ◌<◌, ◌≤◌, true, false, if◌then◌else◌, List, [], ◌∷◌, length, map, set, get_or, Option, Some, None, ap, sym, refl, arith, subst, insert, remove}
+use Rattle.std.proofs.Common.{◌≡◌, ◌∙◌, ℕ, ◌+◌, ◌-◌, ◌<◌, ◌≤◌, if◌then◌else◌, List, [], ◌∷◌, length, map, set, get_or, Option, ap, sym, refl, arith, subst, insert, remove}
 use Rattle.std.specs.Prelude.{All, nat_lt, sum_by}
 use Rattle.std.specs.List.{range_with_len}
 use Rattle.std.proofs.lemmas.Bool.{le-ltb, lt-ltb}

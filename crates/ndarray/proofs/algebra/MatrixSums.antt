@@ -1,7 +1,6 @@
 -- Products of sums and of multiples of matrices.
 use Rattle.std.proofs.Common.{◌≡◌, ◌∙◌, ap, refl, sym}
 use Rattle.ndarray.specs.Algebra.{CommutativeMonoid}
-use Rattle.ndarray.specs.Matrices.{Matrix}
 use Rattle.ndarray.specs.MatrixSums.{MultiplesTimesMatrix, ProductsOfMultiples, ProductsOfSums, SumsTimesMatrix}
 use Rattle.ndarray.proofs.algebra.MatrixProducts.{sum_below, sum_plus, sum_same, sum_times}
 

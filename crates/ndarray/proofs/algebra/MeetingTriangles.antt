@@ -1,13 +1,13 @@
 -- Triangles of triangles, and products of triangular matrices.
 use Rattle.std.proofs.Common.{◌≡◌, ◌∙◌, ◌≤◌, ◌<◌, ◌⊎◌, inl, inr, ℕ, zero, suc, Bool, true, false, if◌then◌else◌, List, length, Some, ap, refl, sym, arith, subst}
-use Rattle.std.specs.Prelude.{ℤ, pos, negsuc, ◌-ℤ◌, ◌≤ℤ◌, ◌<ℤ◌, ◌&&◌, int_le, nat_lt}
+use Rattle.std.specs.Prelude.{ℤ, pos, negsuc, ◌-ℤ◌, ◌≤ℤ◌, ◌<ℤ◌, ◌&&◌, int_le}
 use Rattle.std.specs.Int.{int_max, int_min}
 use Rattle.std.proofs.lemmas.Bool.{lt-ltb}
 use Rattle.std.proofs.lemmas.Int.{int_max_is, int_min_is, ints}
 use Rattle.ndarray.specs.Algebra.{CommutativeMonoid}
 use Rattle.ndarray.specs.Grid.{Grid, IsGrid, cell, tabulate}
 use Rattle.ndarray.specs.Index.{InBox}
-use Rattle.ndarray.specs.TriangleLaws.{IsLower, LowerMatricesMultiply, LowerTrianglesMeet, TrianglesCommute, UpperTrianglesMeet}
+use Rattle.ndarray.specs.TriangleLaws.{LowerMatricesMultiply, LowerTrianglesMeet, TrianglesCommute, UpperTrianglesMeet}
 use Rattle.ndarray.specs.Triangles.{column_minus_row, diagonals_kept}
 use Rattle.ndarray.proofs.algebra.MatrixProducts.{sum_same, sum_zero}
 use Rattle.ndarray.proofs.algebra.Triangles.{triangle-is, triangle-whole}

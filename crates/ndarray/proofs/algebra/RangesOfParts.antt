@@ -1,9 +1,9 @@
 -- What may be summed of an array may be summed of its parts.
-use Rattle.std.proofs.Common.{◌≡◌, ◌≢◌, ◌∙◌, ℕ, zero, suc, ◌+◌, ◌-◌, ◌*◌, ◌<◌, ◌≤◌, Bool, inl, inr, List, [], ◌∷◌, length, map, set, get_or, insert, remove, ap, sym, refl, arith, subst}
+use Rattle.std.proofs.Common.{◌≡◌, ◌≢◌, ◌∙◌, ℕ, suc, ◌+◌, ◌-◌, ◌*◌, ◌<◌, ◌≤◌, Bool, inl, inr, List, [], ◌∷◌, length, map, set, get_or, insert, remove, ap, sym, refl, arith, subst}
 use Rattle.std.specs.Prelude.{All, AllPairs, ℤ, pos, negsuc, slice_get, unsigned_abs}
 use Rattle.std.proofs.Math.Nat.{mul-le-mul_right, suc-mul}
 use Rattle.std.proofs.lemmas.Bool.{cases_lt}
-use Rattle.std.proofs.lemmas.List.{get_or-set_same, length-map, length-set, set-get_or, set-set}
+use Rattle.std.proofs.lemmas.List.{get_or-set_same, length-set, set-get_or, set-set}
 use Rattle.std.proofs.lemmas.List.Edits.{length-remove}
 use Rattle.std.proofs.lemmas.List.Elements.{All-map}
 use Rattle.std.proofs.lemmas.Simd.{map-map}
@@ -12,7 +12,7 @@ use Rattle.ndarray.specs.Grid.{Grid, IsGrid, cell, cells_by, tabulate}
 use Rattle.ndarray.specs.Index.{InBox, IsBefore, row_order}
 use Rattle.ndarray.specs.RangeLaws.{ChunksStayInRange, ItemsStayInRange, LanesStayInRange, PartsStayInRange, SlicesStayInRange, WindowsStayInRange}
 use Rattle.ndarray.specs.Slices.{slice_end, slice_index_at, slice_length, slice_start, step_index}
-use Rattle.ndarray.specs.Subviews.{ArePositive, chunk_counts, exact_chunks_of, window, window_counts, window_index, windows_of}
+use Rattle.ndarray.specs.Subviews.{chunk_counts, exact_chunks_of, window, window_counts, window_index, windows_of}
 use Rattle.ndarray.specs.Sums.{IsSummableBy, select, total}
 use Rattle.ndarray.specs.Views.{axis_item, axis_part}
 use Rattle.ndarray.specs.base.Ranks.{rank}

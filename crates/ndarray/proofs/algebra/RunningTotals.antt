@@ -1,16 +1,15 @@
 -- Running totals along an axis.
-use Rattle.std.proofs.Common.{◌≡◌, ◌∙◌, ℕ, zero, suc, ◌+◌, ◌-◌, ◌<◌, ◌≤◌, List, [], ◌∷◌, length, map, set, get_or, Option, Some, None, ap, sym, refl, arith, subst, insert, remove, take}
+use Rattle.std.proofs.Common.{◌≡◌, ◌∙◌, ℕ, zero, suc, ◌+◌, ◌-◌, ◌<◌, ◌≤◌, List, [], ◌∷◌, length, map, set, get_or, Some, ap, sym, refl, arith, subst, insert, remove, take}
 use Rattle.std.specs.Prelude.{slice_get}
 use Rattle.std.specs.List.{range_with_len}
 use Rattle.std.proofs.lemmas.List.{get_or-set_same, length-set, map-append, set-get_or, set-set}
 use Rattle.std.proofs.lemmas.List.Edits.{get_or-insert_at, length-remove}
 use Rattle.ndarray.specs.Algebra.{CommutativeMonoid}
-use Rattle.ndarray.specs.AlongAxis.{Cumulates, IsDifference, IsTotalOf, one_further}
-use Rattle.ndarray.specs.Elementwise.{Maps}
+use Rattle.ndarray.specs.AlongAxis.{Cumulates, IsTotalOf, one_further}
 use Rattle.ndarray.specs.Grid.{Grid, IsGrid, cell}
 use Rattle.ndarray.specs.Index.{InBox}
-use Rattle.ndarray.specs.ScanLaws.{CumulatesLeaveRunningTotals, DifferencesGiveBack, HasRunningTotals, HaveSameValues, LastItemHasTotals}
-use Rattle.ndarray.specs.Subviews.{lane, lanes_of}
+use Rattle.ndarray.specs.ScanLaws.{CumulatesLeaveRunningTotals, DifferencesGiveBack, HasRunningTotals, LastItemHasTotals}
+use Rattle.ndarray.specs.Subviews.{lane}
 use Rattle.ndarray.specs.Sums.{total, total_by}
 use Rattle.ndarray.specs.Views.{axis_item, axis_part}
 use Rattle.ndarray.proofs.algebra.AxisSums.{lane-total}

@@ -1,10 +1,10 @@
 -- Products of Kronecker products of several matrices.
-use Rattle.std.proofs.Common.{◌≡◌, ◌∙◌, ℕ, ◌*◌, List, [], ◌∷◌, map, ap}
+use Rattle.std.proofs.Common.{◌≡◌, ◌∙◌, ◌*◌, List, [], ◌∷◌, map, ap}
 use Rattle.std.specs.Prelude.{All}
 use Rattle.std.proofs.lemmas.List.Elements.{All-head, All-tail}
 use Rattle.ndarray.specs.KroneckerLaws.{KroneckersOfAllMultiply, kronecker_of_all}
 use Rattle.ndarray.specs.MatrixLaws.{KroneckersMultiply}
-use Rattle.ndarray.specs.Matrices.{Matrix, kronecker_product, matrix_product}
+use Rattle.ndarray.specs.Matrices.{Matrix, matrix_product}
 use Rattle.ndarray.specs.declared.elements.Valued.{Ghosts as ValuedGhosts}
 use Rattle.ndarray.proofs.callers.SameMatrices.{kronecker-same, same-self, same-then}
 

@@ -1,7 +1,6 @@
 -- Inner products.
 use Rattle.std.proofs.Common.{◌≡◌, ◌∙◌, List, [], ◌∷◌, ap, refl, sym}
 use Rattle.ndarray.specs.Algebra.{CommutativeMonoid}
-use Rattle.ndarray.specs.Matrices.{Matrix}
 use Rattle.ndarray.specs.Products.{products_of}
 use Rattle.ndarray.specs.Sums.{total}
 use Rattle.ndarray.specs.VectorLaws.{InnerProductsCommute, MatricesChangeSides}

@@ -1,5 +1,5 @@
 -- The first cell in row order that no other beats.
-use Rattle.std.proofs.Common.{◌≡◌, ◌∙◌, ◌<◌, ◌≤◌, ℕ, Bool, true, false, List, [], ◌∷◌, None, Option, Some, ap, arith, cond, get_or, inl, inr, length, map, refl, slice_get, subst, sym}
+use Rattle.std.proofs.Common.{◌≡◌, ◌∙◌, ◌<◌, ℕ, Bool, true, false, List, [], ◌∷◌, None, Option, Some, ap, arith, cond, get_or, inl, inr, length, refl, slice_get, subst, sym}
 use Rattle.std.specs.Borrow.{Bor}
 use Rattle.std.specs.Prelude.{All, IfSome, MatchOption, zip}
 use Rattle.std.specs.Cmp.{IsStrictWeakOrder, IsTotalOrder}

@@ -1,8 +1,8 @@
 -- Products of whole numbers that are made, as arrays, in the middle of a chain.
-use Rattle.std.proofs.Common.{◌≡◌, ◌∙◌, ◌∷◌, [], ◌<◌, ◌*◌, ℕ, ℤ, zero, suc, ap, arith, get_or, refl, sym}
+use Rattle.std.proofs.Common.{◌≡◌, ◌∙◌, ◌∷◌, [], ◌*◌, ℕ, ℤ, zero, suc, ap, arith, get_or, refl, sym}
 use Rattle.std.specs.Prelude.{◌↔◌, ◌≢◌}
 use Rattle.std.proofs.Math.Nat.{mul-zero, zero-mul}
-use Rattle.ndarray.specs.Chains.{HasColumn, HasMatrix, ShapesChain}
+use Rattle.ndarray.specs.Chains.{HasColumn, HasMatrix}
 use Rattle.ndarray.specs.Grid.{Grid, cell}
 use Rattle.ndarray.specs.Index.{size}
 use Rattle.ndarray.specs.Matrices.{IsSameMatrix}

@@ -1,8 +1,8 @@
 -- The products of the cells of two matrices, by the lists of their cells.
-use Rattle.std.proofs.Common.{◌≡◌, ◌⊎◌, ◌∙◌, ◌∷◌, [], ◌<◌, ℕ, ℤ, List, Some, ap, arith, get_or, inl, inr, length, map, pos, refl, subst, sym}
+use Rattle.std.proofs.Common.{◌≡◌, ◌⊎◌, ◌∙◌, ◌∷◌, [], ◌<◌, ℕ, ℤ, List, ap, arith, get_or, inl, inr, length, map, pos, subst, sym}
 use Rattle.std.specs.Prelude.{◌*ℤ◌, ◌↔◌, Contains}
 use Rattle.std.proofs.lemmas.List.Elements.{All-contains_itself}
-use Rattle.ndarray.specs.Grid.{Grid, IsGrid, cell}
+use Rattle.ndarray.specs.Grid.{Grid, IsGrid}
 use Rattle.ndarray.specs.Index.{InBox, size}
 use Rattle.ndarray.specs.Matrices.{Matrix}
 use Rattle.ndarray.specs.Products.{HasProductsInRange, matrix_of, value_at, value_or}

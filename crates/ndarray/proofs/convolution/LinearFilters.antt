@@ -1,5 +1,5 @@
 -- Filters of sums and of multiples, of arrays and of kernels, and by a kernel with one value.
-use Rattle.std.proofs.Common.{◌≡◌, ◌≢◌, ◌∙◌, ◌<◌, ℕ, List, [], ◌∷◌, arith, length, map, Option, Some, None, inl, inr, ap, refl, sym, subst}
+use Rattle.std.proofs.Common.{◌≡◌, ◌≢◌, ◌∙◌, ℕ, List, [], ◌∷◌, arith, length, map, Option, Some, None, inl, inr, ap, refl, sym, subst}
 use Rattle.std.specs.Prelude.{AllPairs, Contains}
 use Rattle.ndarray.specs.Algebra.{CommutativeMonoid}
 use Rattle.ndarray.specs.Convolution.{mirrored, single_steps, valid_counts, valid_products}
@@ -8,7 +8,6 @@ use Rattle.ndarray.specs.Grid.{Grid, IsGrid, cell}
 use Rattle.ndarray.specs.Index.{InBox, IsBefore, row_order}
 use Rattle.ndarray.specs.Products.{value_or}
 use Rattle.ndarray.specs.Subviews.{window_index}
-use Rattle.ndarray.specs.SumLaws.{AddsUp, MultipliesBy}
 use Rattle.ndarray.specs.Sums.{total}
 use Rattle.ndarray.proofs.algebra.AddedTotals.{at-product, at-sum, lengths-added, total-multiplied}
 use Rattle.ndarray.proofs.algebra.Totals.{op_unit, total-plus, total-same, value_of}

@@ -1,5 +1,5 @@
 -- Filters by a column and then by a row.
-use Rattle.std.proofs.Common.{◌≡◌, ◌≢◌, ◌∙◌, ℕ, zero, suc, ◌+◌, ◌-◌, ◌<◌, ◌≤◌, inl, inr, List, [], ◌∷◌, length, get_or, map, Some, ap, refl, sym, arith, subst}
+use Rattle.std.proofs.Common.{◌≡◌, ◌≢◌, ◌∙◌, ℕ, zero, suc, ◌+◌, ◌-◌, ◌<◌, ◌≤◌, inl, inr, List, [], ◌∷◌, length, get_or, Some, ap, sym, arith, subst}
 use Rattle.std.specs.Prelude.{All}
 use Rattle.std.proofs.lemmas.Bool.{cases_lt}
 use Rattle.std.proofs.lemmas.List.Elements.{All-cons, All-contains, All-nil}
@@ -8,7 +8,6 @@ use Rattle.ndarray.specs.Convolution.{full_length, valid_convolution_by}
 use Rattle.ndarray.specs.FilterLaws.{FiltersSeparate, IsColumnTimesRow, differences, full_convolution_of, full_lengths}
 use Rattle.ndarray.specs.Grid.{Grid, IsGrid, cell}
 use Rattle.ndarray.specs.Index.{InBox, row_order}
-use Rattle.ndarray.specs.Subviews.{ArePositive}
 use Rattle.ndarray.proofs.algebra.SummedAreas.{rows-and_columns}
 use Rattle.ndarray.proofs.algebra.Totals.{value_of}
 use Rattle.ndarray.proofs.boxes.Orders.{row_order-is}

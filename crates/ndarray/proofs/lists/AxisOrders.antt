@@ -1,8 +1,8 @@
 -- Lists that have each number below n once.
-use Rattle.std.proofs.Common.{◌≡◌, ◌∙◌, ◌+◌, ◌<◌, ◌≤◌, ◌≢◌, ℕ, Bool, true, false, List, [], ◌∷◌, ap, arith, eq-eqb, get_or, inl, inr, length, map, refl, suc, sym, zero}
+use Rattle.std.proofs.Common.{◌≡◌, ◌∙◌, ◌+◌, ◌<◌, ◌≢◌, ℕ, false, List, [], ◌∷◌, arith, eq-eqb, get_or, inl, inr, length, refl, suc, sym, zero}
 use Rattle.std.specs.Prelude.{All, AllPairs, Contains, IsPermutation, nat_eq}
 use Rattle.std.specs.List.{AllByRecursion, IsDistinct, position_or_len, range_with_len}
-use Rattle.std.proofs.lemmas.Bool.{cases_lt, eqb-false, ne_eqb}
+use Rattle.std.proofs.lemmas.Bool.{eqb-false, ne_eqb}
 use Rattle.std.proofs.lemmas.Bool.Decides.{eqb_tells}
 use Rattle.std.proofs.lemmas.List.FromFn.{get_or-range_with_len, length-range_with_len}
 use Rattle.std.proofs.lemmas.List.Sorted.{All-permutation, Contains-permutation, length_permutation}

@@ -1,7 +1,7 @@
 -- The text of an array is that of its cells, each behind what stands before it.
-use Rattle.std.proofs.Common.{◌≡◌, ◌≢◌, ◌∙◌, ◌+◌, ◌-◌, ◌*◌, ◌%◌, ◌<◌, ◌≤◌, ◌==◌, ◌++◌, ℕ, zero, suc, List, [], ◌∷◌, Option, Some, None, ap, append_assoc, append-nil, arith, cond, drop, eq-eqb, inl, inr, length, refl, replicate, subst, sym, take}
-use Rattle.std.specs.Fmt.{◌++?◌, option_append}
-use Rattle.std.proofs.Math.Nat.{mod-eq_of_lt, mul-mod_left, one-le-mul}
+use Rattle.std.proofs.Common.{◌≡◌, ◌∙◌, ◌+◌, ◌*◌, ◌%◌, ◌<◌, ◌≤◌, ◌==◌, ◌++◌, ℕ, zero, suc, List, [], ◌∷◌, Option, Some, None, ap, append_assoc, append-nil, arith, drop, eq-eqb, inl, inr, length, refl, replicate, sym, take}
+use Rattle.std.specs.Fmt.{◌++?◌}
+use Rattle.std.proofs.Math.Nat.{mul-mod_left, one-le-mul}
 use Rattle.std.proofs.lemmas.Bool.{cases_eq, cond-false, cond-true, ne_eqb}
 use Rattle.std.proofs.lemmas.List.{length-drop, length-take, replicate_more, take-append-drop}
 use Rattle.std.proofs.lemmas.Nat.{mod-mul-add}

@@ -2,7 +2,7 @@
 use Rattle.std.proofs.Common.{◌≡◌, ◌∙◌, ◌+◌, ◌<◌, ◌≤◌, ℕ, List, [], ◌∷◌, ap, arith, drop, get_or, inl, inr, length, refl, set, subst, suc, sym, zero}
 use Rattle.std.proofs.Math.Seq.{drop-cons}
 use Rattle.std.proofs.lemmas.Bool.{cases_lt}
-use Rattle.std.proofs.lemmas.List.{drop_all, get_or_default}
+use Rattle.std.proofs.lemmas.List.{drop_all}
 use Rattle.ndarray.specs.AxisSlices.{AreSlicesOf, axes_sliced}
 use Rattle.ndarray.specs.Grid.{Grid}
 use Rattle.ndarray.specs.Slices.{IsSliceOf, axis_slice, slice_length}

@@ -1,18 +1,17 @@
 -- The diagonal of an array.
-use Rattle.std.proofs.Common.{◌≡◌, ℕ, ◌+◌, ◌-◌, ◌*◌, ◌/◌, ◌%◌, ◌<◌, ◌≤◌, ◌^◌, suc, zero, List, [], ◌∷◌, length, replicate, get_or, min, Option, refl, sym, ◌∙◌, ap, arith, inl, inr}
+use Rattle.std.proofs.Common.{◌≡◌, ℕ, ◌+◌, ◌-◌, ◌*◌, ◌/◌, ◌%◌, ◌<◌, ◌≤◌, ◌^◌, suc, zero, List, [], ◌∷◌, length, replicate, get_or, min, Option, refl, sym, ◌∙◌, ap, arith}
 use Rattle.std.specs.Prelude.{remove, sum}
 use Rattle.std.specs.List.{fold}
 use Rattle.std.proofs.Math.Nat.{add-mul-mod_self_left, mul-le-mul_left, mul-le-mul_right}
-use Rattle.std.proofs.lemmas.Bool.{cases_lt}
 use Rattle.std.proofs.lemmas.List.{length-replicate}
 use Rattle.std.proofs.lemmas.List.Sums.{sum_by-cons}
 use Rattle.std.proofs.lemmas.Nat.{div-add-mod'}
 use Rattle.ndarray.specs.Index.{InBox}
-use Rattle.ndarray.specs.Limits.{IsWithinLimit, nonzero_size}
+use Rattle.ndarray.specs.Limits.{IsWithinLimit}
 use Rattle.ndarray.specs.Diagonals.{shortest}
 use Rattle.ndarray.specs.base.Nested.{AreNested, distance, reach, reached_within, sum_over_axes}
 use Rattle.ndarray.specs.base.Places.{dot, place, Reaches, Rearranges}
-use Rattle.ndarray.proofs.boxes.Boxes.{InBox-from_each, InBox-length}
+use Rattle.ndarray.proofs.boxes.Boxes.{InBox-from_each}
 use Rattle.ndarray.proofs.boxes.Sizes.{length-fits, limit-one}
 use Rattle.ndarray.proofs.strides.NestedPlaces.{nested-distinct}
 

@@ -1,5 +1,5 @@
 -- Inside `everyday`: what stands before each cell of a text.
-use Rattle.std.specs.Prelude.{ℕ, zero, suc, ◌+◌, ◌%◌, ◌==◌, if◌then◌else◌, List, [], ◌∷◌, ◌++◌, length, replicate, Option, Some}
+use Rattle.std.specs.Prelude.{ℕ, ◌+◌, ◌%◌, ◌==◌, if◌then◌else◌, List, [], ◌∷◌, ◌++◌, length, replicate, Option, Some}
 use Rattle.std.specs.Fmt.{◌++?◌}
 use Rattle.ndarray.specs.ArrayTexts.{between_items}
 use Rattle.ndarray.specs.Index.{size}

@@ -19,8 +19,8 @@ use std::marker::Model;
 
 /// An array of any number of axes, over a storage `S` and with lengths of the type `D`.
 ///
-/// A contract sees an array as its lengths and its cells, in row order, and nothing else of it. Where the cells lie in memory
-/// changes how fast a call is, and never its result.
+/// A contract sees an array as its lengths and its cells, in row order, and nothing else of it. Where the cells lie in memory changes how
+/// fast a call is, never its result.
 ///
 /// ```
 /// let a = Array::from_shape_vec((2, 3), vec![in alloc; 1i64, 2, 3, 4, 5, 6]?)?; // [[1, 2, 3], [4, 5, 6]]
@@ -29,60 +29,68 @@ use std::marker::Model;
 /// if a.sums_fit() {
 ///     assert_eq!(a.sum(), 21);
 /// }
-/// let twice = (&a + &a)?; // where `a.add_fits(&a)`
+/// let twice = (&a + &a)?; // if `a.add_fits(&a)`
 /// ```
 ///
 /// # Storages
 ///
-/// [`Array`] owns its cells, [`ArrayView`] reads those of a slice or of another array, [`ArrayViewMut`] writes in them, and
-/// [`CowArray`] either reads or owns. A function over `S: Data` takes all four, one over `S: DataMut` those that may be written in.
+/// [`Array`] owns its cells, [`ArrayView`] reads those of a slice or of another array, [`ArrayViewMut`] reads and writes them, and
+/// [`CowArray`] either reads or owns its cells. A function over `S: Data` takes all four, one over `S: DataMut` those that may be written
+/// in.
 ///
 /// # Dimensions
 ///
 /// [`Ix0`](crate::Ix0) to [`Ix6`](crate::Ix6) have a fixed number of axes, [`IxDyn`](crate::IxDyn) has any number up to 32. The lengths
-/// that are not 0 multiply to at most `isize::MAX`, so an array of no cells may have long axes. A shape is written `3`, `(2, 3)`,
-/// `Ix2(2, 3)` or `IxDyn(&[2, 3])`, and followed by `.f()` for column order in memory.
+/// that are not 0 multiply to at most `isize::MAX`; this also holds if there are no cells. A shape is written `3`, `(2, 3)`, `Ix2(2, 3)` or
+/// `IxDyn(&[2, 3])`, with `.f()` behind it for column order in memory.
 ///
 /// # Making arrays
 ///
-/// - `zeros`, `from_elem`: all cells alike. `from_shape_vec`: over a vector, without a copy.
+/// - `zeros`, `from_elem`: arrays of equal cells. `from_shape_vec`: an array of a vector's elements, without a copy.
 /// - `ArrayView::from_shape`, `ArrayView::from`: views of slices and arrays.
-/// - [`to_owned`](Self::to_owned), [`into_owned`](Self::into_owned): copies. [`map_collect`](crate::Zip) of a [`Zip`](crate::Zip): computed cells.
+/// - [`to_owned`](Self::to_owned), [`into_owned`](Self::into_owned): copies. [`map_collect`](crate::Zip) of a [`Zip`](crate::Zip): computed
+///   cells.
 /// - [`concatenate`](crate::concatenate), [`stack`](crate::stack): joined arrays. `triu`, `tril`: triangles.
 ///
-/// # Asking
+/// # Lengths and cells
 ///
 /// - [`ndim`](Self::ndim), [`shape`](Self::shape), [`raw_dim`](Self::raw_dim), [`len`](Self::len), [`len_of`](Self::len_of): lengths.
-/// - [`get`](Self::get), [`get_mut`](Self::get_mut): one cell. [`as_slice`](Self::as_slice): all, where they lie side by side.
+/// - [`get`](Self::get), [`get_mut`](Self::get_mut): one cell. [`as_slice`](Self::as_slice): all cells, if they lie side by side in row
+///   order.
 ///
 /// # Views, without a copy
 ///
-/// - [`view`](Self::view), [`view_mut`](Self::view_mut): the whole.
-/// - [`t`](Self::t), [`reversed_axes`](Self::reversed_axes), [`swap_axes`](Self::swap_axes), [`invert_axis`](Self::invert_axis): axes turned.
-/// - [`slice_axis`](Self::slice_axis), [`index_axis`](Self::index_axis), `split_at`: parts. [`insert_axis`](Self::insert_axis): an axis more.
+/// - [`view`](Self::view), [`view_mut`](Self::view_mut): the whole array.
+/// - [`t`](Self::t), [`reversed_axes`](Self::reversed_axes), [`swap_axes`](Self::swap_axes), [`invert_axis`](Self::invert_axis): axes
+///   exchanged or reversed.
+/// - [`slice_axis`](Self::slice_axis), [`index_axis`](Self::index_axis), `split_at`: parts. [`insert_axis`](Self::insert_axis): one more
+///   axis.
 /// - [`broadcast`](Self::broadcast): lengths of 1 stretched. [`into_dimensionality`](Self::into_dimensionality): another type of dimension.
 ///
-/// # Walking
+/// # Iterating
 ///
-/// - [`iter`](Self::iter), [`iter_mut`](Self::iter_mut), [`indexed_iter`](Self::indexed_iter), `indexed_iter_mut`, `into_iter`: cells in row order.
-/// - `outer_iter`, `axis_iter`, `rows`, `columns`, `lanes`: subviews along an axis. `axis_chunks_iter`, `exact_chunks`: blocks.
-///   `windows`, `windows_with_stride`, `axis_windows`: windows. Most have a form with `_mut`.
-/// - [`Zip`](crate::Zip): several arrays together, in the order that is fast for them.
+/// - [`iter`](Self::iter), [`iter_mut`](Self::iter_mut), [`indexed_iter`](Self::indexed_iter), `indexed_iter_mut`, `into_iter`: cells in
+///   row order.
+/// - `outer_iter`, `axis_iter`, `rows`, `columns`, `lanes`: subviews along an axis. `axis_chunks_iter`, `exact_chunks`: chunks. `windows`,
+///   `windows_with_stride`, `axis_windows`: windows. Most have a form with `_mut`.
+/// - [`Zip`](crate::Zip): several arrays in lock step, in the order that suits their memory layouts.
 /// - `update`, `scan_lanes`: cells changed in place.
 ///
 /// # Computing
 ///
-/// - `+ - * / % & | ^ << >>`, `-`, `!` and the assigning forms (see the head of the crate), [`scalar_left`](crate::scalar_left), `try_zip_assign`.
+/// - `+ - * / % & | ^ << >>`, `-`, `!` and the assigning forms (see the head of the crate), [`scalar_left`](crate::scalar_left),
+///   `try_zip_assign`.
 /// - `sum`, `product`, `sum_axis`, `product_axis`, `cumprod`, `diff`; [`dot`](crate::linalg::Dot), [`kron`](crate::linalg::kron),
-///   [`general_mat_mul`](crate::linalg::general_mat_mul), `scaled_add`; [`conv_valid`](crate::conv::conv_valid), [`conv_full`](crate::conv::conv_full).
-/// - Arithmetic that can leave the range of its type requires that it does not. For integers a test says so: `sums_fit`, `products_fit`,
+///   [`general_mat_mul`](crate::linalg::general_mat_mul), `scaled_add`; [`conv_valid`](crate::conv::conv_valid),
+///   [`conv_full`](crate::conv::conv_full).
+/// - Arithmetic that could leave the range of its type requires that it does not. For integers there are tests: `sums_fit`, `products_fit`,
 ///   `dot_fits`, `add_fits` and the like.
 ///
 /// # Errors
 ///
-/// What takes memory takes `alloc` and returns a `Result`. Its error is allocation failure, and borrowed arrays are then as before.
-/// A shape that cannot be is a [`ShapeError`](crate::ShapeError). A call on an axis, an index or a slice that is out of bounds does
-/// not compile into a proved program: each has its test, as [`axis_ok`](Self::axis_ok) and [`slice_ok`](Self::slice_ok).
+/// A call that allocates takes `alloc` and returns a `Result`. Its error is an allocation failure, and leaves borrowed arrays as they were.
+/// A shape at fault is a [`ShapeError`](crate::ShapeError). A call requires that its axis, index or slice is in bounds, so that a proved
+/// program makes no other call. Tests for this are [`axis_ok`](Self::axis_ok), [`slice_ok`](Self::slice_ok) and the like.
 #[derive(Drop)]
 pub struct ArrayBase<S: Data, D: Lengths> {
     pub(crate) storage: S,
@@ -92,19 +100,19 @@ pub struct ArrayBase<S: Data, D: Lengths> {
 /// An array that owns its cells.
 pub type Array<A, D> = ArrayBase<OwnedRepr<A>, D>;
 
-/// A reading view.
+/// A view to read: the cells are those of a slice or of another array.
 pub type ArrayView<'a, A, D> = ArrayBase<ViewRepr<'a, A>, D>;
 
-/// A reading view of one axis.
+/// A one-dimensional view to read.
 pub type ArrayView1<'a, A> = ArrayView<'a, A, Ix1>;
 
-/// A view to write in.
+/// A view to read and to write in.
 pub type ArrayViewMut<'a, A, D> = ArrayBase<RegionRepr<Life<'a>, A>, D>;
 
-/// A view to write in, of one axis.
+/// A one-dimensional view to read and to write in.
 pub type ArrayViewMut1<'a, A> = ArrayViewMut<'a, A, Ix1>;
 
-/// A reading view or an array that owns its cells.
+/// An array that either reads its cells, as a view does, or owns them.
 pub type CowArray<'a, A, D> = ArrayBase<CowRepr<'a, A>, D>;
 
 impl<S: Data, D: Lengths> Model for ArrayBase<S, D> {
@@ -204,14 +212,14 @@ impl<S: Data, D: Lengths> ArrayBase<S, D> {
         }
     }
 
-    /// A reading view of the same lengths and cells.
+    /// A view to read, with the lengths and cells of the array.
     ///
-    /// An array is known by its lengths and its cells, so the view is the same array.
+    /// In a contract the view equals the array, as it has the same lengths and cells.
     ///
     /// ```
     /// let zeros = Array::<i32, _>::zeros(alloc, (2, 3))?;
     /// let mut view = zeros.view();
-    /// view.invert_axis(Axis(0)); // turns the view and leaves the array
+    /// view.invert_axis(Axis(0)); // reverses an axis of the view, not of the array
     /// ```
     pub fn view(&self) -> ArrayView<'_, S::Elem, D>
         ensures same { result ≡ self.now }
@@ -260,7 +268,7 @@ impl<S: DataMut, D: Lengths> ArrayBase<S, D> {
 impl<S: DataMut, D: Dimension> ArrayBase<S, D> {
     /// The cell at an index list, to write to, or `None` exactly outside the box.
     ///
-    /// What is written is the cell there; all others stay.
+    /// A write through it changes that cell alone.
     ///
     /// ```
     /// let mut array = Array::zeros(alloc, (2, 3))?;
@@ -278,7 +286,7 @@ impl<S: DataMut, D: Dimension> ArrayBase<S, D> {
 }
 
 impl<'a, A, D: Lengths> ArrayView<'a, A, D> {
-    /// The same view once more.
+    /// A copy of the view.
     pub(crate) fn again(&self) -> ArrayView<'a, A, D>
         ensures same { result ≡ self.now }
         ensures whole { IsGrid result }

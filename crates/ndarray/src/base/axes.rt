@@ -1,5 +1,4 @@
-//! Views along one axis, and with other axes, by index equations. None of these copies a cell or
-//! takes memory.
+//! Views of parts of an axis, and views with other axes, each by an index equation. None of these calls copies a cell or allocates.
 
 ghost use Rattle.std.specs.Prelude.{◌≡◌, ◌+◌, ◌<◌, ◌≤◌, length, slice_index, ◌↔◌, IsTrue, IsOk, IfOk, IfErr};
 ghost use Rattle.ndarray.specs.Errors.{shape_error};
@@ -46,7 +45,7 @@ impl<S: Data, D: Lengths> ArrayBase<S, D> {
         self.layout.swap_axes(ax, bx);
     }
 
-    /// Whether `slice_axis` may be asked for this: the axis is below the number of axes, the slice
+    /// Whether `slice_axis` may be called: the axis is below the number of axes, the slice
     /// is within its length, and its step is not 0.
     ///
     /// ```
@@ -61,7 +60,7 @@ impl<S: Data, D: Lengths> ArrayBase<S, D> {
         self.axis_ok(axis) && slice.is_within(self.layout.dim.axis(axis.0))
     }
 
-    /// The array of the indices that a slice takes on an axis.
+    /// A view of the indices that a slice takes on an axis, in the slice's order.
     ///
     /// Requires an axis below the number of axes, a slice within its length, and a step that is not
     /// 0; check with `slice_ok`.
@@ -83,8 +82,10 @@ impl<S: Data, D: Lengths> ArrayBase<S, D> {
         view
     }
 
-    /// The same in place of the array, under the same condition: check with `slice_ok`. An array that owns its elements
-    /// keeps those that it hides.
+    /// Cuts the array itself down to what [`slice_axis`](Self::slice_axis) returns. An array that owns its elements keeps those that are
+    /// then hidden.
+    ///
+    /// Requires what `slice_axis` requires; check with `slice_ok`.
     ///
     /// ```
     /// let mut a = ArrayView::from_shape((2, 3), &[1, 2, 3, 4, 5, 6])?;
@@ -101,8 +102,9 @@ impl<S: Data, D: Lengths> ArrayBase<S, D> {
             .cut(axis.0, from, len, slice.step.cast_unsigned());
     }
 
-    /// The same cells under another type of dimension; `IncompatibleShape` exactly where that type
-    /// cannot have this number of axes.
+    /// The array under another type of dimension, with the same lengths and cells.
+    ///
+    /// The error is `IncompatibleShape`, exactly if that type cannot have this number of axes; the array is then dropped.
     ///
     /// ```
     /// let a = ArrayView::from_shape(IxDyn(&[2, 3]), &[1, 2, 3, 4, 5, 6])?;
@@ -128,8 +130,7 @@ impl<S: Data, D: Lengths> ArrayBase<S, D> {
 }
 
 impl<S: Data, D: RemoveAxis> ArrayBase<S, D> {
-    /// Item `index` along an axis: the cell at an index list is that with `index` put in at the
-    /// axis.
+    /// Item `index` along an axis: a view whose cell at an index list is the array's cell at that list with `index` put in at the axis.
     ///
     /// Requires an axis below the number of axes (check with `axis_ok`) and an index below its
     /// length (compare with `len_of`).
@@ -149,7 +150,9 @@ impl<S: Data, D: RemoveAxis> ArrayBase<S, D> {
         self.view().index_axis_move(axis, index)
     }
 
-    /// The same of the array itself, under the same condition: a view to write in stays one.
+    /// The item that [`index_axis`](Self::index_axis) returns, but made of the array itself: a view to write in stays one.
+    ///
+    /// Requires an axis below the number of axes (check with `axis_ok`) and an index below its length (compare with `len_of`).
     ///
     /// ```
     /// let a = ArrayView::from_shape((2, 3), &[1, 2, 3, 4, 5, 6])?;
@@ -185,9 +188,9 @@ impl<S: Data, D: Dimension> ArrayBase<S, D> {
 }
 
 impl<S: DataMut, D: Lengths> ArrayBase<S, D> {
-    /// The indices that a slice takes on an axis, to write in.
+    /// A view to write in of the indices that a slice takes on an axis, in the slice's order.
     ///
-    /// Requires what `slice_axis` requires.
+    /// Requires what `slice_axis` requires; check with `slice_ok`.
     ///
     /// ```
     /// // a = [[1, 2, 3], [4, 5, 6]]
@@ -207,9 +210,9 @@ impl<S: DataMut, D: Lengths> ArrayBase<S, D> {
 }
 
 impl<S: DataMut, D: RemoveAxis> ArrayBase<S, D> {
-    /// Item `index` along an axis, to write in.
+    /// Item `index` along an axis, as a view to write in.
     ///
-    /// Requires what `index_axis` requires.
+    /// Requires an axis below the number of axes (check with `axis_ok`) and an index below its length (compare with `len_of`).
     ///
     /// ```
     /// // a = [[1, 2, 3], [4, 5, 6]]
@@ -231,9 +234,9 @@ impl<S: DataMut, D: RemoveAxis> ArrayBase<S, D> {
 }
 
 impl<S: Data, D: Dimension> ArrayBase<S, D> {
-    /// The array with an axis of length 1 put in.
+    /// The array with an axis of length 1 put in at `axis`.
     ///
-    /// Requires an axis that is at most the number of axes, which is below 32; compare with `ndim`.
+    /// Requires that the axis is at most the number of axes, and that this number is below 32; compare with `ndim`.
     ///
     /// ```
     /// let row = ArrayView::from_shape(3, &[1, 2, 3])?;
@@ -256,7 +259,7 @@ impl<S: Data, D: Dimension> ArrayBase<S, D> {
 }
 
 impl<'a, A, D: Lengths> ArrayView<'a, A, D> {
-    /// The first `index` places of an axis, and the rest.
+    /// Splits the view at an index of an axis: into the cells whose index there is below `index`, and the rest.
     ///
     /// Requires an axis below the number of axes (check with `axis_ok`) and an index that is at most
     /// its length (compare with `len_of`).
@@ -294,7 +297,7 @@ impl<'a, A, D: Lengths> ArrayView<'a, A, D> {
 }
 
 impl<'a, A, D: Lengths> ArrayViewMut<'a, A, D> {
-    /// The first `index` places of an axis, and the rest. No cell is in both.
+    /// Splits the view at an index of an axis: into the cells whose index there is below `index`, and the rest. No cell is in both parts.
     ///
     /// Requires an axis below the number of axes (check with `axis_ok`) and an index that is at most
     /// its length (compare with `len_of`).

@@ -1,4 +1,4 @@
-//! Slices of several axes at once. None of these copies a cell or takes memory.
+//! Slices of several axes at once. None of these calls copies a cell or allocates.
 
 ghost use Rattle.std.specs.Prelude.{◌≡◌, ◌↔◌, IsTrue, length};
 ghost use Rattle.ndarray.specs.AxisSlices.{AreSlicesOf, axes_sliced};
@@ -11,7 +11,7 @@ use crate::base::slice::Slice;
 use crate::base::storage::{Data, DataMut};
 
 impl<S: Data, D: Lengths> ArrayBase<S, D> {
-    /// Whether `slice` may be asked for this: there is a slice for each axis, within its length, and no step is 0.
+    /// Whether `slice` may be called: there is a slice for each axis, within its length, and no step is 0.
     ///
     /// ```
     /// let part = [Slice::from(1..), Slice::new(0, None, 2)];
@@ -33,7 +33,7 @@ impl<S: Data, D: Lengths> ArrayBase<S, D> {
         true
     }
 
-    /// The array of the indices that a slice takes on each axis, the first one on axis 0.
+    /// A view of the indices that a list of slices takes, one for each axis, that of axis 0 first.
     ///
     /// Requires a slice for each axis, within its length, and steps that are not 0; check with `slices_ok`.
     ///
@@ -53,8 +53,9 @@ impl<S: Data, D: Lengths> ArrayBase<S, D> {
         view
     }
 
-    /// The same in place of the array, under the same condition: check with `slices_ok`. An array that owns its elements keeps
-    /// those that it hides.
+    /// Cuts the array itself down to what [`slice`](Self::slice) returns. An array that owns its elements keeps those that are then hidden.
+    ///
+    /// Requires what `slice` requires; check with `slices_ok`.
     ///
     /// ```
     /// let mut a = ArrayView::from_shape((2, 3), &[1, 2, 3, 4, 5, 6])?;
@@ -73,7 +74,7 @@ impl<S: Data, D: Lengths> ArrayBase<S, D> {
 }
 
 impl<S: DataMut, D: Lengths> ArrayBase<S, D> {
-    /// The indices that a slice takes on each axis, to write in.
+    /// A view to write in of the indices that a list of slices takes, one for each axis.
     ///
     /// Requires what `slice` requires; check with `slices_ok`.
     ///

@@ -7,7 +7,7 @@ ghost use Rattle.ndarray.specs.Broadcast.{BroadcastTogether, broadcast_lengths, 
 use crate::base::dimension::Lengths;
 use crate::base::layout::same_numbers;
 
-/// The lengths of two shapes broadcast together, the left one within the limit; `None` where they do not broadcast, or the result is
+/// The lengths of two shapes broadcast together, the left one within the limit; `None` if they do not broadcast, or the result is
 /// beyond the limit.
 pub(crate) fn co_broadcast<D: Lengths, E: Lengths, O: Lengths>(left: &D, right: &E) -> Option<O>
     requires axes { O.has_axes (max (length (D.numbers left.now)) (length (E.numbers right.now))) }
@@ -37,7 +37,7 @@ pub(crate) fn are_equal<D: Lengths, E: Lengths>(left: &D, right: &E) -> bool
     true
 }
 
-/// The same of any two shapes, axis by axis.
+/// The same for any two shapes, axis by axis.
 fn met_lengths<D: Lengths, E: Lengths, O: Lengths>(left: &D, right: &E) -> Option<O>
     requires { O.has_axes (max (length (D.numbers left.now)) (length (E.numbers right.now))) }
     ensures { MatchOption result (BroadcastTogether (D.numbers left.now) (E.numbers right.now) → ⊥) (λ d. (O.numbers d ≡ broadcast_lengths (D.numbers left.now) (E.numbers right.now)) × BroadcastTogether (D.numbers left.now) (E.numbers right.now)) }
@@ -57,7 +57,7 @@ fn met_lengths<D: Lengths, E: Lengths, O: Lengths>(left: &D, right: &E) -> Optio
     Some(lengths)
 }
 
-/// The length on an axis of as many as `ndim`, aligned at the last axes: 1 where there is none.
+/// The length on an axis of as many as `ndim`, aligned at the last axes: 1 if there is none.
 fn length_below<D: Lengths>(dim: &D, ndim: usize, axis: usize) -> usize
     requires below { axis < ndim }
     requires fewer { length (D.numbers dim.now) ≤ ndim }
@@ -71,7 +71,7 @@ fn length_below<D: Lengths>(dim: &D, ndim: usize, axis: usize) -> usize
     }
 }
 
-/// The length where two lengths meet: the one that is not 1. `None` where they differ and neither is 1.
+/// The length where two lengths meet: the one that is not 1. `None` if they differ and neither is 1.
 fn meeting(n: usize, m: usize) -> Option<usize>
     ensures { MatchOption result ((n ≢ m) × (n ≢ 1) × (m ≢ 1)) (λ length. (length ≡ meeting_length (n, m)) × ((n ≡ m) ⊎ ((n ≡ 1) ⊎ (m ≡ 1)))) }
 {

@@ -39,7 +39,7 @@ impl<A, D: Lengths> Model for ArrayBuilder<A, D> {
 }
 
 impl<A: Drop, D: Lengths> ArrayBuilder<A, D> {
-    /// Room for all cells of the lengths. Requires them to be within the limit. Nothing is allocated where there are
+    /// Room for all cells of the lengths. Requires them to be within the limit. Nothing is allocated if there are
     /// none.
     pub(crate) fn with_capacity(alloc: Global, dim: D, order: Order) -> Result<Self, AllocError>
         requires { IsWithinLimit (D.numbers dim) }
@@ -110,7 +110,7 @@ impl<A: Clone, D: Lengths> ArrayBuilder<A, D> {
         }
     }
 
-    /// The same of cells that lie side by side.
+    /// The same for cells that lie side by side.
     fn push_slice(&mut self, cells: &[A]) -> Result<(), AllocError>
         requires clones { ClonesAreEqual A.is_clone }
         requires room { length self.old.cells + length cells.now ≤ size self.old.lengths }
@@ -123,7 +123,7 @@ impl<A: Clone, D: Lengths> ArrayBuilder<A, D> {
         Ok(())
     }
 
-    /// The same of cells that lie a step apart.
+    /// The same for cells that lie a step apart.
     fn push_steps(&mut self, cells: Strided<'_, A>) -> Result<(), AllocError>
         requires clones { ClonesAreEqual A.is_clone }
         requires room { length self.old.cells + length cells ≤ size self.old.lengths }

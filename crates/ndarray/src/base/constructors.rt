@@ -22,11 +22,11 @@ use num_traits::Zero;
 use std::alloc::{AllocError, Global};
 
 impl<'a, A, D: Dimension> ArrayView<'a, A, D> {
-    /// The view of a slice's first elements, as many as the shape's size: they are its cells in row
-    /// order, or in column order where the shape has `.f()`.
+    /// A view of a slice's first elements, as many as the shape has cells: they are its cells in row order, or in column order if the shape
+    /// has `.f()`.
     ///
-    /// The error is `Overflow` for a shape whose nonzero lengths multiply to more than
-    /// `isize::MAX`, and `OutOfBounds` for a slice with fewer elements than the shape's size.
+    /// The error is `Overflow` for a shape whose nonzero lengths multiply to more than `isize::MAX`, and otherwise `OutOfBounds` for a
+    /// slice with fewer elements than the shape has cells.
     ///
     /// ```
     /// let rows = ArrayView::from_shape((2, 3), &[1, 2, 3, 4, 5, 6])?;
@@ -80,8 +80,12 @@ fn one_axis_layout(len: usize) -> Layout<Ix1>
 }
 
 impl<'a, A> From<&'a [A]> for ArrayView1<'a, A> {
-    /// The view whose cells are the slice's elements. Of a slice with more than `isize::MAX` elements,
-    /// which only elements of size zero allow, it has the first `isize::MAX`.
+    /// The view whose cells are the slice's elements. If the slice has more than `isize::MAX` elements, which is possible only for elements
+    /// of size zero, the view has the first `isize::MAX`.
+    ///
+    /// ```
+    /// let row = ArrayView1::from([1, 2, 3].as_slice()); // [1, 2, 3]
+    /// ```
     fn from(slice: &'a [A]) -> Self
         ensures cells { length slice.now < 2 ^ 63 → result ≡ one_axis slice.now }
         ensures limited { result ≡ one_axis (take (2 ^ 63 - 1) slice.now) }
@@ -95,8 +99,13 @@ impl<'a, A> From<&'a [A]> for ArrayView1<'a, A> {
 }
 
 impl<'a, A> From<&'a mut [A]> for ArrayViewMut1<'a, A> {
-    /// The view to write in whose cells are the slice's elements. Of a slice with more than
-    /// `isize::MAX` elements, which only elements of size zero allow, it has the first `isize::MAX`.
+    /// The view to write in whose cells are the slice's elements. If the slice has more than `isize::MAX` elements, which is possible only
+    /// for elements of size zero, the view has the first `isize::MAX`.
+    ///
+    /// ```
+    /// // numbers, a `&mut [i64]`, becomes 0, 0, 0
+    /// ArrayViewMut1::from(numbers).fill(0);
+    /// ```
     fn from(slice: &'a mut [A]) -> Self
         ensures cells { length slice.old < 2 ^ 63 → result ≡ one_axis slice.old }
         ensures limited { result ≡ one_axis (take (2 ^ 63 - 1) slice.old) }
@@ -108,7 +117,11 @@ impl<'a, A> From<&'a mut [A]> for ArrayViewMut1<'a, A> {
 }
 
 impl<'a, S: Data, D: Lengths> From<&'a ArrayBase<S, D>> for ArrayView<'a, S::Elem, D> {
-    /// The view of an array, as `view` gives it.
+    /// The view of an array that `view` returns.
+    ///
+    /// ```
+    /// let view = ArrayView::from(&table); // the view that `view` returns
+    /// ```
     fn from(array: &'a ArrayBase<S, D>) -> Self
         ensures same { result ≡ array.now }
         ensures axes { D.has_axes (length result.lengths) }
@@ -150,11 +163,11 @@ impl<A: Drop, D: Lengths> Array<A, D> {
 }
 
 impl<A: Drop, S: DataOwned<Elem = A>, D: Dimension> ArrayBase<S, D> {
-    /// The array that takes over a vector of as many elements as the shape's size: they are its cells in
-    /// row order, or in column order where the shape has `.f()`.
+    /// The array that takes over a vector with one element for each cell of the shape: they are its cells in row order, or in column order
+    /// if the shape has `.f()`.
     ///
-    /// The error is `Overflow` for a shape whose nonzero lengths multiply to more than `isize::MAX`, and
-    /// `OutOfBounds` for a vector of another length; it drops the vector.
+    /// The error is `Overflow` for a shape whose nonzero lengths multiply to more than `isize::MAX`, and otherwise `OutOfBounds` for a
+    /// vector of another length. An error drops the vector.
     ///
     /// ```
     /// let array = Array::from_shape_vec((2, 3), vec![in alloc; 1, 2, 3, 4, 5, 6]?)?;
@@ -185,10 +198,10 @@ impl<A: Drop, S: DataOwned<Elem = A>, D: Dimension> ArrayBase<S, D> {
 }
 
 impl<A: Clone, S: DataOwned<Elem = A>, D: Dimension> ArrayBase<S, D> {
-    /// The array that has clones of an element, and the element itself, in its cells.
+    /// The array whose cells are an element and clones of it.
     ///
-    /// Requires a shape within the limit; check with `size_ok` of its dimension. The error is allocation
-    /// failure.
+    /// Requires that the nonzero lengths multiply to at most `isize::MAX`; check with `size_ok` of the dimension. The error is an
+    /// allocation failure, for the array or for a clone, and is never reported if the array has no cells.
     ///
     /// ```
     /// let sevens = Array::from_elem(alloc, (2, 1), 7)?;
@@ -226,10 +239,10 @@ fn repeated<A: Clone>(alloc: Global, elem: A, count: usize) -> Result<Vec<A>, Al
 }
 
 impl<A: Zero + Drop, S: DataOwned<Elem = A>, D: Dimension> ArrayBase<S, D> {
-    /// The array that has zero in each cell.
+    /// The array whose cells are all zero.
     ///
-    /// Requires a shape within the limit; check with `size_ok` of its dimension. The error is allocation
-    /// failure.
+    /// Requires that the nonzero lengths multiply to at most `isize::MAX`; check with `size_ok` of the dimension. The error is an
+    /// allocation failure, and is never reported if the array has no cells.
     ///
     /// ```
     /// let zeros = Array::<i64, Ix2>::zeros(alloc, (2, 3))?;
@@ -251,7 +264,11 @@ impl<A: Zero + Drop, S: DataOwned<Elem = A>, D: Dimension> ArrayBase<S, D> {
 }
 
 impl<'a, A: Drop, D: Lengths> From<ArrayView<'a, A, D>> for CowArray<'a, A, D> {
-    /// The array with the view's lengths and cells, which it borrows.
+    /// An array with the lengths and cells of the view, whose cells it borrows.
+    ///
+    /// ```
+    /// let array = CowArray::from(table.view());
+    /// ```
     fn from(view: ArrayView<'a, A, D>) -> Self
         ensures same { result ≡ view.entry }
         ensures axes { D.has_axes (length result.lengths) }
@@ -264,7 +281,11 @@ impl<'a, A: Drop, D: Lengths> From<ArrayView<'a, A, D>> for CowArray<'a, A, D> {
 }
 
 impl<'a, A: Drop, D: Lengths> From<Array<A, D>> for CowArray<'a, A, D> {
-    /// The array with the array's lengths and cells, which it owns.
+    /// An array with the lengths and cells of the given one, whose cells it takes over.
+    ///
+    /// ```
+    /// let array = CowArray::from(Array::<i64, _>::zeros(alloc, (2, 3))?);
+    /// ```
     fn from(array: Array<A, D>) -> Self
         ensures same { result ≡ array }
         ensures axes { D.has_axes (length result.lengths) }

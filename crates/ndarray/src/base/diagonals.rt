@@ -1,4 +1,4 @@
-//! The diagonal of an array. None of these copies a cell or takes memory.
+//! The diagonal of an array. None of these calls copies a cell or allocates.
 
 ghost use Rattle.std.specs.Prelude.{◌≡◌, ◌%◌, ◌^◌, ◌∷◌, [], length, sum};
 ghost use Rattle.ndarray.specs.Diagonals.{diagonal_of, shortest};
@@ -10,8 +10,8 @@ use crate::base::layout::Layout;
 use crate::base::storage::{Data, DataMut};
 
 impl<S: Data, D: Lengths> ArrayBase<S, D> {
-    /// The diagonal: the cell at an index is that which has this index on each axis. It is as long as the shortest axis; of an
-    /// array without axes it has the only cell.
+    /// A view of the diagonal: its cell at an index is the array's cell with that index on each axis. It is as long as the shortest axis;
+    /// that of an array without axes has the only cell.
     ///
     /// ```
     /// let a = ArrayView::from_shape((2, 3), &[1, 2, 3, 4, 5, 6])?;
@@ -24,7 +24,7 @@ impl<S: Data, D: Lengths> ArrayBase<S, D> {
         self.view().into_diag()
     }
 
-    /// The same of the array itself: a view to write in stays one.
+    /// The diagonal that [`diag`](Self::diag) returns, but made of the array itself: a view to write in stays one.
     ///
     /// ```
     /// let a = ArrayView::from_shape((2, 3), &[1, 2, 3, 4, 5, 6])?;
@@ -44,7 +44,7 @@ impl<S: Data, D: Lengths> ArrayBase<S, D> {
 }
 
 impl<S: DataMut, D: Lengths> ArrayBase<S, D> {
-    /// The diagonal, to write in.
+    /// The diagonal that [`diag`](Self::diag) returns, as a view to write in.
     ///
     /// ```
     /// // a = [[1, 2, 3], [4, 5, 6]]
@@ -59,7 +59,7 @@ impl<S: DataMut, D: Lengths> ArrayBase<S, D> {
 }
 
 impl<D: Lengths> Layout<D> {
-    /// That of the diagonal.
+    /// The layout of the diagonal.
     fn diagonal(&self) -> Layout<Ix1>
         ensures start { result.start ≡ self.now.start }
         ensures dim { result.dim.0 ≡ shortest (D.numbers self.now.dim) ∷ [] }
@@ -73,7 +73,7 @@ impl<D: Lengths> Layout<D> {
     }
 }
 
-/// The least of the lengths; 1 where there are none.
+/// The least of the lengths; 1 if there are none.
 fn least_length(lengths: &[usize]) -> usize
     ensures { result ≡ shortest lengths.now }
 {

@@ -1,4 +1,4 @@
-//! The dimension of the broadcast of two.
+//! The dimension of two shapes broadcast together.
 
 ghost use Rattle.std.specs.Prelude.{ℕ, max};
 ghost use Rattle.std.proofs.Common.{rules, arith};
@@ -7,10 +7,9 @@ ghost use Rattle.ndarray.specs.FixedAxes.{IsFixed};
 
 use crate::base::dimension::{Dimension, Ix0, Ix1, Ix2, Ix3, Ix4, Ix5, Ix6, IxDyn, Lengths};
 
-/// A dimension that may be broadcast with another one.
+/// A dimension whose shapes may be broadcast together with those of another one.
 pub trait DimMax<Other: Lengths>: Lengths {
-    /// The dimension of the two broadcast together: the larger of two fixed numbers of axes, and
-    /// `IxDyn` where one of them is `IxDyn`.
+    /// The dimension of the result: the one with more axes of two that have a fixed number, and `IxDyn` if one of them is `IxDyn`.
     type Output: Dimension;
 
     ghost larger_has_both: { (n m : ℕ) → Self.has_axes n → Other.has_axes m → Self.Output.has_axes (max n m) };

@@ -29,7 +29,21 @@ fn write_number(numbers: &mut [usize], place: usize, number: usize)
 
 /// A list of numbers, one for each axis: the lengths of a shape, or an index list.
 ///
-/// No call takes memory.
+/// None of its calls allocates.
+///
+/// ```
+/// let mut dim = Ix2(2, 3);
+/// assert_eq!((dim.ndim(), dim.axis(1)), (2, 3));
+/// if dim.size_ok() {
+///     assert_eq!(dim.size(), 6);
+/// }
+/// dim.set_axis(1, 4);
+/// dim.slice_mut()[0] = 1;
+/// assert_eq!(dim.copied().slice(), &[1, 4]);
+/// if IxDyn::may_have(3) {
+///     assert_eq!(IxDyn::zeros(3).slice(), &[0, 0, 0]);
+/// }
+/// ```
 pub trait Lengths: Drop + Sized {
     // The numbers, that of axis 0 first.
     ghost numbers: { Self → List ℕ };
@@ -45,13 +59,13 @@ pub trait Lengths: Drop + Sized {
         ensures value { result ≡ length (numbers self.now) }
         ensures has { has_axes result };
 
-    /// Whether the type has values with `ndim` axes: `Ix2` with two alone, `IxDyn` with at most 32.
+    /// Whether the type has values with `ndim` axes: for `Ix2` only if `ndim` is 2, for `IxDyn` if it is at most 32.
     fn may_have(ndim: usize) -> bool
         ensures { IsTrue result ↔ has_axes ndim };
 
     /// The list of `ndim` zeros.
     ///
-    /// Requires a number of axes that the type has; check with `may_have`.
+    /// Requires that the type has values with this number of axes; check with `may_have`.
     fn zeros(ndim: usize) -> Self
         requires { has_axes ndim }
         ensures { numbers result ≡ replicate ndim 0 };
@@ -66,12 +80,12 @@ pub trait Lengths: Drop + Sized {
         ensures* writes_back { sem 𝓛 (Lends Self.row (SliceOf word 0) self.entry result (with_numbers self.old)) }
         ensures now { result.now ≡ numbers self.old };
 
-    /// The same list once more, without memory.
+    /// A copy of the list, without an allocation.
     fn copied(&self) -> Self
         ensures value { numbers result ≡ numbers self.now }
         ensures has { has_axes (length (numbers self.now)) };
 
-    /// The number of an axis. Requires it to be below the number of axes; compare with `ndim`.
+    /// The number at an axis. Requires that the axis is below the number of axes; compare with `ndim`.
     fn axis(&self, axis: usize) -> usize
         requires { axis < length (numbers self.now) }
         ensures { result ≡ slice_index (numbers self.now) axis }
@@ -79,7 +93,7 @@ pub trait Lengths: Drop + Sized {
         self.slice()[axis]
     }
 
-    /// Sets the number of an axis. Requires it to be below the number of axes; compare with `ndim`.
+    /// Sets the number at an axis. Requires that the axis is below the number of axes; compare with `ndim`.
     fn set_axis(&mut self, axis: usize, number: usize)
         requires { axis < length (numbers self.old) }
         ensures { numbers self.new ≡ slice_set (numbers self.old) axis number }
@@ -87,7 +101,7 @@ pub trait Lengths: Drop + Sized {
         write_number(self.slice_mut(), axis, number);
     }
 
-    /// The number of index lists in the box of the lengths: their product, and 1 for no axes.
+    /// The number of index lists in the box of the lengths: their product, which is 1 if there are no axes.
     ///
     /// Requires that the lengths that are not 0 multiply to at most `isize::MAX`; check with
     /// `size_ok`.
@@ -124,28 +138,34 @@ pub trait Lengths: Drop + Sized {
     ghost with_numbers_law: { (d : Self) (ns : List ℕ) → length ns ≡ length (numbers d) → numbers (with_numbers d ns) ≡ ns };
 }
 
-/// A dimension: `Ix0` to `Ix6`, each with its fixed number of axes, and `IxDyn` with at most 32.
+/// A type of dimensions: `Ix0` to `Ix6`, each with its fixed number of axes, and `IxDyn` with at most 32.
+///
+/// ```
+/// let (rows, columns) = Ix2(2, 3).into_pattern(); // 2 and 3
+/// Ix2(2, 3).insert_axis(Axis(1)); // Ix3(2, 1, 3)
+/// Ix2(2, 3).try_remove_axis(Axis(0)); // Ix1(3)
+/// ```
 pub trait Dimension: Lengths {
-    /// What an index list reads as: `()` for `Ix0`, a `usize` for `Ix1`, the tuple of that many
-    /// `usize` for `Ix2` to `Ix6`, and `IxDyn` itself for `IxDyn`.
+    /// The type of an index list as a closure sees it: `()` for `Ix0`, `usize` for `Ix1`, a tuple of two to six `usize` for `Ix2` to `Ix6`,
+    /// and `IxDyn` for `IxDyn`.
     type Pattern: Drop;
 
-    /// The dimension with one axis less; of `Ix0` and `IxDyn` they themselves.
+    /// The dimension with one axis less; for `Ix0` and `IxDyn` it is the same type.
     type Smaller: Lengths;
 
-    /// The dimension with one axis more; of `Ix6` it is `IxDyn`, and of `IxDyn` it is itself.
+    /// The dimension with one axis more; for `Ix6` and `IxDyn` it is `IxDyn`.
     type Larger: Lengths;
 
     // The numbers that a pattern lists.
     ghost pattern_numbers: { Self.Pattern → List ℕ };
 
-    /// The list as its pattern.
+    /// The numbers as a pattern: a `usize` or a tuple of them.
     fn into_pattern(self) -> Self::Pattern
         ensures { pattern_numbers result ≡ Self.numbers self };
 
-    /// The list with an axis of length 1 put in.
+    /// The list with a number 1 put in at `axis`.
     ///
-    /// Requires an axis that is at most the number of axes, which is below 32; compare with `ndim`.
+    /// Requires that the axis is at most the number of axes, and that this number is below 32; compare with `ndim`.
     fn insert_axis(&self, axis: Axis) -> Self::Larger
         requires axis_at_most { axis.0 ≤ length (Self.numbers self.now) }
         requires room { length (Self.numbers self.now) < 32 }
@@ -163,9 +183,9 @@ pub trait Dimension: Lengths {
         larger
     }
 
-    /// The list without the number of an axis; a list of no axes stays as it is.
+    /// The list without the number at an axis; a list without axes stays as it is.
     ///
-    /// Requires an axis that is below the number of axes, or no axes at all; compare with `ndim`.
+    /// Requires that the axis is below the number of axes, or that there are no axes; compare with `ndim`.
     fn try_remove_axis(&self, axis: Axis) -> Self::Smaller
         requires { (Self.numbers self.now ≡ []) ⊎ (axis.0 < length (Self.numbers self.now)) }
         ensures { Self.Smaller.numbers result ≡ remove (Self.numbers self.now) axis.0 }
@@ -195,9 +215,13 @@ pub trait Dimension: Lengths {
     ghost larger_is_fixed: { (n : ℕ) → n < 6 → IsFixed Self.has_axes n → IsFixed Self.Larger.has_axes (n + 1) };
 }
 
-/// A dimension that may lose an axis: all but `Ix0`.
+/// A type of dimensions from which an axis can be removed: all but `Ix0`.
+///
+/// ```
+/// Ix2(2, 3).remove_axis(Axis(0)); // Ix1(3)
+/// ```
 pub trait RemoveAxis: Dimension {
-    /// The list without the number of an axis. Requires it to be below the number of axes; compare with `ndim`.
+    /// The list without the number at an axis. Requires that the axis is below the number of axes; compare with `ndim`.
     fn remove_axis(&self, axis: Axis) -> Self::Smaller
         requires { axis.0 < length (Self.numbers self.now) }
         ensures { Self.Smaller.numbers result ≡ remove (Self.numbers self.now) axis.0 }
@@ -206,8 +230,7 @@ pub trait RemoveAxis: Dimension {
     }
 }
 
-/// A dimension over the array or list of numbers that it holds. Its aliases are `Ix0` to `Ix6` and
-/// `IxDyn`.
+/// A dimension, as the array or list of numbers that it holds. Its aliases are `Ix0` to `Ix6` and `IxDyn`.
 #[derive(Clone, Copy, Drop, PartialEq, Eq, Debug)]
 pub struct Dim<I>(pub I);
 
@@ -228,24 +251,24 @@ impl DynLengths {
     }
 }
 
-/// No axes.
+/// The type of dimensions without axes.
 pub type Ix0 = Dim<[usize; 0]>;
-/// One axis.
+/// The type of dimensions with one axis.
 pub type Ix1 = Dim<[usize; 1]>;
-/// Two axes.
+/// The type of dimensions with two axes.
 pub type Ix2 = Dim<[usize; 2]>;
-/// Three axes.
+/// The type of dimensions with three axes.
 pub type Ix3 = Dim<[usize; 3]>;
-/// Four axes.
+/// The type of dimensions with four axes.
 pub type Ix4 = Dim<[usize; 4]>;
-/// Five axes.
+/// The type of dimensions with five axes.
 pub type Ix5 = Dim<[usize; 5]>;
-/// Six axes.
+/// The type of dimensions with six axes.
 pub type Ix6 = Dim<[usize; 6]>;
-/// At most 32 axes.
+/// The type of dimensions with any number of axes up to 32.
 pub type IxDyn = Dim<DynLengths>;
 
-/// The dimension of no axes.
+/// The dimension without axes.
 ///
 /// ```
 /// assert_eq!(Ix0().slice(), &[]);
@@ -256,7 +279,7 @@ pub fn Ix0() -> Ix0
     Dim([])
 }
 
-/// The dimension of one axis.
+/// The dimension with one axis.
 ///
 /// ```
 /// assert_eq!(Ix1(3).slice(), &[3]);
@@ -267,7 +290,7 @@ pub fn Ix1(a: usize) -> Ix1
     Dim([a])
 }
 
-/// The dimension of two axes.
+/// The dimension with two axes.
 ///
 /// ```
 /// assert_eq!(Ix2(2, 3).slice(), &[2, 3]);
@@ -278,7 +301,7 @@ pub fn Ix2(a: usize, b: usize) -> Ix2
     Dim([a, b])
 }
 
-/// The dimension of three axes.
+/// The dimension with three axes.
 ///
 /// ```
 /// assert_eq!(Ix3(2, 3, 4).slice(), &[2, 3, 4]);
@@ -289,7 +312,7 @@ pub fn Ix3(a: usize, b: usize, c: usize) -> Ix3
     Dim([a, b, c])
 }
 
-/// The dimension of four axes.
+/// The dimension with four axes.
 ///
 /// ```
 /// assert_eq!(Ix4(2, 3, 4, 5).slice(), &[2, 3, 4, 5]);
@@ -300,7 +323,7 @@ pub fn Ix4(a: usize, b: usize, c: usize, d: usize) -> Ix4
     Dim([a, b, c, d])
 }
 
-/// The dimension of five axes.
+/// The dimension with five axes.
 ///
 /// ```
 /// assert_eq!(Ix5(2, 3, 4, 5, 6).slice(), &[2, 3, 4, 5, 6]);
@@ -311,7 +334,7 @@ pub fn Ix5(a: usize, b: usize, c: usize, d: usize, e: usize) -> Ix5
     Dim([a, b, c, d, e])
 }
 
-/// The dimension of six axes.
+/// The dimension with six axes.
 ///
 /// ```
 /// assert_eq!(Ix6(2, 3, 4, 5, 6, 7).slice(), &[2, 3, 4, 5, 6, 7]);
@@ -322,7 +345,7 @@ pub fn Ix6(a: usize, b: usize, c: usize, d: usize, e: usize, f: usize) -> Ix6
     Dim([a, b, c, d, e, f])
 }
 
-/// The dimension of the numbers of a slice. Requires at most 32 of them, which `numbers.len()` tests.
+/// The dimension with the numbers of a slice. Requires that there are at most 32; compare with `numbers.len()`.
 ///
 /// ```
 /// let lengths = [2, 3, 4];

@@ -22,7 +22,7 @@ pub enum ErrorKind {
     Overflow,
 }
 
-/// Why a shape is an error.
+/// The error of a call that takes or makes a shape.
 #[derive(Clone, Copy, PartialEq, Eq, Debug)]
 pub struct ShapeError {
     kind: ErrorKind,
@@ -40,10 +40,10 @@ impl ShapeError {
         ShapeError { kind }
     }
 
-    /// What the shape offends against.
+    /// What is wrong with the shape.
     ///
     /// ```
-    /// // three cells are not two by two
+    /// // three elements are too few for two rows of two cells
     /// if let Err(error) = ArrayView::from_shape((2, 2), &[1, 2, 3]) {
     ///     assert_eq!(error.kind(), ErrorKind::OutOfBounds);
     /// }

@@ -14,10 +14,9 @@ use crate::base::dimension::Lengths;
 use std::alloc::AllocError;
 use std::marker::Model;
 
-/// The index lists of a box: an array whose cell at each index list is that list. Its parts keep the
-/// lists of the whole.
+/// The index lists of a box: an array whose cell at each index list is that list. A part of it keeps the index lists of the whole.
 ///
-/// As a producer it yields the pattern of each list. It allocates nothing.
+/// As a producer it yields each list as a pattern. It allocates nothing.
 #[derive(Drop)]
 pub struct Indices<D: Lengths> {
     // the list at the index list of zeros
@@ -97,10 +96,9 @@ impl<D: Lengths> Indices<D> {
         Indices { start, dim }
     }
 
-    /// The first `index` places of an axis, and the rest.
+    /// Splits the index lists at an index of an axis: into those whose index there is below `index`, and the rest.
     ///
-    /// Requires an axis below the number of axes and an index that is at most its length; compare with
-    /// `raw_dim`.
+    /// Requires that the axis is below the number of axes and the index at most its length; compare with `raw_dim`.
     ///
     /// ```
     /// // (0, 0), (0, 1) and (1, 0), (1, 1)

@@ -1,4 +1,4 @@
-//! The call that makes the index lists of a box a producer.
+//! The index lists of a box, as a producer.
 
 ghost use Rattle.std.specs.Prelude.{◌≡◌, ◌↔◌, List, ℕ, Some};
 ghost use Rattle.ndarray.specs.Grid.{array_by, cell};
@@ -8,10 +8,9 @@ ghost use Rattle.ndarray.specs.Limits.{IsWithinLimit};
 use crate::base::index_lists;
 use crate::base::into_dimension::IntoDimension;
 
-/// The index lists of a box: a producer whose item at an index list is its pattern.
+/// The index lists of a box: a producer whose item at an index list is that list as a pattern.
 ///
-/// Requires that the lengths that are not 0 multiply to at most `isize::MAX`; check with `size_ok`
-/// of the dimension.
+/// Requires that the nonzero lengths multiply to at most `isize::MAX`; check with `size_ok` of the dimension.
 ///
 /// ```
 /// // (0, 0), (0, 1), (1, 0), (1, 1)

@@ -14,6 +14,10 @@ pub trait IntoDimension {
     ghost written_numbers: { Self → List ℕ };
 
     /// The dimension of these numbers.
+    ///
+    /// ```
+    /// assert_eq!((2, 3).into_dimension(), Ix2(2, 3));
+    /// ```
     fn into_dimension(self) -> Self::Dim
         ensures { Self.Dim.numbers result ≡ written_numbers self };
 }

@@ -95,9 +95,8 @@ impl<D: Lengths> Layout<D> {
         self.start.checked_add(block - 1).is_some()
     }
 
-    /// Which way the cells lie: 2 where they are side by side in row order, -2 in column order, else -1 or 1
-    /// where those along the first or the last axis are; else 0. It is 0 too where at most one axis is
-    /// longer than 1 and both orders are one.
+    /// Which way the cells lie: 2 if they are side by side in row order, -2 if they are in column order; else -1 or 1 if those along the
+    /// first or the last axis are; else 0. It is 0 too if at most one axis is longer than 1, so that both orders are one.
     pub(crate) fn tendency(&self) -> i32
         requires as_many { length (D.numbers self.now.strides) ≡ length (D.numbers self.now.dim) }
         requires limit { IsWithinLimit (D.numbers self.now.dim) }
@@ -133,7 +132,7 @@ impl<D: Lengths> Layout<D> {
         }
     }
 
-    /// The same in row order.
+    /// Whether the cells are known to lie side by side in row order.
     fn is_contiguous(&self) -> bool
         requires as_many { length (D.numbers self.now.strides) ≡ length (D.numbers self.now.dim) }
         requires limit { IsWithinLimit (D.numbers self.now.dim) }
@@ -159,7 +158,7 @@ impl<D: Lengths> Layout<D> {
         false
     }
 
-    /// The same with its axes from the last to the first.
+    /// The layout with its axes from the last to the first.
     pub(crate) fn reversed_axes(&self) -> Self
         ensures start { result.start ≡ self.now.start }
         ensures dim { D.numbers result.dim ≡ reverse (D.numbers self.now.dim) }
@@ -173,7 +172,7 @@ impl<D: Lengths> Layout<D> {
         }
     }
 
-    /// The same once more.
+    /// A copy of it.
     pub(crate) fn copied(&self) -> Self
         ensures start { result.start ≡ self.now.start }
         ensures dim { D.numbers result.dim ≡ D.numbers self.now.dim }
@@ -215,7 +214,7 @@ impl<D: Lengths> Layout<D> {
         self.strides.set_axis(axis, stride.wrapping_mul(step));
     }
 
-    /// The same under another type of dimension, which has this number of axes.
+    /// The layout under another type of dimension, which has this number of axes.
     pub(crate) fn into_dimensionality<E: Lengths>(self) -> Layout<E>
         requires as_many { length (D.numbers self.strides) ≡ length (D.numbers self.dim) }
         requires has { E.has_axes (length (D.numbers self.dim)) }
@@ -232,7 +231,7 @@ impl<D: Lengths> Layout<D> {
 }
 
 impl<D: Dimension> Layout<D> {
-    /// That of the item at an index of an axis.
+    /// The layout of the item at an index of an axis.
     pub(crate) fn item(&self, axis: Axis, index: usize) -> Layout<D::Smaller>
         requires as_many { length (D.numbers self.now.strides) ≡ length (D.numbers self.now.dim) }
         requires axis { axis.0 < length (D.numbers self.now.dim) }
@@ -249,7 +248,7 @@ impl<D: Dimension> Layout<D> {
         }
     }
 
-    /// The same with an axis of length 1 put in.
+    /// The layout with an axis of length 1 put in.
     pub(crate) fn insert_axis(self, axis: Axis) -> Layout<D::Larger>
         requires as_many { length (D.numbers self.strides) ≡ length (D.numbers self.dim) }
         requires axis { axis.0 ≤ length (D.numbers self.dim) }
@@ -313,7 +312,7 @@ pub(crate) fn reversed<D: Lengths>(numbers: &D) -> D
     result
 }
 
-/// The strides by which an array is seen at the lengths `to`; `None` where it does not broadcast to
+/// The strides by which an array is seen at the lengths `to`; `None` if it does not broadcast to
 /// them.
 pub(crate) fn broadcast_strides<D: Lengths, E: Lengths>(dim: &D, strides: &D, to: &E) -> Option<E>
     requires { length (D.numbers strides.now) ≡ length (D.numbers dim.now) }

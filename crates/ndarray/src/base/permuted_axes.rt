@@ -1,4 +1,4 @@
-//! The axes of an array in another order. None of these copies a cell or takes memory.
+//! The axes of an array in another order. None of these calls copies a cell or allocates.
 
 ghost use Rattle.std.specs.Prelude.{◌≡◌, ◌<◌, ◌↔◌, All, IsTrue, length, map, slice_index};
 ghost use Rattle.ndarray.specs.AxisOrders.{NamesEachAxis, axes_permuted};
@@ -11,7 +11,7 @@ use crate::base::layout::Layout;
 use crate::base::storage::Data;
 
 impl<S: Data, D: Dimension> ArrayBase<S, D> {
-    /// Whether `permuted_axes` may be asked for this: each axis is named once.
+    /// Whether `permuted_axes` may be called: `axes` names each axis once.
     ///
     /// ```
     /// let a = ArrayView::from_shape((2, 3), &[1, 2, 3, 4, 5, 6])?;
@@ -27,11 +27,11 @@ impl<S: Data, D: Dimension> ArrayBase<S, D> {
 
     /// The array with its axes in another order: axis `k` of it is the one that `axes` names at `k`.
     ///
-    /// Requires that each axis is named once; check with `permutation_ok`.
+    /// Requires that `axes` names each axis once; check with `permutation_ok`.
     ///
     /// ```
     /// let a = ArrayView::from_shape((1, 2, 3), &[1, 2, 3, 4, 5, 6])?;
-    /// a.permuted_axes((2, 0, 1)); // of lengths 3, 1, 2: [[[1, 4]], [[2, 5]], [[3, 6]]]
+    /// a.permuted_axes((2, 0, 1)); // with the lengths 3, 1, 2: [[[1, 4]], [[2, 5]], [[3, 6]]]
     /// ```
     pub fn permuted_axes<I: IntoDimension<Dim = D>>(self, axes: I) -> ArrayBase<S, D>
         requires { NamesEachAxis (length self.lengths) (I.written_numbers axes) }
@@ -49,7 +49,7 @@ impl<S: Data, D: Dimension> ArrayBase<S, D> {
 }
 
 impl<D: Lengths> Layout<D> {
-    /// The same with its axes in another order.
+    /// The layout with its axes in another order.
     fn permuted(&self, axes: &D) -> Self
         requires as_many { length (D.numbers self.now.strides) ≡ length (D.numbers self.now.dim) }
         requires axes { NamesEachAxis (length (D.numbers self.now.dim)) (D.numbers axes.now) }

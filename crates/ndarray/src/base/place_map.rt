@@ -88,10 +88,10 @@ impl<D: Lengths> Layout<D> {
         below_start
     }
 
-    /// The index list whose cell lies at a place, of a box whose strides are nested; `None` where none does.
+    /// The index list whose cell lies at a place, of a box whose strides are nested; `None` if none does.
     ///
-    /// It allocates nothing: the axes are found one by one, that of the largest stride first, for what is left
-    /// of it all other axes together do not reach.
+    /// It allocates nothing: the indices are found axis by axis, that of the largest stride first, as all other axes together do not reach
+    /// as far as one such stride.
     pub(crate) fn index_of(&self, at: usize) -> Option<D>
         requires as_many { length (D.numbers self.now.strides) ≡ length (D.numbers self.now.dim) }
         requires limit { IsWithinLimit (D.numbers self.now.dim) }
@@ -158,7 +158,7 @@ impl<D: Lengths> PlaceMap<D> {
         self.layout.place(index)
     }
 
-    /// The one index list whose cell lies at a place; `None` where none does.
+    /// The one index list whose cell lies at a place; `None` if none does.
     pub(crate) fn index_of(&self, at: usize) -> Option<D>
         ensures value { MatchOption result ((is : List ℕ) → InBox self.now.lengths is → place_in self.now is ≢ at) (λ is. InBox self.now.lengths (D.numbers is) × (place_in self.now (D.numbers is) ≡ at)) }
         ensures alone { IfSome result (λ index. (is : List ℕ) → InBox self.now.lengths is → place_in self.now is ≡ at → is ≡ D.numbers index) }
@@ -168,7 +168,7 @@ impl<D: Lengths> PlaceMap<D> {
 }
 
 impl<A: Drop, D: Lengths> Array<A, D> {
-    /// The array's vector, where its elements are the cells in row order; else the array as it is.
+    /// The array's vector, if its elements are the cells in row order; else the array as it is.
     pub(crate) fn try_into_cells(self) -> Result<Vec<A>, Self>
         ensures cells { IfOk result (λ v. v.items ≡ self.cells) }
         ensures back { IfErr result (λ a. a ≡ self) }

@@ -1,7 +1,7 @@
-//! Elements at some of the places of a slice, behind one lifetime: what writing views keep theirs in.
+//! Elements at some of the places of a slice, behind one lifetime: the storage of views to write in.
 //!
-//! A region is split by places, and its parts live side by side. Raw pointers stay inside `of`,
-//! `into_slice`, `split`, `get_mut` and `SharedRegion::slice`, and `ArrayBase::reborrow` next to them.
+//! A region is split by places, and its parts may be used side by side. Raw pointers stay inside `of`, `into_slice`, `split`, `get_mut` and
+//! `SharedRegion::slice`, and `ArrayBase::reborrow` next to them.
 
 ghost use Rattle.std.specs.Prelude.{◌≡◌, ◌≢◌, ℕ, Bool, List, Option, Some, None, map, take, drop};
 ghost use Rattle.std.specs.Borrow.{sem};

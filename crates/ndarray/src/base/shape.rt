@@ -12,14 +12,14 @@ use crate::base::into_dimension::IntoDimension;
 /// An order of the index lists of a box.
 #[derive(Clone, Copy, PartialEq, Eq, Debug)]
 pub enum Order {
-    /// The last index fastest.
+    /// The last index varies fastest.
     RowMajor,
-    /// The first index fastest.
+    /// The first index varies fastest.
     ColumnMajor,
 }
 
 impl Order {
-    /// The order for cells of a tendency: column order where it is negative.
+    /// The order for cells of a tendency: column order if it is negative.
     pub(crate) fn by_tendency(tendency: i32) -> Order {
         if tendency < 0 {
             Order::ColumnMajor
@@ -48,8 +48,7 @@ pub struct Shape<D> {
     pub(crate) order: Order,
 }
 
-/// What may be written for a shape: lengths alone, stored row-major, or lengths with `.f()`, stored
-/// column-major.
+/// What may be written for a shape: lengths alone, which are stored row-major, or lengths with `.f()`, which are stored column-major.
 pub trait ShapeBuilder: Sized {
     /// The dimension of the lengths.
     type Dim: Dimension;
@@ -60,12 +59,17 @@ pub trait ShapeBuilder: Sized {
     // The order of storage.
     ghost shape_order: { Self → Order };
 
-    /// The shape.
+    /// The lengths with their order of storage.
+    ///
+    /// ```
+    /// let by_rows = (2, 3).into_shape_with_order();
+    /// let by_columns = (2, 3).f().into_shape_with_order(); // as `(2, 3).f()`
+    /// ```
     fn into_shape_with_order(self) -> Shape<Self::Dim>
         ensures lengths { Self.Dim.numbers (shape_dim result) ≡ shape_lengths self }
         ensures order { stored_in result ≡ shape_order self };
 
-    /// The shape stored column-major.
+    /// The lengths, stored column-major.
     ///
     /// ```
     /// let view = ArrayView::from_shape((2, 3).f(), &[1, 4, 2, 5, 3, 6]);

@@ -6,23 +6,23 @@ ghost use Rattle.ndarray.specs.Slices.{IsSliceOf, index_from_start, slice_end, s
 
 use std::ops::{Range, RangeFrom, RangeFull, RangeTo};
 
-/// Every `step`-th index of an axis, from `start` up to `end`, or for a negative step back from the
-/// index before `end`.
+/// Every `step`-th index of an axis, from `start` up to the one before `end`; a negative step takes them from the one before `end` down to
+/// `start`.
 ///
-/// On an axis of length n a negative `start` or `end` counts from n, no `end` is n, and an `end`
-/// below `start` is `start`.
+/// On an axis of length n, a negative `start` or `end` counts from n, an `end` of `None` stands for n, and an `end` below `start` for
+/// `start`.
 #[derive(Clone, Copy, PartialEq, Eq, Hash, Debug)]
 pub struct Slice {
-    /// Where the slice starts.
+    /// The first index of the range.
     pub start: isize,
-    /// Where the slice ends; that index is no longer taken.
+    /// The index behind the last one of the range; it is not taken.
     pub end: Option<isize>,
-    /// How far apart the indices are; a negative step takes them from the last to the first.
+    /// How far apart the indices are; a negative step takes them from the end of the range to its start.
     pub step: isize,
 }
 
 impl Slice {
-    /// The slice of a start, an end and a step.
+    /// The slice with a start, an end and a step. Calls that take a slice require that it is within the axis and that its step is not 0.
     ///
     /// ```
     /// Slice::new(0, None, 2); // every second index
@@ -76,7 +76,11 @@ impl Slice {
     }
 }
 
-/// The indices of a range, each of them.
+/// Each index of a range.
+///
+/// ```
+/// Slice::from(1..3); // the indices 1 and 2
+/// ```
 impl From<Range<isize>> for Slice {
     ghost from_gives = { λ range s. s ≡ record { start = range.start; end = Some range.end; step = pos 1 } };
 
@@ -85,7 +89,11 @@ impl From<Range<isize>> for Slice {
     }
 }
 
-/// The indices from a start on.
+/// Each index from a start on.
+///
+/// ```
+/// Slice::from(1..); // all indices but 0
+/// ```
 impl From<RangeFrom<isize>> for Slice {
     ghost from_gives = { λ range s. s ≡ record { start = range.start; end = None; step = pos 1 } };
 
@@ -94,7 +102,11 @@ impl From<RangeFrom<isize>> for Slice {
     }
 }
 
-/// The indices up to an end.
+/// Each index below an end.
+///
+/// ```
+/// Slice::from(..2); // the indices 0 and 1
+/// ```
 impl From<RangeTo<isize>> for Slice {
     ghost from_gives = { λ range s. s ≡ record { start = pos 0; end = Some range.end; step = pos 1 } };
 
@@ -103,7 +115,11 @@ impl From<RangeTo<isize>> for Slice {
     }
 }
 
-/// All indices.
+/// Each index.
+///
+/// ```
+/// Slice::from(..); // all indices
+/// ```
 impl From<RangeFull> for Slice {
     ghost from_gives = { λ _ s. s ≡ record { start = pos 0; end = None; step = pos 1 } };
 

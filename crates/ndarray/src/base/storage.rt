@@ -1,4 +1,4 @@
-//! What arrays keep their elements in.
+//! The storages of arrays.
 
 ghost use Rattle.std.specs.Prelude.{◌≡◌, ◌≢◌, ◌↔◌, ◌<◌, ◌+◌, ℕ, List, length, slice_get, Some, Option, IsTrue, IsOk, IfOk, IfErr, ⊤};
 ghost use Rattle.std.specs.Option.{is_some};
@@ -12,7 +12,7 @@ use crate::base::region::SharedRegion;
 use crate::base::view_mut::RegionParts;
 use std::alloc::AllocError;
 
-/// What an array keeps its elements in: elements by places, some of which may hold none.
+/// The storage of an array: elements at places, some of which may hold none.
 pub trait Data: Drop {
     /// The element type.
     type Elem;
@@ -27,7 +27,7 @@ pub trait Data: Drop {
     // Holds where the elements are the storage's own.
     ghost owns: { Self → Type 0 };
 
-    /// The element at a place that has one.
+    /// The element at a place. Requires that there is one.
     fn element(&self, place: usize) -> &Self::Elem
         requires { IsTrue (is_some (at self.now place)) }
         ensures { at self.now place ≡ Some result.now };
@@ -36,8 +36,7 @@ pub trait Data: Drop {
     fn seen(&self) -> ViewRepr<'_, Self::Elem>
         ensures { (p : ℕ) → seen_at result p ≡ at self.now p };
 
-    /// The elements in a vector of their own exactly where the storage owns them, without a copy; else
-    /// the storage as it is.
+    /// The elements as an owned storage, without a copy, exactly if this storage owns them; else this storage as it is.
     fn try_into_owned(self) -> Result<OwnedRepr<Self::Elem>, Self>
         ensures owned { IsOk result ↔ owns self }
         ensures same { IfOk result (λ v. (p : ℕ) → owned_at v p ≡ at self p) }
@@ -45,7 +44,7 @@ pub trait Data: Drop {
         ensures back { IfErr result (λ s. s ≡ self) };
 }
 
-/// What may be written to.
+/// A storage whose elements may be written to.
 pub trait DataMut: Data {
     ghost use Rattle.std.specs.Borrow.{Lends};
     ghost use Rattle.ndarray.specs.Writes.{keeps_lengths};
@@ -54,7 +53,7 @@ pub trait DataMut: Data {
     // The same with another element at a place.
     ghost with_element: { Self → ℕ → Self.Elem → Self };
 
-    /// The element at a place that has one, to write to.
+    /// The element at a place, to write to. Requires that there is one.
     fn element_mut(&mut self, place: usize) -> &mut Self::Elem
         requires { IsTrue (is_some (Self.at self.old place)) }
         ensures* writes_back { sem 𝓛 (Lends Self.row Self.Elem.row self.entry result (with_element self.entry.now place)) }
@@ -83,18 +82,18 @@ pub trait DataMut: Data {
     ghost is_apart: { (s : Self) → Self.apart s };
 }
 
-/// What owns its elements.
+/// A storage that can be made of a vector, whose elements it then owns.
 pub trait DataOwned: Data {
     /// The storage whose element at each place is the vector's at that index.
     fn new(items: Vec<Self::Elem>) -> Self
         ensures { (p : ℕ) → Self.at result p ≡ slice_get items.items p };
 }
 
-/// The elements of a reading view: those of a slice, or those that a writing view holds.
+/// The storage of a view to read: the elements of a slice, or those that a view to write in holds.
 pub enum ViewRepr<'a, A> {
     /// The elements of a slice.
     Slice(&'a [A]),
-    /// The elements that a writing view holds.
+    /// The elements that a view to write in holds.
     Part(&'a SharedRegion<A>),
 }
 
@@ -168,7 +167,7 @@ impl<'a, A> Data for ViewRepr<'a, A> {
     }
 }
 
-/// The elements of an owned array.
+/// The storage of an array that owns its elements.
 #[derive(Drop)]
 pub struct OwnedRepr<A> {
     pub(crate) items: Vec<A>,
@@ -229,12 +228,12 @@ impl<A: Drop> DataOwned for OwnedRepr<A> {
     }
 }
 
-/// The elements of a view to read, or of an owned array.
+/// The storage of a view to read, or of an array that owns its elements.
 #[derive(Drop)]
 pub enum CowRepr<'a, A> {
-    /// Borrowed.
+    /// Borrowed elements.
     View(ViewRepr<'a, A>),
-    /// Owned.
+    /// Owned elements.
     Owned(OwnedRepr<A>),
 }
 

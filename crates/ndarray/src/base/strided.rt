@@ -68,7 +68,7 @@ impl<'a, A> Strided<'a, A> {
         Some(self.storage.get(place))
     }
 
-    /// The next two elements, where there are two. Both steps are taken at once.
+    /// The next two elements, if there are two. Both steps are taken at once.
     #[inline(always)]
     pub(crate) fn next_two(&mut self) -> Option<(&'a A, &'a A)>
         ensures { MatchOption result ((length self.old < 2) × (self.new ≡ self.old)) (λ p. self.old ≡ p.0.now ∷ p.1.now ∷ self.new) }
@@ -95,7 +95,7 @@ impl<'a, A> Strided<'a, A> {
         Some(self.storage.get(place))
     }
 
-    /// The elements as a slice, where they are known to lie side by side.
+    /// The elements as a slice, if they are known to lie side by side.
     #[inline(always)]
     pub(crate) fn side_by_side(&self) -> Option<&'a [A]>
         ensures { IfSome result (λ s. s.now ≡ self.now) }
@@ -109,7 +109,7 @@ impl<'a, A> Strided<'a, A> {
         Some(self.storage.elements_from(self.place, self.left))
     }
 
-    /// The same once more.
+    /// A copy of it.
     pub(crate) fn again(&self) -> Self
         ensures { result ≡ self.now }
     {

@@ -98,9 +98,9 @@ impl<S: DataMut, D: Lengths> ArrayBase<S, D> {
         S::region_parts(self)
     }
 
-    /// A view to write in, of the same lengths and cells.
+    /// A view to write in, with the lengths and cells of the array.
     ///
-    /// What is written through it is what the array holds when the view has ended.
+    /// When the view has ended, the array holds what was written through it.
     ///
     /// ```
     /// let mut zeros = Array::<i32, _>::zeros(alloc, (2, 3))?;
@@ -121,8 +121,8 @@ impl<S: DataMut, D: Lengths> ArrayBase<S, D> {
 }
 
 impl<'a, A, D: Lengths> ArrayViewMut<'a, A, D> {
-    /// The cells as a slice, for as long as the view's elements were borrowed, where they lie side by
-    /// side in row order; else the view as it is. A view of no cells is an empty slice.
+    /// The cells as a slice, for as long as the view's elements are borrowed, if they lie side by side in row order; else the view as it
+    /// is, as the error. A view of at most one cell always gives a slice.
     ///
     /// ```
     /// if let Ok(cells) = array.view_mut().try_into_slice() {

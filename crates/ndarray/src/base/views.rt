@@ -1,4 +1,4 @@
-//! Views by index equations. None of these copies a cell or takes memory.
+//! Views by index equations. None of these calls copies a cell or allocates.
 
 ghost use Rattle.std.specs.Prelude.{◌≡◌, ◌<◌, length, ◌↔◌, IsSome, IfSome};
 ghost use Rattle.ndarray.specs.Broadcast.{BroadcastsTo};
@@ -15,8 +15,7 @@ use crate::base::layout::{Layout, broadcast_strides, reversed};
 use crate::base::storage::Data;
 
 impl<S: Data, D: Lengths> ArrayBase<S, D> {
-    /// The array with its axes from the last to the first: the cell at an index list is that at the
-    /// reversed one.
+    /// The transpose: a view with the axes from the last to the first, whose cell at an index list is the array's cell at the reversed one.
     ///
     /// ```
     /// let a = ArrayView::from_shape((2, 3), &[1, 2, 3, 4, 5, 6])?;
@@ -30,7 +29,7 @@ impl<S: Data, D: Lengths> ArrayBase<S, D> {
         self.view().reversed_axes()
     }
 
-    /// The same of the array itself: a view to write in stays one.
+    /// The transpose that [`t`](Self::t) returns, but made of the array itself: a view to write in stays one.
     ///
     /// ```
     /// let a = ArrayView::from_shape((2, 3), &[1, 2, 3, 4, 5, 6])?;
@@ -53,7 +52,7 @@ impl<S: Data, D: Lengths> ArrayBase<S, D> {
         }
     }
 
-    /// Turns an axis round: the cell at an index is then that at length - 1 - index.
+    /// Reverses an axis: the cell at an index of it is then the one that was at length - 1 - index.
     ///
     /// Requires an axis below the number of axes; check with `axis_ok`.
     ///
@@ -72,9 +71,9 @@ impl<S: Data, D: Lengths> ArrayBase<S, D> {
             .cut(axis.0, len.wrapping_sub(1), len, usize::MAX);
     }
 
-    /// The array seen at other lengths: aligned at the last axes, each length is the one that it
-    /// meets, or 1, which is stretched. `None` exactly where the array does not broadcast to the
-    /// lengths, or the nonzero ones multiply to more than `isize::MAX`.
+    /// A view of the array at other lengths. Aligned at the last axes, each length of the array equals the new one there, or is 1 and is
+    /// stretched; axes may be added in front. `None` exactly if the array does not broadcast to the lengths, or the nonzero ones multiply
+    /// to more than `isize::MAX`.
     ///
     /// ```
     /// let row = ArrayView::from_shape(3, &[1, 2, 3])?;
@@ -91,7 +90,7 @@ impl<S: Data, D: Lengths> ArrayBase<S, D> {
 }
 
 impl<'a, A, D: Lengths> ArrayView<'a, A, D> {
-    /// The same of a view, at a dimension.
+    /// What `broadcast` returns, for a view and a dimension.
     pub(crate) fn broadcast_to<E: Lengths>(&self, dim: E) -> Option<ArrayView<'a, A, E>>
         ensures answers { IsSome result ↔ (BroadcastsTo self.now.lengths (E.numbers dim) × IsWithinLimit (E.numbers dim)) }
         ensures value { IfSome result (λ v. v ≡ broadcast_to self.now (E.numbers dim)) }
@@ -107,7 +106,7 @@ impl<'a, A, D: Lengths> ArrayView<'a, A, D> {
         self.broadcast_within(dim)
     }
 
-    /// The same at a dimension within the limit.
+    /// What `broadcast_to` returns, at a dimension within the limit.
     pub(crate) fn broadcast_within<E: Lengths>(&self, dim: E) -> Option<ArrayView<'a, A, E>>
         requires { IsWithinLimit (E.numbers dim) }
         ensures answers { IsSome result ↔ BroadcastsTo self.now.lengths (E.numbers dim) }

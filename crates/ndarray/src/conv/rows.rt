@@ -21,8 +21,8 @@ use std::alloc::{AllocError, Global};
 /// The most positions whose sums are made at once, so that they stay in cache until all products are added.
 const TILE: usize = 1024;
 
-/// Whether sums that are made all at once take longer runs than inner sums do: where the rows of the positions are no shorter than
-/// those of the kernel. A row of fewer than eight positions is not worth it.
+/// Whether sums that are made all at once take longer runs than inner sums do: if the rows of the positions are no shorter than those of
+/// the kernel. A row of fewer than eight positions is not worth it.
 pub(super) fn has_long_rows<D: Lengths>(positions: &D, kernel: &D) -> bool {
     let (Some(count), Some(columns)) = (positions.slice().last(), kernel.slice().last()) else {
         return false;

@@ -1,14 +1,13 @@
-//! Which numbers the integer types have.
+//! The ranges of the integer types.
 
 ghost use Rattle.std.specs.Prelude.{ℕ, pos, negsuc, neg_ℤ};
 ghost use Rattle.ndarray.specs.Integers.{signed-negated};
 
 use num_traits::{CheckedAdd, CheckedMul, CheckedSub, One, Zero};
 
-/// An integer type: one that has a negative number has the negative of each of its positive numbers. For the twelve
-/// integer types.
+/// One of the twelve integer types. If such a type has a negative number, it has the negative of each of its positive numbers.
 pub trait IntegerElem: Copy + Zero + One + CheckedAdd + CheckedSub + CheckedMul {
-    /// Proves that the number is in the range of the type.
+    /// Proves that the number is in the range of the type. The call does nothing.
     fn tell_fits(self)
         ensures { Self.fits (Self.value self) };
 

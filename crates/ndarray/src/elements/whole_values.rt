@@ -9,8 +9,8 @@ ghost use Rattle.ndarray.specs.base.WholeValues.{whole-inner, whole-inner_sum, w
 
 use crate::elements::{IntegerElem, LinalgScalar};
 
-/// An integer type whose values are its whole numbers, so that behind `sums_fit`, `products_fit` and `dot_fits` code over any
-/// such type may call `sum`, `product` and `dot`. For the twelve integer types.
+/// One of the twelve integer types, whose values are whole numbers. So code that is generic over such a type may call `sum`, `product` and
+/// `dot` after `sums_fit`, `products_fit` and `dot_fits`.
 pub trait IntegerScalar: 'static + IntegerElem + LinalgScalar {
     ghost whole_values: { HasWholeValues Self.Valued Self.value Self.fits };
 

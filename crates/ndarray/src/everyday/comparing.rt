@@ -11,8 +11,8 @@ use crate::base::storage::Data;
 use crate::zip::Zip;
 
 impl<A: PartialEq, S: Data<Elem = A>, D: Lengths> ArrayBase<S, D> {
-    /// Whether the other array has the same lengths, and equal cells at each index list, whatever keeps them and however they
-    /// lie. It stops at the first cells that differ.
+    /// Whether the other array has the same lengths and, at each index list, an equal cell, whatever the storages and memory layouts. The
+    /// comparison stops at the first two cells that differ.
     ///
     /// ```
     /// let a = ArrayView::from_shape((2, 2), &[1, 2, 2, 4])?;

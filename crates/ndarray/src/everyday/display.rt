@@ -12,9 +12,16 @@ use crate::base::storage::Data;
 use crate::iter::Iter;
 use std::fmt;
 
-/// The cells in row order, with a pair of brackets around the items of each axis: `[[1, 2],`, and ` [3, 4]]` on the next line. An empty
-/// line more stands between the items of each further axis. Without cells it is a pair of brackets for each axis; all cells are
-/// written, however many there are.
+/// Writes all cells in row order, however many there are, with a pair of brackets around the items of each axis. A table of two rows is
+/// `[[1, 2],` and, on the next line, ` [3, 4]]`. Between two tables there is an empty line, and one more between the items of each axis
+/// before. An array without cells is written as a pair of brackets for each axis.
+///
+/// ```
+/// let a = ArrayView::from_shape((2, 2), &[1, 2, 3, 4])?;
+/// println!(rt; "{a}")?;
+/// // [[1, 2],
+/// //  [3, 4]]
+/// ```
 impl<A: fmt::Display, S: Data<Elem = A>, D: Lengths> fmt::Display for ArrayBase<S, D> {
     ghost output = { λ a. array_text A.output a.lengths a.cells };
 
@@ -24,7 +31,8 @@ impl<A: fmt::Display, S: Data<Elem = A>, D: Lengths> fmt::Display for ArrayBase<
     }
 }
 
-/// The same with each cell as `{:?}` writes it, and behind it the lengths: `[[1, 2],`, and ` [3, 4]], shape=[2, 2]` on the next line.
+/// Writes the array as `{}` does, but each cell as its `{:?}`, and then the lengths: `[[1, 2],` and, on the next line,
+/// ` [3, 4]], shape=[2, 2]`.
 impl<A: fmt::Debug, S: Data<Elem = A>, D: Lengths> fmt::Debug for ArrayBase<S, D> {
     ghost debug_output = { λ a. array_debug_text A.debug_output a.lengths a.cells };
 
@@ -85,7 +93,7 @@ fn write_array<A, T: CellText<A>, D: Lengths, W: fmt::Write>(
     write_many(f, ']', ndim)
 }
 
-/// Writes cells, each behind what stands before it.
+/// Writes cells, each after the brackets or the separator before it.
 fn write_cells<A, T: CellText<A>, D: Lengths, W: fmt::Write>(
     f: &mut fmt::Formatter<W>,
     lengths: &[usize],
@@ -104,7 +112,7 @@ fn write_cells<A, T: CellText<A>, D: Lengths, W: fmt::Write>(
     Ok(())
 }
 
-/// Writes cell `j`, behind what stands before it.
+/// Writes cell `j`, after the brackets or the separator before it.
 fn write_cell<A, T: CellText<A>, W: fmt::Write>(
     f: &mut fmt::Formatter<W>,
     lengths: &[usize],
@@ -123,7 +131,7 @@ fn write_cell<A, T: CellText<A>, W: fmt::Write>(
     T::write(cell, f)
 }
 
-/// Writes what stands before cell `j`, which is not the first.
+/// Writes what comes before cell `j`, which is not the first: closing brackets, the separator, and opening brackets.
 fn write_break<W: fmt::Write>(
     f: &mut fmt::Formatter<W>,
     lengths: &[usize],
@@ -148,7 +156,7 @@ fn write_break<W: fmt::Write>(
     Ok(())
 }
 
-/// Writes what stands between two items.
+/// Writes the separator of two items.
 fn write_between<W: fmt::Write>(
     f: &mut fmt::Formatter<W>,
     depth: usize,

@@ -18,7 +18,7 @@ enum Extreme {
 }
 
 impl Extreme {
-    /// Whether a cell is to be taken in place of the best one before it: not where the two are equal.
+    /// Whether a cell is to be taken in place of the best one before it, which it is not if the two are equal.
     #[inline(always)]
     fn prefers<A: Ord>(self, x: &A, best: &A) -> bool
         ensures { result ≡ preferred A.cmp self x.now best.now }
@@ -31,7 +31,7 @@ impl Extreme {
 }
 
 impl<A: Ord, S: Data<Elem = A>, D: Lengths> ArrayBase<S, D> {
-    /// The least cell, and the first of them in row order where several are equal; `None` exactly where there is no cell.
+    /// The least cell, and the first of them in row order if several are equal; `None` exactly if there is no cell.
     ///
     /// ```
     /// let a = ArrayView::from_shape((2, 2), &[3, 1, 2, 1])?;
@@ -45,7 +45,7 @@ impl<A: Ord, S: Data<Elem = A>, D: Lengths> ArrayBase<S, D> {
         self.first_best(Extreme::Least)
     }
 
-    /// The greatest cell, and the first of them in row order where several are equal; `None` exactly where there is no cell.
+    /// The greatest cell, and the first of them in row order if several are equal; `None` exactly if there is no cell.
     ///
     /// ```
     /// let a = ArrayView::from_shape((2, 2), &[3, 1, 2, 1])?;
@@ -79,8 +79,8 @@ impl<A: Ord, S: Data<Elem = A>, D: Lengths> ArrayBase<S, D> {
 }
 
 impl<A: Ord, S: Data<Elem = A>, D: Dimension> ArrayBase<S, D> {
-    /// The index pattern of the least cell, that of the first of them in row order where several are equal; `None` exactly where
-    /// there is no cell.
+    /// The index list of the least cell, as a pattern, and of the first of them in row order if several are equal; `None` exactly if there
+    /// is no cell.
     ///
     /// ```
     /// let a = ArrayView::from_shape((2, 2), &[3, 1, 2, 1])?;
@@ -92,8 +92,8 @@ impl<A: Ord, S: Data<Elem = A>, D: Dimension> ArrayBase<S, D> {
         self.first_best_index(Extreme::Least)
     }
 
-    /// The index pattern of the greatest cell, that of the first of them in row order where several are equal; `None` exactly
-    /// where there is no cell.
+    /// The index list of the greatest cell, as a pattern, and of the first of them in row order if several are equal; `None` exactly if
+    /// there is no cell.
     ///
     /// ```
     /// let a = ArrayView::from_shape((2, 2), &[3, 1, 2, 1])?;

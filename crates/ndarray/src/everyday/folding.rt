@@ -1,4 +1,4 @@
-//! Arrays of what a closure makes of the cells of each lane, one after another.
+//! Folds of the lanes of an array by a closure.
 
 ghost use Rattle.std.specs.Prelude.{◌≡◌, ◌<◌, All, IfOk, IsOk, length, remove};
 ghost use Rattle.std.specs.List.{FoldsTo, fold};
@@ -17,12 +17,12 @@ use crate::zip::collecting::collect_in_either_order;
 use std::alloc::{AllocError, Global};
 
 impl<A, S: Data<Elem = A>, D: Dimension> ArrayBase<S, D> {
-    /// The array without an axis that has at each index list the last total of the lane there: `f` takes the total so far, which
-    /// is `init` at first, and a cell, and returns the next total; it goes through the cells of a lane in the order of their
-    /// indices. A lane of length 0 has the total `init`.
+    /// Folds each lane along an axis. The result lacks this axis, and has at each index list the last total of the lane there: `f` takes
+    /// the total so far, which is `init` at first, and the next cell of the lane, and returns the next total. The cells of a lane are taken
+    /// in the order of their indices. A lane of length 0 has the total `init`.
     ///
-    /// Requires `axis < ndim()`, which `axis_ok` tests, and that `f` may be called at any total and each cell. The error is
-    /// allocation failure, before the first call; where there is no lane there is none.
+    /// Requires an axis below the number of axes, which `axis_ok` tests, and that `f` may be called at any total and each cell. The error
+    /// is an allocation failure, before the first call of `f`, and is never reported if there is no lane.
     ///
     /// ```
     /// let a = ArrayView::from_shape((2, 3), &[1, 5, 3, 4, 2, 6])?;

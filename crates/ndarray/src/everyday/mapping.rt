@@ -19,10 +19,10 @@ use crate::zip::collecting::{collect_in_either_order, collect_items};
 use std::alloc::{AllocError, Global};
 
 impl<S: Data, D: Lengths> ArrayBase<S, D> {
-    /// The array of what `f` returns at each cell, by reference.
+    /// The array of what `f` returns at each cell, which it takes by reference.
     ///
-    /// Requires that `f` may be called at each cell. The error is allocation failure, before the first call; without cells
-    /// there is none.
+    /// Requires that `f` may be called at each cell. The error is an allocation failure, before the first call of `f`, and is never
+    /// reported if there are no cells.
     ///
     /// ```
     /// let a = ArrayView::from_shape((2, 2), &[1, 2, 3, 4])?;
@@ -45,10 +45,10 @@ impl<S: Data, D: Lengths> ArrayBase<S, D> {
 }
 
 impl<A: Copy, S: Data<Elem = A>, D: Lengths> ArrayBase<S, D> {
-    /// The array of what `f` returns at each cell, by value.
+    /// The array of what `f` returns at each cell, which it takes by value.
     ///
-    /// Requires that `f` may be called at each cell. The error is allocation failure, before the first call; without cells
-    /// there is none.
+    /// Requires that `f` may be called at each cell. The error is an allocation failure, before the first call of `f`, and is never
+    /// reported if there are no cells.
     ///
     /// ```
     /// let a = ArrayView::from_shape((2, 2), &[1, 2, 3, 4])?;
@@ -71,10 +71,11 @@ impl<A: Copy, S: Data<Elem = A>, D: Lengths> ArrayBase<S, D> {
 }
 
 impl<A: Drop, D: Dimension> Array<A, D> {
-    /// The array of a shape that has at each index list what `f` returns at its pattern.
+    /// The array of a shape whose cell at each index list is what `f` returns at that list, which it takes as a pattern.
     ///
-    /// Requires a shape within the limit (check with `size_ok` of its dimension), and that `f` may be called at each pattern of
-    /// its box. The error is allocation failure, before the first call; without cells there is none.
+    /// Requires that the nonzero lengths multiply to at most `isize::MAX` (check with `size_ok` of the dimension), and that `f` may be
+    /// called at each index list of the shape. The error is an allocation failure, before the first call of `f`, and is never reported if
+    /// there are no cells.
     ///
     /// ```
     /// Array::from_shape_fn(alloc, (2, 3), |(i, j)| 10 * i + j)?; // [[0, 1, 2], [10, 11, 12]]

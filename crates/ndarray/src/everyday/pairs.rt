@@ -15,9 +15,9 @@ use std::alloc::{AllocError, Global};
 impl<A, S: Data<Elem = A>, D: Lengths> ArrayBase<S, D> {
     /// The array of what `f` returns at the two cells at each index list.
     ///
-    /// Requires that the other array has the same shape (compare with `shape`; one that broadcasts to it is seen at it by
-    /// `broadcast`), and that `f` may be called at each two cells. The error is allocation failure, before the first call;
-    /// without cells there is none.
+    /// Requires that the other array has the same shape, and that `f` may be called at each two cells. Compare the shapes with `shape`; if
+    /// the other array broadcasts to this one's, `broadcast` makes a view of it that may be passed. The error is an allocation failure,
+    /// before the first call of `f`, and is never reported if there are no cells.
     ///
     /// ```
     /// let a = ArrayView::from_shape((2, 2), &[1, 2, 3, 4])?;
@@ -41,10 +41,10 @@ impl<A, S: Data<Elem = A>, D: Lengths> ArrayBase<S, D> {
 }
 
 impl<A: Copy, S: DataMut<Elem = A>, D: Lengths> ArrayBase<S, D> {
-    /// Calls `f` at each cell, to write to it, and at the cell of another array at the same index list.
+    /// Calls `f` for each cell, which it takes by a reference to write to, and the cell of another array at the same index list.
     ///
-    /// Requires that the other array has the same shape (compare with `shape`; one that broadcasts to it is seen at it by
-    /// `broadcast`), and that `f` may be called at each two cells. Nothing is allocated.
+    /// Requires that the other array has the same shape, and that `f` may be called at each two cells. Compare the shapes with `shape`; if
+    /// the other array broadcasts to this one's, `broadcast` makes a view of it that may be passed. Nothing is allocated.
     ///
     /// ```
     /// // [[1, 2], [3, 4]] and [[4, 3], [2, 1]] become [[4, 3], [3, 4]]
@@ -67,10 +67,10 @@ impl<A: Copy, S: DataMut<Elem = A>, D: Lengths> ArrayBase<S, D> {
         }
     }
 
-    /// Leaves in each cell the cell of another array at the same index list.
+    /// Copies to each cell the cell of another array at the same index list.
     ///
-    /// Requires that the other array has the same shape; compare with `shape`. One that broadcasts to it is seen at it by
-    /// `broadcast`. Nothing is allocated.
+    /// Requires that the other array has the same shape. Compare the shapes with `shape`; if the other array broadcasts to this one's,
+    /// `broadcast` makes a view of it that may be passed. Nothing is allocated.
     ///
     /// ```
     /// array.assign(&other); // the same cells in both

@@ -17,8 +17,8 @@ use crate::stacking::blocks::push_clones;
 use std::alloc::{AllocError, Global};
 
 impl<S: Data, D: Lengths> ArrayBase<S, D> {
-    /// Whether `to_shape` may be asked for these lengths: they ask for as many cells as there are, and those that are not 0
-    /// multiply to at most `isize::MAX`.
+    /// Whether `to_shape` may be called with these lengths: they ask for as many cells as the array has, and the nonzero ones multiply to
+    /// at most `isize::MAX`.
     ///
     /// ```
     /// let a = ArrayView::from_shape((2, 3), &[1, 2, 3, 4, 5, 6])?;
@@ -34,12 +34,12 @@ impl<S: Data, D: Lengths> ArrayBase<S, D> {
 }
 
 impl<A: Clone, S: Data<Elem = A>, D: Lengths> ArrayBase<S, D> {
-    /// The array of other lengths with the same cells in row order. It borrows them where they lie side by side in row order, and
-    /// else owns clones of them.
+    /// The array with other lengths and the same cells in row order. It borrows the cells if they lie side by side in row order; else it
+    /// owns clones of them.
     ///
-    /// Requires lengths that ask for as many cells, those that are not 0 multiplied at most `isize::MAX`, which `to_shape_ok`
-    /// tests; and that a clone that is made equals its source. The error is allocation failure, for the array or for a clone;
-    /// without cells there is none.
+    /// Requires that the lengths ask for as many cells as the array has and the nonzero ones multiply to at most `isize::MAX`, which
+    /// `to_shape_ok` tests; and that each clone equals its source. The error is an allocation failure, for the array or for a clone, and is
+    /// never reported if there are no cells.
     ///
     /// ```
     /// let a = ArrayView::from_shape((2, 3), &[1, 2, 3, 4, 5, 6])?;

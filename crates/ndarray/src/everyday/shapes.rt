@@ -1,4 +1,4 @@
-//! Lengths of matrices, their rows and columns, and the first and last cell.
+//! The lengths of arrays, the rows and columns of matrices, and the first and last cell.
 
 ghost use Rattle.std.specs.Prelude.{◌≡◌, ◌↔◌, ◌<◌, ◌-◌, IsTrue, length, slice_get, slice_index};
 ghost use Rattle.std.specs.Option.{option_copied};
@@ -12,7 +12,7 @@ use crate::base::dimension::{Dimension, Ix2, Lengths};
 use crate::base::storage::{Data, DataMut};
 
 impl<S: Data, D: Lengths> ArrayBase<S, D> {
-    /// Whether there is no cell.
+    /// Whether the array has no cells.
     ///
     /// ```
     /// let a = ArrayView::<i32, _>::from_shape((0, 3), &[])?;
@@ -25,7 +25,7 @@ impl<S: Data, D: Lengths> ArrayBase<S, D> {
         self.len() == 0
     }
 
-    /// The first cell in row order, or `None` where there is no cell.
+    /// The first cell in row order, or `None` if there is no cell.
     ///
     /// ```
     /// let a = ArrayView::from_shape((2, 2), &[1, 2, 3, 4])?;
@@ -37,7 +37,7 @@ impl<S: Data, D: Lengths> ArrayBase<S, D> {
         self.iter().next()
     }
 
-    /// The last cell in row order, or `None` where there is no cell.
+    /// The last cell in row order, or `None` if there is no cell.
     ///
     /// ```
     /// let a = ArrayView::from_shape((2, 2), &[1, 2, 3, 4])?;
@@ -55,7 +55,7 @@ impl<S: Data, D: Lengths> ArrayBase<S, D> {
 }
 
 impl<S: Data, D: Dimension> ArrayBase<S, D> {
-    /// The lengths as a pattern: a `usize` for one axis, a tuple for more.
+    /// The lengths as a pattern: `()` without axes, a `usize` for one axis, a tuple for two to six, and an `IxDyn` for `IxDyn`.
     ///
     /// ```
     /// let a = ArrayView::from_shape((2, 3), &[1, 2, 3, 4, 5, 6])?;
@@ -129,7 +129,7 @@ impl<S: Data> ArrayBase<S, Ix2> {
 }
 
 impl<S: DataMut> ArrayBase<S, Ix2> {
-    /// Row `index`, to write in.
+    /// Row `index`, as a view to write in.
     ///
     /// Requires an index below the number of rows; compare with `nrows`.
     ///
@@ -146,7 +146,7 @@ impl<S: DataMut> ArrayBase<S, Ix2> {
         self.index_axis_mut(Axis(0), index)
     }
 
-    /// Column `index`, to write in.
+    /// Column `index`, as a view to write in.
     ///
     /// Requires an index below the number of columns; compare with `ncols`.
     ///

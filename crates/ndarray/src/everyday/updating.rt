@@ -1,4 +1,4 @@
-//! Arrays whose cells are replaced where they are. Nothing is allocated.
+//! Calls that change the cells of an array in place. Nothing is allocated.
 
 ghost use Rattle.std.specs.Prelude.{◌≡◌};
 ghost use Rattle.ndarray.specs.Elementwise.{CanMap, Maps};
@@ -32,7 +32,7 @@ impl<A: Copy, S: DataMut<Elem = A>, D: Lengths> ArrayBase<S, D> {
         }
     }
 
-    /// Calls `f` at each cell, to write to it.
+    /// Calls `f` for each cell, which it takes by a reference to write to.
     ///
     /// Requires that `f` may be called at each cell.
     ///
@@ -52,7 +52,7 @@ impl<A: Copy, S: DataMut<Elem = A>, D: Lengths> ArrayBase<S, D> {
         }
     }
 
-    /// Leaves an element in each cell.
+    /// Sets each cell to `x`.
     ///
     /// ```
     /// // [[1, 2], [3, 4]] becomes [[7, 7], [7, 7]]

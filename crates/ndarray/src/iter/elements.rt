@@ -16,9 +16,9 @@ use std::iter::ExactSizeIterator;
 use std::marker::Model;
 use std::slice;
 
-/// The cells of a view that are still to come, in row order.
+/// The iterator over the cells of a view in row order. A contract sees it as the list of the cells still to come.
 ///
-/// An iterator allocates nothing, and neither does any of its steps.
+/// Neither making an iterator nor any of its steps allocates.
 #[derive(Drop)]
 pub struct ElementsBase<'a, A, D: Lengths> {
     source: CellSource<'a, A, D>,
@@ -45,7 +45,7 @@ impl<'a, A, D: Lengths> Model for ElementsBase<'a, A, D> {
 }
 
 impl<'a, A, D: Lengths> ElementsBase<'a, A, D> {
-    /// The cells of a view in row order, whatever the strides.
+    /// An iterator over the cells of a view in row order, whatever the strides.
     ///
     /// ```
     /// for cell in ElementsBase::new(view) { .. } // as `view.iter()`, for as long as the elements were borrowed
@@ -77,7 +77,7 @@ impl<'a, A, D: Lengths> ElementsBase<'a, A, D> {
     }
 }
 
-/// The cells of an array that are still to come, in row order.
+/// The iterator over the cells of an array in row order.
 pub type Iter<'a, A, D> = ElementsBase<'a, A, D>;
 
 impl<'a, A, D: Lengths> Iterator for ElementsBase<'a, A, D> {

@@ -19,10 +19,10 @@ use crate::places::place_rows::StridedPlaces;
 use std::iter::ExactSizeIterator;
 use std::marker::{Model, PhantomData};
 
-/// The cells that are still to come of an array to write in, in row order: a clause sees them, and the name of the borrow
-/// of the array.
+/// The iterator over the cells of an array in row order, to write to. A contract sees it as the list of the cells still to come, and the
+/// name of the borrow of the array.
 ///
-/// An iterator allocates nothing, and neither does any of its steps.
+/// Neither making an iterator nor any of its steps allocates.
 #[derive(Drop)]
 pub struct ElementsBaseMut<'a, A, D: Lengths> {
     region: RegionRepr<Life<'a>, A>,
@@ -45,7 +45,7 @@ impl<'a, A, D: Lengths> Model for ElementsBaseMut<'a, A, D> {
 }
 
 impl<'a, A, D: Lengths> ElementsBaseMut<'a, A, D> {
-    /// The cells of a view in row order, whatever the strides.
+    /// An iterator over the cells of a view in row order, to write to, whatever the strides.
     ///
     /// ```
     /// for cell in ElementsBaseMut::new(array.view_mut()) {
@@ -76,11 +76,11 @@ impl<'a, A, D: Lengths> ElementsBaseMut<'a, A, D> {
     }
 }
 
-/// The cells of an array that are still to come, to write to, in row order.
+/// The iterator over the cells of an array in row order, to write to.
 pub type IterMut<'a, A, D> = ElementsBaseMut<'a, A, D>;
 
 impl<S: DataMut, D: Lengths> ArrayBase<S, D> {
-    /// The cells to write to, in row order, whatever the strides. The array keeps its lengths.
+    /// An iterator over the cells in row order, to write to, whatever the strides. The array keeps its lengths.
     ///
     /// ```
     /// for cell in array.iter_mut() {

@@ -16,9 +16,9 @@ use std::alloc::AllocError;
 use std::iter::ExactSizeIterator;
 use std::marker::Model;
 
-/// The cells of an array that are still to come in row order, each with its index list.
+/// The iterator over the cells of an array in row order, each with its index list. A contract sees it as the list of those still to come.
 ///
-/// An iterator allocates nothing, and neither does any of its steps.
+/// Neither making an iterator nor any of its steps allocates.
 #[derive(Drop)]
 pub struct IndexedIter<'a, A, D: Lengths> {
     storage: ViewRepr<'a, A>,
@@ -54,7 +54,7 @@ impl<'a, A, D: Lengths> IndexedIter<'a, A, D> {
 }
 
 impl<S: Data, D: Dimension> ArrayBase<S, D> {
-    /// The cells in row order, whatever the strides, each with the pattern of its index list.
+    /// An iterator over the cells in row order, whatever the strides, each with its index list as a pattern.
     ///
     /// ```
     /// let view = ArrayView::from_shape((2, 2), &[1, 2, 3, 4])?;

@@ -15,9 +15,10 @@ use crate::places::region_places::Places;
 use std::iter::ExactSizeIterator;
 use std::marker::Model;
 
-/// The cells of an array that are still to come in row order, to write to, each with its index list.
+/// The iterator over the cells of an array in row order, to write to, each with its index list. A contract sees it as the list of those
+/// still to come, and the name of the borrow of the array.
 ///
-/// An iterator allocates nothing, and neither does any of its steps.
+/// Neither making an iterator nor any of its steps allocates.
 #[derive(Drop)]
 pub struct IndexedIterMut<'a, A, D: Lengths> {
     places: Places<'a, A, D>,
@@ -35,8 +36,8 @@ impl<'a, A, D: Lengths> Model for IndexedIterMut<'a, A, D> {
 }
 
 impl<S: DataMut, D: Dimension> ArrayBase<S, D> {
-    /// The cells to write to, in row order, whatever the strides, each with the pattern of its index
-    /// list. The array keeps its lengths.
+    /// An iterator over the cells in row order, to write to, whatever the strides, each with its index list as a pattern. The array keeps
+    /// its lengths.
     ///
     /// ```
     /// for ((i, j), cell) in array.indexed_iter_mut() {

@@ -1,4 +1,4 @@
-//! Iterators that give the cells of an array themselves.
+//! The iterator that moves the cells out of an array.
 
 ghost use Rattle.std.specs.Prelude.{◌≡◌, ◌⊎◌, ◌<◌, ◌^◌, length, IfOk, IfSome, IsOk};
 ghost use Rattle.std.specs.Iterator.{UpTo, YieldsFirst, item_count};
@@ -15,10 +15,10 @@ use std::iter::ExactSizeIterator;
 use std::marker::Model;
 use std::vec;
 
-/// The cells of an array that are still to come, in row order, each moved out of it.
+/// The iterator over the cells of an array in row order, each moved out of it. A contract sees it as the list of the cells still to come.
 ///
-/// An iterator allocates nothing, and neither does any of its steps. Its end drops each element that was not moved
-/// out, also those that the array hid.
+/// Neither making an iterator nor any of its steps allocates. When it is dropped, so is each element that was not moved out, also those
+/// that the array hid.
 #[derive(Drop)]
 pub struct IntoIter<A, D: Lengths> {
     source: Source<A, D>,
@@ -69,11 +69,11 @@ impl<A: Drop, D: Lengths> IntoIterator for Array<A, D> {
 }
 
 impl<'a, A: Clone, D: Lengths> CowArray<'a, A, D> {
-    /// The cells in row order: the array's own, moved out of it, where it owns them, else clones of them.
-    /// A contract does not see whether it owns them, so that its own are moved out is not promised.
+    /// An iterator over the cells in row order: the array's own if it owns them, which are then moved out, else clones of them. Contracts
+    /// do not see whether the array owns its cells, so this contract says only that each item is the cell or a clone.
     ///
-    /// The error is allocation failure, for the clones; this array is then gone, and what it borrowed
-    /// stays.
+    /// The error is an allocation failure, for the clones, and is never reported if there are no cells. It drops the array, and leaves what
+    /// this borrowed as it was.
     ///
     /// ```
     /// let source = [1, 2];

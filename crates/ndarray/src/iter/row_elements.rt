@@ -67,7 +67,7 @@ impl<'a, A, D: Lengths> RowElements<'a, A, D> {
         self.row.len() + self.walk.len()
     }
 
-    /// The same once more.
+    /// A copy of it.
     pub(crate) fn again(&self) -> Self
         ensures { result ≡ self.now }
     {

@@ -11,7 +11,7 @@ use crate::order::Order;
 use crate::order::rows::BoxRows;
 use std::marker::Model;
 
-/// The runs of cells of a view that are still to come: one where all cells lie side by side, else those of the rows.
+/// The runs of cells of a view that are still to come: one if all cells lie side by side, else those of the rows.
 #[derive(Drop)]
 pub struct CellRuns<'a, A, D: Lengths> {
     is_first: bool,

@@ -1,4 +1,4 @@
-//! Updating the cells of an array where they are, each by a closure of its index list and its old value.
+//! Updates of the cells of an array in place, each by a closure of its index list and its old value.
 
 ghost use Rattle.ndarray.specs.Calls.{can_call2, call_gives2};
 ghost use Rattle.ndarray.specs.Grid.{IsGrid};
@@ -16,10 +16,10 @@ use crate::zip::updating::{CellCall, try_update};
 use std::alloc::AllocError;
 
 impl<A: Copy, S: DataMut<Elem = A>, D: Dimension> ArrayBase<S, D> {
-    /// Replaces each cell by what `f` returns at the pattern of its index list and its old value.
+    /// Replaces each cell by what `f` returns at its index list, which it takes as a pattern, and its old value.
     ///
-    /// There are `len()` calls, one for each index list, in row-major or in column-major order; without cells there is
-    /// none. Nothing is allocated.
+    /// Requires that these calls may be made, in row order and in column order. There is one for each index list, `len()` in all, in one of
+    /// the two orders throughout. Nothing is allocated.
     ///
     /// ```
     /// // [[1, 2], [3, 4]] becomes [[1, 3], [13, 15]]

@@ -1,4 +1,4 @@
-//! Vectors of what an iterator that knows its length gives.
+//! Vectors of the items of an iterator that knows its length.
 
 ghost use Rattle.std.specs.Prelude.{◌≡◌, List, IfOk, IsOk, length, map};
 ghost use Rattle.std.specs.Iterator.{ActsAs, CallableOnAll, Drains, size};
@@ -8,9 +8,10 @@ ghost use Rattle.ndarray.specs.Collected.{GivesEach};
 use std::alloc::{AllocError, Global};
 use std::iter::ExactSizeIterator;
 
-/// A vector of the items that are still to come, in their order.
+/// A vector of the items that an iterator has still to yield, in their order.
 ///
-/// Its memory is reserved once, before the first step. The error is allocation failure; no step was taken then.
+/// Requires that the iterator may be stepped to its end. The vector's memory is reserved once, before the first step. The error is an
+/// allocation failure; no step was taken then. It is never reported if there are no items.
 ///
 /// ```
 /// let view = ArrayView::from_shape((2, 2), &[1, 2, 3, 4])?;
@@ -31,10 +32,11 @@ where
     Ok(items)
 }
 
-/// A vector of what a function gives for each item that is still to come, in their order.
+/// A vector of what `f` returns for each item that an iterator has still to yield, in their order.
 ///
-/// Its memory is reserved once, before the first step. The error is allocation failure; no step was taken then, and
-/// the function was not called.
+/// Requires that the iterator may be stepped to its end, and that `f` may be called on each item. The vector's memory is reserved once,
+/// before the first step. The error is an allocation failure; no step was taken then, and `f` was not called. It is never reported if there
+/// are no items.
 ///
 /// ```
 /// let view = ArrayView::from_shape((2, 2), &[1, 2, 3, 4])?;

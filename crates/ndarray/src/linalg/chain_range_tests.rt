@@ -1,4 +1,4 @@
-//! Whether products of three and of four arrays of integers stay in their type.
+//! Tests whether products of three and of four arrays of integers are in the range of their type.
 
 ghost use Rattle.std.specs.Prelude.{◌≢◌, ◌↔◌, IfErr, IfOk, IsTrue, slice_index};
 ghost use Rattle.ndarray.specs.ChainRanges.{HasChainInRange, HasMixedProductInRange, MixedProductHasCells};
@@ -17,13 +17,13 @@ use crate::linalg::products::Dot;
 use crate::linalg::range_tests::{rows_and_columns_fit, rows_fit};
 use std::alloc::{AllocError, Global};
 
-/// Whether `mat_vec_chain(alloc, &a, &b, &x)` may be asked for: the lengths are those that [`chain_ok`] tests; and, where `a` has
-/// rows, for each row of `b` the absolute values of its products with `x` add up to at most the type's greatest number, and so do,
-/// for each row of `a`, those of its products with Bx.
+/// Whether `mat_vec_chain(alloc, &a, &b, &x)` may be called: the lengths agree, as [`chain_ok`] tests; and, if `a` has rows, the absolute
+/// values of the products of each row of `b` with `x`, and those of each row of `a` with the vector Bx, add up to at most the type's
+/// greatest number.
 ///
-/// Requires nothing. It may say no where the product could be taken, as where large products of both signs are added. The error is
-/// allocation failure, of the vector Bx. It is reported only if the lengths agree, the products of `b` and `x` are in range, and
-/// `a` and `b` have rows.
+/// Requires nothing. It may return `false` although the call may be made, as for large products of both signs. The error is an allocation
+/// failure, for the vector Bx. It is reported only if the lengths agree, the absolute values of the products of each row of `b` with `x`
+/// add up to a number of the type, and `a` and `b` have rows.
 ///
 /// ```
 /// if chain_fits(alloc, &a, &b, &x)? {
@@ -80,12 +80,13 @@ fn chain_sums_fit<A: IntegerScalar>(
     Ok(rows_fit(a, &y.view()))
 }
 
-/// Whether `kron_dot(alloc, &a, &b, &c, &d)` may be asked for: the lengths are those that [`kron_dot_ok`] tests; and, where the result has
-/// cells, for each row of `a` and column of `c`, and for each row of `b` and column of `d`, the absolute values of the products add up
-/// to at most the type's greatest number, and the type has the product of each cell of AC and each of BD.
+/// Whether `kron_dot(alloc, &a, &b, &c, &d)` may be called: the lengths agree, as [`kron_dot_ok`] tests; and, if the result has cells, for
+/// each row of `a` and column of `c`, and for each row of `b` and column of `d`, the absolute values of the products add up to at most the
+/// type's greatest number, and the product of each cell of AC and each of BD is in the type's range.
 ///
-/// Requires nothing. It may say no where the product could be taken, as where large products of both signs are added. The error is
-/// allocation failure, of AC and BD. It is reported only if the lengths agree, the inner sums are in range, and the result has cells.
+/// Requires nothing. It may return `false` although the call may be made, as for large products of both signs. The error is an allocation
+/// failure, for AC or BD. It is reported only if the lengths agree, the absolute values of the products in each inner sum of AC and of BD
+/// add up to a number of the type, and the result has cells.
 ///
 /// ```
 /// if kron_dot_fits(alloc, &a, &b, &c, &d)? {

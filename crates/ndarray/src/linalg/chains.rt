@@ -1,4 +1,4 @@
-//! Products of three and of four arrays, in the order that makes the smaller arrays.
+//! Products of three and of four arrays, in the order that needs the smaller intermediate arrays.
 
 ghost use Rattle.std.specs.Prelude.{◌≡◌, ◌≢◌, ◌↔◌, ◌*◌, ◌∷◌, [], IfOk, IsOk, IsTrue, slice_index};
 ghost use Rattle.ndarray.specs.Chains.{HasColumn, HasMatrix, ShapesChain, ShapesMultiplyInPairs};
@@ -16,11 +16,10 @@ use crate::linalg::kronecker::{kron, lengths_multiply};
 use crate::linalg::products::{Dot, dot_ok};
 use std::alloc::{AllocError, Global};
 
-/// Whether two matrices and a vector are of lengths (m, k), (k, n) and (n). The size of the product of the two matrices does not
-/// matter.
+/// Whether two matrices and a vector have the lengths (m, k), (k, n) and (n). The size of the product of the two matrices does not matter.
 ///
 /// ```
-/// // of lengths (2, 3), (3, 4) and (4)
+/// // with the lengths (2, 3), (3, 4) and (4)
 /// assert!(chain_ok(&a, &b, &x));
 /// ```
 pub fn chain_ok<S: Data, S2: Data, S3: Data>(
@@ -35,13 +34,13 @@ pub fn chain_ok<S: Data, S2: Data, S3: Data>(
     k == rows && n == x.raw_dim().into_pattern()
 }
 
-/// (AB)x, by A(Bx): two matrices times a vector, without the product of the matrices. Of lengths (m, k), (k, n) and (n) the
-/// vector has m cells.
+/// The product (AB)x of two matrices and a vector, computed as A(Bx), without the product of the matrices. If the lengths are (m, k),
+/// (k, n) and (n), the result has m cells.
 ///
-/// Requires these lengths, which [`chain_ok`] tests, and, where A has rows, that of the products of each inner sum of Bx and of A(Bx)
-/// every selection has its sum in range: of integers check both with [`chain_fits`](crate::linalg::chain_fits). Nothing is required of the
-/// size of AB, nor of the ranges of its cells. The error is allocation failure, which is never reported if the result has no cells;
-/// the arrays are as before.
+/// Requires such lengths, which [`chain_ok`] tests, and, if A has rows, that in each inner sum of Bx and of A(Bx) every selection of the
+/// products has its sum in range; for integers check both with [`chain_fits`](crate::linalg::chain_fits). Nothing is required of the size
+/// of AB, nor of the range of its cells. The error is an allocation failure, which leaves the arrays as they were, and is never reported if
+/// the result has no cells.
 ///
 /// ```
 /// // a = [[2]], b = [[i64::MAX]], x = [0]
@@ -68,12 +67,12 @@ pub fn mat_vec_chain<A: LinalgScalar, S: Data<Elem = A>, S2: Data<Elem = A>, S3:
     Dot::dot(a, alloc, &y)
 }
 
-/// Whether four matrices are of lengths (m, k), (p, q), (k, n) and (q, r), where the nonzero lengths of (m, n), of (p, r) and of
-/// (m * p, n * r) each multiply in whole numbers to at most `isize::MAX`.
+/// Whether four matrices have the lengths (m, k), (p, q), (k, n) and (q, r), and the nonzero lengths of each of the shapes (m, n), (p, r)
+/// and (m * p, n * r) multiply to at most `isize::MAX`.
 ///
 /// ```
 /// if kron_dot_ok(&a, &b, &c, &d) {
-///     // `kron_dot(alloc, &a, &b, &c, &d)`, where the sums are in range too
+/// // `kron_dot(alloc, &a, &b, &c, &d)`, if the sums and products are in range too
 /// }
 /// ```
 pub fn kron_dot_ok<S: Data, S2: Data, S3: Data, S4: Data>(
@@ -91,13 +90,13 @@ pub fn kron_dot_ok<S: Data, S2: Data, S3: Data, S4: Data>(
     dot_ok(a, c) && dot_ok(b, d) && lengths_multiply((m, n), (p, r))
 }
 
-/// (A kron B)(C kron D), by AC kron BD: without the two Kronecker products that are multiplied. Of lengths (m, k), (p, q),
-/// (k, n) and (q, r) the matrix has lengths (m * p, n * r).
+/// The product (A kron B)(C kron D) of two Kronecker products, computed as AC kron BD, without those two. If the lengths are (m, k),
+/// (p, q), (k, n) and (q, r), the result has the lengths (m * p, n * r).
 ///
-/// Requires these lengths, with AC, BD and the result within the limit, which [`kron_dot_ok`] tests; where the result has cells, that of
-/// the products of each inner sum of AC and of BD every selection has its sum in range; and that each product of a cell of AC and one
-/// of BD is in range: of integers check all with [`kron_dot_fits`](crate::linalg::kron_dot_fits). Nothing is required of A kron B
-/// and of C kron D. The error is allocation failure, which is never reported if the result has no cells; the arrays are as before.
+/// Requires such lengths, and that AC, BD and the result are not too large, which [`kron_dot_ok`] tests; if the result has cells, that in
+/// each inner sum of AC and of BD every selection of the products has its sum in range; and that each product of a cell of AC and one of BD
+/// is in range. For integers check all this with [`kron_dot_fits`](crate::linalg::kron_dot_fits). Nothing is required of A kron B and of C
+/// kron D. The error is an allocation failure, which leaves the arrays as they were, and is never reported if the result has no cells.
 ///
 /// ```
 /// // a = [[i64::MAX]], b = [[i64::MAX]], c = [[0]], d = [[0]]

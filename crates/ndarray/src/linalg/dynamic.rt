@@ -1,4 +1,4 @@
-//! Products of arrays whose number of axes is told as the program runs.
+//! Products of arrays whose number of axes is known only at run time.
 
 ghost use Rattle.std.specs.Prelude.{◌≡◌, ◌+◌, ◌-◌, ◌≤◌, All, length};
 ghost use Rattle.ndarray.specs.Index.{size};
@@ -42,7 +42,7 @@ impl<A: LinalgScalar, S: Data<Elem = A>, S2: Data<Elem = A>> Dot<ArrayBase<S2, I
     }
 }
 
-/// The product of two views of two axes.
+/// The product of two two-dimensional views.
 fn product_of_matrices<A: LinalgScalar>(
     alloc: Global,
     a: &ArrayView<'_, A, Ix2>,

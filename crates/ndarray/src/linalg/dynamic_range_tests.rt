@@ -1,4 +1,5 @@
-//! Whether the entries of a product of integers stay in their type, where the number of axes is known only as the program runs.
+//! Tests whether the entries of a product of integers are in the range of their type, for arrays whose number of axes is known only at run
+//! time.
 
 ghost use Rattle.std.specs.Prelude.{◌≡◌, ◌↔◌, All, IsTrue};
 ghost use Rattle.ndarray.specs.DotRanges.{HasInnerMagnitudeInRange, HasInnerSumInRange, HasLaneMagnitudesInRange};

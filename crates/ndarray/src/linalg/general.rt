@@ -1,4 +1,4 @@
-//! General products: what an array holds times a number, plus a product times another. They allocate nothing.
+//! General products: a multiple of the old array plus a multiple of a product. They allocate nothing.
 
 ghost use Rattle.std.specs.Prelude.{◌≡◌, ◌↔◌, ◌≤◌, IsTrue, MatchResult, Some};
 ghost use Rattle.std.specs.Mem.{type_size};
@@ -19,11 +19,11 @@ use crate::zip::updating::{CellCall, try_update};
 use std::alloc::AllocError;
 use std::mem::size_of_val;
 
-/// Whether the shapes are (m, k), (k, n) and (m, n), as [`general_mat_mul`] requires.
+/// Whether the shapes of three matrices are (m, k), (k, n) and (m, n), as [`general_mat_mul`] requires.
 ///
 /// ```
 /// if mat_mul_ok(&a, &b, &c) {
-///     // `general_mat_mul(2, &a, &b, 3, &mut c)`, where the sums are in range too
+/// // `general_mat_mul(2, &a, &b, 3, &mut c)`, if the sums are in range too
 /// }
 /// ```
 pub fn mat_mul_ok<S1: Data, S2: Data, S3: Data>(
@@ -39,11 +39,11 @@ pub fn mat_mul_ok<S1: Data, S2: Data, S3: Data>(
     k == l && rows == m && columns == n
 }
 
-/// Whether the shapes are (m, k), (k) and (m), as [`general_mat_vec_mul`] requires.
+/// Whether the shapes of a matrix and two vectors are (m, k), (k) and (m), as [`general_mat_vec_mul`] requires.
 ///
 /// ```
 /// if mat_vec_ok(&a, &x, &y) {
-///     // `general_mat_vec_mul(2, &a, &x, 3, &mut y)`, where the sums are in range too
+/// // `general_mat_vec_mul(2, &a, &x, 3, &mut y)`, if the sums are in range too
 /// }
 /// ```
 pub fn mat_vec_ok<S1: Data, S2: Data, S3: Data>(
@@ -57,15 +57,16 @@ pub fn mat_vec_ok<S1: Data, S2: Data, S3: Data>(
     x.raw_dim().into_pattern() == k && y.raw_dim().into_pattern() == m
 }
 
-/// Leaves in each cell of `c` its old value times `beta`, plus `alpha` times the product of `a` and `b` there. Where `beta`
-/// is zero, the old values do not count and are not multiplied.
+/// Sets `c` to `alpha` times the product of `a` and `b` plus `beta` times the old `c`. If `beta` is zero, the old values are not multiplied
+/// and may be any.
 ///
-/// Requires shapes (m, k), (k, n) and (m, n), which [`mat_mul_ok`] tests. Requires that of the products of each inner sum
-/// every selection has its sum in range, and that `alpha` times each inner sum is in range; where `beta` is not zero, also
-/// that each old value times `beta` is, and the two added. It allocates nothing.
+/// Requires the shapes (m, k), (k, n) and (m, n), which [`mat_mul_ok`] tests. Requires that in each inner sum every selection of the
+/// products has its sum in range, and that `alpha` times each inner sum is in range; if `beta` is not zero, also that each old value times
+/// `beta`, and the sum of the two, is in range. For integers check all this with [`mat_mul_fits`](crate::linalg::mat_mul_fits). It
+/// allocates nothing.
 ///
 /// ```
-/// // a = [[1, 2], [0, 1]], b = [[1, 2], [2, 3]], and c has four times 1
+/// // a = [[1, 2], [0, 1]], b = [[1, 2], [2, 3]], c = [[1, 1], [1, 1]]
 /// general_mat_mul(2, &a, &b, 3, &mut c);
 /// // c = [[13, 19], [7, 9]]
 /// ```
@@ -89,11 +90,11 @@ where
     accumulate_product(alpha, &a.view(), &b.view(), beta, c);
 }
 
-/// Leaves in each cell of `y` its old value times `beta`, plus `alpha` times the product of `a` and `x` there. Where `beta`
-/// is zero, the old values do not count and are not multiplied.
+/// Sets `y` to `alpha` times the product of `a` and `x` plus `beta` times the old `y`. If `beta` is zero, the old values are not multiplied
+/// and may be any.
 ///
-/// Requires shapes (m, k), (k) and (m), which [`mat_vec_ok`] tests, and the ranges that [`general_mat_mul`] requires. It
-/// allocates nothing.
+/// Requires the shapes (m, k), (k) and (m), which [`mat_vec_ok`] tests, and of the sums and products what [`general_mat_mul`] requires. For
+/// integers check all this with [`mat_vec_fits`](crate::linalg::mat_vec_fits). It allocates nothing.
 ///
 /// ```
 /// // a = [[1, 2], [0, 1]], x = [1, 1], y = [1, 1]
@@ -120,8 +121,8 @@ where
     accumulate_column(alpha, &a.view(), &x.view(), beta, y);
 }
 
-/// [`general_mat_mul`] of views: by the rows of the right matrix where these are close, else by the columns of the left one where those
-/// are, else by inner sums.
+/// [`general_mat_mul`] of views: by the rows of the right matrix if these are read fast, else by the columns of the left one if those are,
+/// else by inner sums.
 fn accumulate_product<A: LinalgScalar, S: DataMut<Elem = A>>(
     alpha: A,
     left: &ArrayView<'_, A, Ix2>,
@@ -190,8 +191,8 @@ fn accumulate_inner_sums<A: LinalgScalar, S: DataMut<Elem = A>>(
     accumulate(alpha, sums, beta, array);
 }
 
-/// [`general_mat_vec_mul`] of views: as the product of the vector and the transposed matrix where the columns of the matrix are close, else
-/// by inner sums.
+/// [`general_mat_vec_mul`] of views: as the product of the vector and the transposed matrix if the columns of the matrix are read fast,
+/// else by inner sums.
 fn accumulate_column<A: LinalgScalar, S: DataMut<Elem = A>>(
     alpha: A,
     left: &ArrayView<'_, A, Ix2>,

@@ -1,4 +1,4 @@
-//! Whether what general products of integers leave in an array is in range.
+//! Tests whether the sums and products of general products of integers are in the range of their type.
 
 ghost use Rattle.std.specs.Prelude.{◌≡◌, ◌↔◌, ◌∷◌, [], IsTrue, pos, slice_index};
 ghost use Rattle.ndarray.specs.Integers.{int_products, int_sums};
@@ -14,12 +14,12 @@ use crate::elements::{IntegerElem, IntegerScalar};
 use crate::linalg::general::{mat_mul_ok, mat_vec_ok};
 use crate::reduce::checked_dot;
 
-/// Whether `general_mat_mul(alpha, &a, &b, beta, &mut c)` may be asked for: the shapes are those that [`mat_mul_ok`] tests; for each row
-/// of `a` and column of `b` the absolute values of the products add up to at most the type's greatest number; and the type has `alpha`
-/// times each inner sum and, where `beta` is not zero, each old value of `c` times `beta`, and the two added.
+/// Whether `general_mat_mul(alpha, &a, &b, beta, &mut c)` may be called: the shapes agree, as [`mat_mul_ok`] tests; for each row of `a` and
+/// column of `b` the absolute values of the products add up to at most the type's greatest number; `alpha` times each inner sum is in the
+/// type's range; and, if `beta` is not zero, so are each old value of `c` times `beta`, and the sum of the two.
 ///
-/// Requires nothing, and the test allocates nothing. It may say no where the product could be taken, as where large products of both
-/// signs are added.
+/// Requires nothing, and the test allocates nothing. It may return `false` although the call may be made, as for large products of both
+/// signs.
 ///
 /// ```
 /// if mat_mul_fits(2, &a, &b, 3, &c) {
@@ -49,10 +49,11 @@ where
     mat_mul_ok(a, b, c) && columns_accumulate(alpha, &a.view(), &b.view(), beta, &c.view())
 }
 
-/// Whether `general_mat_vec_mul(alpha, &a, &x, beta, &mut y)` may be asked for: the shapes are those that [`mat_vec_ok`] tests, and the
-/// ranges those that [`mat_mul_fits`] does, of each row of `a` and `x`.
+/// Whether `general_mat_vec_mul(alpha, &a, &x, beta, &mut y)` may be called: the shapes agree, as [`mat_vec_ok`] tests, and the sums and
+/// products are in range, as [`mat_mul_fits`] tests, with `x` as the only column.
 ///
-/// Requires nothing, and the test allocates nothing.
+/// Requires nothing, and the test allocates nothing. It may return `false` although the call may be made, as for large products of both
+/// signs.
 ///
 /// ```
 /// if mat_vec_fits(2, &a, &x, 3, &y) {
@@ -158,7 +159,7 @@ fn entry_accumulates<A: IntegerScalar>(
     scaled_sum_fits(alpha, sum, beta, old)
 }
 
-/// Whether the type has `alpha` times a sum and, where `beta` is not zero, a number times `beta`, and the two added.
+/// Whether the type has `alpha` times a sum and, if `beta` is not zero, a number times `beta`, and the two added.
 fn scaled_sum_fits<A: IntegerElem>(alpha: A, sum: A, beta: A, old: A) -> bool
     ensures { IsTrue result ↔ CanAddScaled (whole_numbers A.value A.fits) (A.value alpha) (A.value beta) (A.value old) (A.value sum) }
 {

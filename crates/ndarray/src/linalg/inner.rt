@@ -14,7 +14,7 @@ use crate::elements::sums::add_product;
 use crate::linalg::entries::Entries;
 use crate::unrolled::unrolled_dot;
 
-/// The sum of the products of two vectors' cells, place by place, and zero where they have none. It allocates nothing.
+/// The sum of the products of two vectors' cells, place by place, and zero if they have none. It allocates nothing.
 pub(crate) fn inner<A: LinalgScalar>(x: &ArrayView<'_, A, Ix1>, y: &ArrayView<'_, A, Ix1>) -> A
     requires same { length x.now.cells ≡ length y.now.cells }
     requires sums { IsSummable A.addition A.InRange (products_of A.multiplication A.meaning x.now.cells y.now.cells) }
@@ -23,7 +23,7 @@ pub(crate) fn inner<A: LinalgScalar>(x: &ArrayView<'_, A, Ix1>, y: &ArrayView<'_
     inner_of(cells_of(x.view()), cells_of(y.view()))
 }
 
-/// The same of two lists of cells.
+/// The same for two lists of cells.
 #[inline(always)]
 pub(crate) fn inner_of<A: LinalgScalar>(left: Strided<'_, A>, right: Strided<'_, A>) -> A
     requires same { length left ≡ length right }

@@ -19,12 +19,12 @@ use crate::elements::sums::multiply;
 use crate::order::Order;
 use std::alloc::{AllocError, Global};
 
-/// Whether two matrices have a Kronecker product: the lengths of the result that are not 0, which are those of the
-/// two multiplied, multiply in whole numbers to at most `isize::MAX`.
+/// Whether two matrices have a Kronecker product: the nonzero lengths of the result, which are the products of theirs, multiply to at most
+/// `isize::MAX`.
 ///
 /// ```
 /// if kron_ok(&a, &b) {
-///     // `kron(alloc, &a, &b)`, where the products are in range too
+/// // `kron(alloc, &a, &b)`, if the products are in range too
 /// }
 /// ```
 pub fn kron_ok<S: Data, S2: Data>(a: &ArrayBase<S, Ix2>, b: &ArrayBase<S2, Ix2>) -> bool
@@ -48,11 +48,12 @@ pub(crate) fn lengths_multiply(left: (usize, usize), right: (usize, usize)) -> b
     Ix2(rows, columns).size_ok()
 }
 
-/// The Kronecker product of two matrices: a block for each cell of `a`, which is that cell times `b`. Of lengths (l, n) and (m, r)
-/// it has the lengths (l * m, n * r), and its cell at (i * m + k, j * r + h) is a(i, j) times b(k, h).
+/// The Kronecker product of two matrices: it has a block for each cell of `a`, which is that cell times `b`. If they have the lengths
+/// (l, n) and (m, r), it has the lengths (l * m, n * r), and its cell at (i * m + k, j * r + h) is a(i, j) times b(k, h).
 ///
-/// Requires a result within the limit, which [`kron_ok`] tests, and that each product of a cell of `a` and one of `b` is in
-/// range: of integers check both with [`kron_fits`](crate::linalg::kron_fits). The error is allocation failure.
+/// Requires that the nonzero lengths of the result multiply to at most `isize::MAX`, which [`kron_ok`] tests, and that each product of a
+/// cell of `a` and one of `b` is in range; for integers check both with [`kron_fits`](crate::linalg::kron_fits). The error is an allocation
+/// failure, and is never reported if the result has no cells.
 ///
 /// ```
 /// // a = [[1, 2]], b = [[3], [4]]
@@ -147,7 +148,7 @@ fn push_multiples<A: LinalgScalar>(
     }
 }
 
-/// The same of cells that lie side by side.
+/// The same for cells that lie side by side.
 fn push_slice<A: LinalgScalar>(products: &mut ArrayBuilder<A, Ix2>, factor: A, cells: &[A])
     requires can { All (CanMultiply A.Valued factor) cells.now }
     requires room { length products.old.cells + length cells.now ≤ size products.old.lengths }

@@ -1,4 +1,4 @@
-//! Whether the cells of a Kronecker product of integers stay in their type.
+//! A test whether the cells of a Kronecker product of integers are in the range of their type.
 
 ghost use Rattle.std.specs.Prelude.{◌↔◌, IsTrue};
 ghost use Rattle.ndarray.specs.Limits.{IsWithinLimit};
@@ -12,10 +12,10 @@ use crate::elements::{IntegerElem, IntegerScalar};
 use crate::linalg::kronecker::kron_ok;
 use crate::reduce::small_products::each_product_fits;
 
-/// Whether two matrices of integers have a Kronecker product: its lengths are within the limit, as [`kron_ok`] tests, and the type has
-/// the product of each cell of `a` and each of `b`. Then `kron(alloc, &a, &b)` may be asked for.
+/// Whether `kron(alloc, &a, &b)` may be called for two matrices of integers: the result is not too large, as [`kron_ok`] tests, and the
+/// product of each cell of `a` and each of `b` is in the type's range.
 ///
-/// Requires nothing, and the test allocates nothing. It walks each matrix once, and none where the product has no cells.
+/// Requires nothing, and the test allocates nothing. It goes through each matrix once, and through none if the product has no cells.
 ///
 /// ```
 /// if kron_fits(&a, &b) {

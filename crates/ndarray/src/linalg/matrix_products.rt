@@ -1,4 +1,4 @@
-//! Products with a matrix, in the order of loops that goes through memory in small steps.
+//! Products with a matrix, in the order of loops that takes the smaller steps through memory.
 
 ghost use Rattle.std.specs.Prelude.{◌≡◌, ◌∷◌, [], ◌≤◌, ◌*◌, map, slice_index};
 ghost use Rattle.std.specs.Vec.{vec_capacity};
@@ -31,7 +31,7 @@ pub(crate) fn row_product<A: LinalgScalar>(
     Ok(ArrayBase::from_elements(Ix1(columns), Order::RowMajor, sums))
 }
 
-/// The product of two matrices. Where the rows of the right one lie far apart and the columns of the left one close, it is the
+/// The product of two matrices. If the columns of the left one are read fast and the rows of the right one are not, it is computed as the
 /// transpose of the product of the transposed matrices.
 pub(crate) fn matrix_product<A: LinalgScalar>(
     alloc: Global,
@@ -50,7 +50,7 @@ pub(crate) fn matrix_product<A: LinalgScalar>(
     }
 }
 
-/// The same by the product of the transposed matrices.
+/// The product of two matrices, computed by the product of the transposed ones.
 fn transposed_product<A: LinalgScalar>(
     alloc: Global,
     left: &ArrayView<'_, A, Ix2>,
@@ -65,7 +65,7 @@ fn transposed_product<A: LinalgScalar>(
     Ok(transposed.reversed_axes())
 }
 
-/// The same row by row.
+/// The product of two matrices, computed row by row.
 fn product_by_rows<A: LinalgScalar>(
     alloc: Global,
     left: &ArrayView<'_, A, Ix2>,

@@ -51,7 +51,7 @@ pub(crate) fn accumulate_matrix<A: LinalgScalar, S: DataMut<Elem = A>>(
     }
 }
 
-/// The same of the columns from one on, as many as a part of the right matrix has, row by row.
+/// The same for the columns from one on, as many as a part of the right matrix has, row by row.
 fn accumulate_columns<A: LinalgScalar, S: DataMut<Elem = A>>(
     alpha: A,
     left: &ArrayView<'_, A, Ix2>,
@@ -136,7 +136,7 @@ fn accumulate_run<A: LinalgScalar, S: DataMut<Elem = A>, D: Lengths>(
     accumulate_sums(alpha, sums, beta, array, index, axis, first);
 }
 
-/// The same of sums that are made.
+/// The same for sums that are made.
 fn accumulate_sums<A: LinalgScalar, S: DataMut<Elem = A>, D: Lengths>(
     alpha: A,
     sums: &[A],
@@ -182,7 +182,7 @@ fn accumulate_cell<A: LinalgScalar, S: DataMut<Elem = A>, D: Lengths>(
     *cell = scaled_sum(alpha, sum, beta, *cell);
 }
 
-/// A value times `beta` plus `alpha` times a sum; where `beta` is zero, `alpha` times the sum alone.
+/// A value times `beta` plus `alpha` times a sum; if `beta` is zero, `alpha` times the sum alone.
 #[inline(always)]
 pub(crate) fn scaled_sum<A: LinalgScalar>(alpha: A, sum: A, beta: A, old: A) -> A
     requires { CanAddScaled A.Valued (A.meaning alpha) (A.meaning beta) (A.meaning old) (A.meaning sum) }

@@ -14,30 +14,30 @@ use crate::linalg::matrix_products::{matrix_product, row_product};
 use arrayvec::ArrayVec;
 use std::alloc::{AllocError, Global};
 
-/// What has a product with `Rhs`: vectors and matrices, with vectors and matrices, and arrays of `IxDyn` with an axis or more.
+/// Arrays that have a product with `Rhs`: vectors and matrices with vectors and matrices, and arrays of `IxDyn` with arrays of `IxDyn`.
 pub trait Dot<Rhs> {
-    /// The product: an element for two vectors, else an array or allocation failure.
+    /// The product: an element for two vectors, else an array or an allocation failure.
     type Output;
 
-    // Whether the product may be asked for.
+    // Whether `dot` may be called.
     ghost can_dot: { Self → Rhs → Type 0 };
 
     // Whether this is the product.
     ghost dot_gives: { Self → Rhs → Self.Output → Type 0 };
 
-    /// The product of the two, with this one on the left: at row i and column j the sum of the products of row i of the left
-    /// and column j of the right, and zero where the inner length is 0. A vector is one row on the left and one column on the
-    /// right, and the product has no axis for it: of an (m, k) and a (k, n) matrix it has lengths (m, n), of a matrix and a
-    /// vector (m), of a vector and a matrix (n), and of two vectors it is a number (an array of no axes where the vectors are
-    /// `IxDyn`).
+    /// The product of the two, with this one on the left: at row i and column j it has the sum of the products of the cells of row i of the
+    /// left and of column j of the right, which is zero if the inner length is 0. A vector on the left is taken as one row, one on the
+    /// right as one column, and the product has no axis for it. The product of an (m, k) and a (k, n) matrix has the lengths (m, n), that
+    /// of a matrix and a vector (m), and that of a vector and a matrix (n). That of two vectors is a number, or, if they are of `IxDyn`, an
+    /// array without axes.
     ///
-    /// Of `IxDyn` each side may have any number of axes but none. The left's last axis meets the right's last but one, or its
-    /// only one; the product has the left's other axes, then the right's other axes. Each cell is the sum of the products of the
-    /// two lanes that meet there: of a (2, 3, 4) and a (5, 4, 6) array the product has lengths (2, 3, 5, 6).
+    /// Arrays of `IxDyn` may have any number of axes, but at least one. The left's last axis meets the right's last but one, or its only
+    /// one; the product has the left's other axes, then the right's other axes. Each cell is the sum of the products of the two lanes that
+    /// meet there. The product of a (2, 3, 4) and a (5, 4, 6) array has the lengths (2, 3, 5, 6).
     ///
-    /// Requires shapes that multiply, which [`dot_ok`] tests, and that of the products of each inner sum every selection
-    /// has its sum in range, for which `dot_fits` of each row and column is enough (of each two lanes that meet, of `IxDyn`). Of
-    /// integers [`entries_fit`](crate::linalg::entries_fit) tests both.
+    /// Requires that the shapes agree, which [`dot_ok`] tests, and that in each inner sum every selection of the products has its sum in
+    /// range. For integers [`entries_fit`](crate::linalg::entries_fit) tests both. The error is an allocation failure, and is never
+    /// reported if the product has no cells.
     ///
     /// ```
     /// let a = ArrayView::from_shape(IxDyn(&[2, 1, 2]), &[1i64, 2, 3, 4])?;
@@ -51,12 +51,11 @@ pub trait Dot<Rhs> {
         ensures { dot_gives self.now rhs.now result };
 }
 
-/// Whether two arrays have a product: each has an axis, the last length of the left is the last but one of the right (its only
-/// one where it has one axis), and the product has at most 32 axes, whose lengths that are not 0 multiply to at most
-/// `isize::MAX`.
+/// Whether the shapes of two arrays agree, so that they have a product: each has an axis, the last length of the left is the last but one
+/// of the right, or its only one, and the product has at most 32 axes, whose nonzero lengths multiply to at most `isize::MAX`.
 ///
 /// ```
-/// assert!(dot_ok(&a, &b)); // of lengths (2, 3) and (3, 4)
+/// assert!(dot_ok(&a, &b)); // with the lengths (2, 3) and (3, 4)
 /// assert!(!dot_ok(&b, &a));
 /// ```
 pub fn dot_ok<S: Data, S2: Data, D: Lengths, E: Lengths>(
@@ -158,8 +157,8 @@ impl<A: LinalgScalar, S: Data<Elem = A>, S2: Data<Elem = A>> Dot<ArrayBase<S2, I
 }
 
 impl<S: Data> ArrayBase<S, Ix1> {
-    /// The product with a vector or a matrix on the right, as [`Dot::dot`]. With a vector it is the sum of the products of
-    /// their cells, and allocates nothing.
+    /// The product with a vector or a matrix on the right; [`Dot::dot`] says what it requires and returns. With a vector it is the sum of
+    /// the products of their cells, and allocates nothing.
     ///
     /// ```
     /// let (x, y) = (ArrayView::from_shape(2, &[1i64, 2])?, ArrayView::from_shape(2, &[3i64, 4])?);
@@ -178,7 +177,7 @@ impl<S: Data> ArrayBase<S, Ix1> {
 }
 
 impl<S: Data> ArrayBase<S, Ix2> {
-    /// The product with a vector or a matrix on the right, as [`Dot::dot`].
+    /// The product with a vector or a matrix on the right; [`Dot::dot`] says what it requires and returns.
     ///
     /// ```
     /// let a = ArrayView::from_shape((2, 2), &[1i64, 2, 0, 1])?;
@@ -196,10 +195,10 @@ impl<S: Data> ArrayBase<S, Ix2> {
 }
 
 impl<S: Data> ArrayBase<S, IxDyn> {
-    /// The product with an array on the right, of any number of axes from one on both sides, as [`Dot::dot`].
+    /// The product with an array on the right; both have at least one axis. [`Dot::dot`] says what it requires and returns.
     ///
     /// ```
-    /// // a of (2, 1, 2) is [[[1, 2]], [[3, 4]]], and b is [[1, 0], [1, 1]]
+    /// // a = [[[1, 2]], [[3, 4]]], b = [[1, 0], [1, 1]]
     /// a.dot(alloc, &b)?; // [[[3, 2]], [[7, 4]]]
     /// ```
     pub fn dot<Rhs>(&self, alloc: Global, rhs: &Rhs) -> <Self as Dot<Rhs>>::Output

@@ -1,4 +1,4 @@
-//! Whether the entries of a product of integers stay in their type: `dot_fits` of each row and column.
+//! Tests whether the entries of a product of integers are in the range of their type: `dot_fits` of each row and column.
 
 ghost use Rattle.std.specs.Prelude.{◌≡◌, ◌↔◌, IsTrue, pos, length, slice_index};
 ghost use Rattle.ndarray.specs.Grid.{IsGrid};
@@ -17,28 +17,33 @@ use crate::reduce::dot_fits;
 use crate::reduce::range_tests::inner_stays_in_range;
 use crate::reduce::small_products::have_small_products;
 
-/// What has a product with `Rhs` whose range can be tested: vectors and matrices of integers, with vectors and matrices, and arrays
-/// of integers of `IxDyn`.
+/// Arrays of integers that have a product with `Rhs`, so that its range can be tested: vectors and matrices with vectors and matrices, and
+/// arrays of `IxDyn` with arrays of `IxDyn`.
 pub trait IntegerDot<Rhs>: Dot<Rhs> {
-    // Whether the shapes multiply, and of each row and column, or each two lanes that meet, the absolute values of the products add up to a number of the type.
+    // Whether the shapes agree, and for each row and column, or each two lanes that meet, the absolute values of the products add up to a
+    // number of the type.
     ghost entries_in_range: { Self → Rhs → Type 0 };
 
-    /// Whether `self.dot(rhs)` may be asked for, by [`dot_fits`] of each row and column, or of each two lanes that meet, as
-    /// [`entries_fit`].
+    /// Whether `self.dot(alloc, rhs)` may be called, as [`entries_fit`] tests. Requires nothing.
+    ///
+    /// ```
+    /// if a.entries_fit(&b) {
+    ///     let product = a.dot(alloc, &b)?;
+    /// }
+    /// ```
     fn entries_fit(&self, rhs: &Rhs) -> bool
         ensures exact { IsTrue result ↔ entries_in_range self.now rhs.now }
         ensures defined { IsTrue result → Self.can_dot self.now rhs.now };
 }
 
-/// Whether two vectors or matrices of integers have a product, as [`dot_ok`] tests, and for each row of the left and column of
-/// the right the absolute values of the products add up to at most the type's greatest number. Then `left.dot(alloc, right)`
-/// may be asked for.
+/// Whether `left.dot(alloc, right)` may be called for two vectors or matrices of integers: the shapes agree, as [`dot_ok`] tests, and for
+/// each row of the left and column of the right the absolute values of the products add up to at most the type's greatest number.
 ///
-/// Of arrays of `IxDyn`, which may have any number of axes, it is so of each lane of the left along its last axis and each lane of
-/// the right along its last axis but one, or its only one.
+/// For arrays of `IxDyn`, the rows are the lanes of the left along its last axis, and the columns the lanes of the right along its last
+/// axis but one, or its only one.
 ///
-/// Requires nothing, and the test allocates nothing. It may say no where the product could be taken, as where large products
-/// of both signs are added.
+/// Requires nothing, and the test allocates nothing. It may return `false` although `dot` may be called, as for large products of both
+/// signs.
 ///
 /// ```
 /// if entries_fit(&a, &b) {

@@ -34,7 +34,7 @@ pub(crate) fn push_row<A: LinalgScalar>(
     }
 }
 
-/// Whether a matrix is walked fast by rows: they are long, and their cells lie no farther apart than those of the columns.
+/// Whether a matrix is read fast row by row: the rows are long, and their cells lie no farther apart than those of the columns.
 pub(crate) fn has_close_rows<A>(matrix: &ArrayView<'_, A, Ix2>) -> bool {
     let (_, columns) = matrix.raw_dim().into_pattern();
     columns >= 8 && matrix.are_closer_along(1, 0)
@@ -152,7 +152,7 @@ fn add_four<A: LinalgScalar>(
     add_scaled(sums, d.number, d.cells);
 }
 
-/// The row as a slice, where its cells lie side by side.
+/// The row as a slice, if its cells lie side by side.
 #[inline(always)]
 fn in_slice<'a, A: LinalgScalar>(
     row: &ScaledRow<A, Strided<'a, A>>,
@@ -166,7 +166,7 @@ fn in_slice<'a, A: LinalgScalar>(
     })
 }
 
-/// The same of cells that lie side by side. So each sum is read and written once.
+/// The same for cells that lie side by side. So each sum is read and written once.
 fn add_four_slices<A: LinalgScalar>(
     sums: &mut [A],
     a: ScaledRow<A, &[A]>,
@@ -188,7 +188,7 @@ fn add_four_slices<A: LinalgScalar>(
     }
 }
 
-/// The same of as many places as four go into, and how many these are.
+/// The same for as many places as four go into, and how many these are.
 fn add_in_fours<A: LinalgScalar>(
     sums: &mut [A],
     a: &ScaledRow<A, &[A]>,
@@ -257,7 +257,7 @@ pub(crate) fn add_scaled<A: LinalgScalar>(sums: &mut [A], x: A, row: Strided<'_,
     }
 }
 
-/// The same of cells that lie side by side.
+/// The same for cells that lie side by side.
 fn add_scaled_slice<A: LinalgScalar>(sums: &mut [A], x: A, cells: &[A])
     requires { CanAddScaledRow A.Valued x sums.old cells.now }
     ensures { AddsScaledRow A.Valued x cells.now sums.old sums.new }
@@ -269,7 +269,7 @@ fn add_scaled_slice<A: LinalgScalar>(sums: &mut [A], x: A, cells: &[A])
     }
 }
 
-/// The same of cells that lie a step apart.
+/// The same for cells that lie a step apart.
 fn add_scaled_steps<A: LinalgScalar>(sums: &mut [A], x: A, row: Strided<'_, A>)
     requires { CanAddScaledRow A.Valued x sums.old row }
     ensures { AddsScaledRow A.Valued x row.entry sums.old sums.new }

@@ -1,4 +1,4 @@
-//! Adding an array times a number to another, and whether the results are in range.
+//! Adding a multiple of an array to another, and a test whether the results are in range.
 
 ghost use Rattle.std.specs.Prelude.{◌≡◌, ◌↔◌, ⊤, IsTrue, MatchResult};
 ghost use Rattle.ndarray.specs.Elementwise.{Assigns, CanAssign};
@@ -18,10 +18,11 @@ use crate::zip::updating::{CellCall, try_update};
 use std::alloc::AllocError;
 
 impl<A: LinalgScalar, S: DataMut<Elem = A>, D: Lengths> ArrayBase<S, D> {
-    /// Adds to each cell `alpha` times the cell of another array there, which is broadcast to the shape of this one.
+    /// Adds to each cell `alpha` times the cell of another array at the same index list, with the other array broadcast to the shape of
+    /// this one.
     ///
-    /// Requires that `rhs` broadcasts to this shape, which `rhs.broadcast(self.raw_dim())` tests, and that each product and
-    /// each sum is in range: of integers check both with [`scaled_add_fits`](Self::scaled_add_fits). It allocates nothing.
+    /// Requires that `rhs` broadcasts to this shape, which `rhs.broadcast(self.raw_dim())` tests, and that each product and each sum is in
+    /// range; for integers check both with [`scaled_add_fits`](Self::scaled_add_fits). It allocates nothing.
     ///
     /// ```
     /// // array = [[1, 2], [3, 4]], row = [1, 2]
@@ -57,8 +58,8 @@ impl<'b, A: LinalgScalar> CellCall<A, &'b A> for ScaledAddition<A> {
 }
 
 impl<A: IntegerScalar, S: Data<Elem = A>, D: Lengths> ArrayBase<S, D> {
-    /// Whether `self.scaled_add(alpha, &rhs)` may be asked for: `rhs` broadcasts to the shape of this array, and the type has
-    /// `alpha` times each cell of it, and the sum of that and the cell there.
+    /// Whether `self.scaled_add(alpha, &rhs)` may be called: `rhs` broadcasts to the shape of this array, and at each index list `alpha`
+    /// times the cell of `rhs`, and the sum of that and this array's cell, are in the type's range.
     ///
     /// Requires nothing, and the test allocates nothing.
     ///
@@ -79,7 +80,7 @@ impl<A: IntegerScalar, S: Data<Elem = A>, D: Lengths> ArrayBase<S, D> {
     }
 }
 
-/// The same of views.
+/// The same for views.
 fn scaled_sums_fit<A: IntegerElem, D: Lengths, E: Lengths>(
     alpha: A,
     left: &ArrayView<'_, A, D>,

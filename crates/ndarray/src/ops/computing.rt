@@ -46,7 +46,7 @@ where
     combine_at::<O, A, B, D, E, _>(left.allocator(), left.view(), right.view(), dim)
 }
 
-/// The same into the cells of the left array, where it has the result's lengths.
+/// The same into the cells of the left array, if it has the result's lengths.
 pub(crate) fn combine_into_left<O, A, B, S2, D, E>(
     left: Array<A, D>,
     right: &ArrayBase<S2, E>,
@@ -67,7 +67,7 @@ where
     combine_into_left_at::<O, A, B, D, E, _>(left, right.view(), dim)
 }
 
-/// The same of a right array that is passed by value.
+/// The same for a right array that is passed by value.
 pub(crate) fn combine_into_left_by_value<O, A, B, S2, D, E>(
     left: Array<A, D>,
     right: ArrayBase<S2, E>,
@@ -116,7 +116,7 @@ where
     update_cells(cells, right.into_broadcast(dim), call)
 }
 
-/// The same into the cells of the right array, where it has the result's lengths.
+/// The same into the cells of the right array, if it has the result's lengths.
 pub(crate) fn combine_into_right<O, A, B, S, D, E>(
     left: &ArrayBase<S, D>,
     right: Array<B, E>,

@@ -1,4 +1,4 @@
-//! Scalars on the left of an array, by a closure.
+//! Operations with a scalar on the left of an array, by a closure.
 
 ghost use Rattle.std.specs.Prelude.{◌≡◌, IfOk, IsOk, length};
 ghost use Rattle.ndarray.specs.Calls.{can_call_by_ref2, call_gives_by_ref2};
@@ -16,11 +16,11 @@ use crate::zip::closures::ItemCall;
 use crate::zip::collecting::collect_in_either_order;
 use std::alloc::{AllocError, Global};
 
-/// The array whose cell at each index list is what `f` returns at the scalar and at the cell of `array` there, in this
-/// order: for left scalars of the types that have no operator of their own.
+/// The array whose cell at each index list is what `f` returns for the scalar and the cell of `array` there. It is for scalars on the left
+/// whose type has no operator with an array on the right.
 ///
-/// The calls go through the index lists one after another, in row-major or in column-major order. All memory is
-/// reserved before the first call; the error is allocation failure, and `f` was not called then.
+/// Requires that these calls may be made, in row order and in column order; they go through the index lists in one of the two. The error is
+/// an allocation failure, before the first call of `f`, and is never reported if there are no cells.
 ///
 /// ```
 /// let array = Array::from_shape_vec((2, 1), vec![in alloc; 1i16, 3]?)?;

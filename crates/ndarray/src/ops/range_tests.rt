@@ -1,5 +1,5 @@
-//! Whether the results of operators on integers are numbers of their type: tests for `+`, `-` and `*`, their assigning
-//! forms, and unary `-`.
+//! Tests whether the results of operators on integers are numbers of their type: for `+`, `-` and `*`, their assigning forms, and unary
+//! `-`.
 
 ghost use Rattle.std.specs.Prelude.{◌≡◌, ◌↔◌, ◌+ℤ◌, ◌-ℤ◌, ◌*ℤ◌, ⊤, ℕ, List, Some, IsTrue, neg_ℤ};
 ghost use Rattle.ndarray.specs.Broadcast.{BroadcastTogether, broadcast_lengths};
@@ -19,8 +19,8 @@ use num_traits::{CheckedAdd, CheckedMul, CheckedNeg, CheckedSub, Num, One, Signe
 use std::marker::PhantomData;
 
 impl<A: Zero + CheckedAdd, S: Data<Elem = A>, D: Lengths> ArrayBase<S, D> {
-    /// Whether `self + rhs` may be computed: the shapes broadcast together, as [`broadcast_ok`](Self::broadcast_ok) tests, and
-    /// the type has the sum of the two cells at each index list.
+    /// Whether `self + rhs` may be computed: the shapes broadcast together, as [`broadcast_ok`](Self::broadcast_ok) tests, and the sum of
+    /// the two cells at each index list is in the type's range.
     ///
     /// Requires nothing, and the test allocates nothing. For `self += rhs` there is
     /// [`add_assign_fits`](Self::add_assign_fits).
@@ -39,8 +39,8 @@ impl<A: Zero + CheckedAdd, S: Data<Elem = A>, D: Lengths> ArrayBase<S, D> {
         combination_fits::<Addition, A, D, E>(&self.view(), &rhs.view())
     }
 
-    /// Whether `self += rhs` may be computed: `rhs` broadcasts to the shape of this array, and the type has the sum of each
-    /// cell and the one there.
+    /// Whether `self += rhs` may be computed: `rhs` broadcasts to the shape of this array, and the sum of the two cells at each index list
+    /// is in the type's range.
     ///
     /// Requires nothing, and the test allocates nothing.
     ///
@@ -56,7 +56,7 @@ impl<A: Zero + CheckedAdd, S: Data<Elem = A>, D: Lengths> ArrayBase<S, D> {
         assignment_fits::<Addition, A, D, E>(&self.view(), &rhs.view())
     }
 
-    /// Whether `self + scalar` and `self += scalar` may be computed: the type has the sum of each cell and the scalar.
+    /// Whether `self + scalar` and `self += scalar` may be computed: the sum of each cell and the scalar is in the type's range.
     ///
     /// Requires nothing, and the test allocates nothing.
     ///
@@ -73,8 +73,8 @@ impl<A: Zero + CheckedAdd, S: Data<Elem = A>, D: Lengths> ArrayBase<S, D> {
 }
 
 impl<A: Num + CheckedSub, S: Data<Elem = A>, D: Lengths> ArrayBase<S, D> {
-    /// Whether `self - rhs` may be computed: the shapes broadcast together, as [`broadcast_ok`](Self::broadcast_ok) tests, and
-    /// the type has the difference of the two cells at each index list.
+    /// Whether `self - rhs` may be computed: the shapes broadcast together, as [`broadcast_ok`](Self::broadcast_ok) tests, and the
+    /// difference of the two cells at each index list is in the type's range.
     ///
     /// Requires nothing, and the test allocates nothing. For `self -= rhs` there is
     /// [`sub_assign_fits`](Self::sub_assign_fits).
@@ -93,8 +93,8 @@ impl<A: Num + CheckedSub, S: Data<Elem = A>, D: Lengths> ArrayBase<S, D> {
         combination_fits::<Subtraction, A, D, E>(&self.view(), &rhs.view())
     }
 
-    /// Whether `self -= rhs` may be computed: `rhs` broadcasts to the shape of this array, and the type has the difference of
-    /// each cell and the one there.
+    /// Whether `self -= rhs` may be computed: `rhs` broadcasts to the shape of this array, and the difference of the two cells at each
+    /// index list is in the type's range.
     ///
     /// Requires nothing, and the test allocates nothing.
     ///
@@ -110,7 +110,7 @@ impl<A: Num + CheckedSub, S: Data<Elem = A>, D: Lengths> ArrayBase<S, D> {
         assignment_fits::<Subtraction, A, D, E>(&self.view(), &rhs.view())
     }
 
-    /// Whether `self - scalar` and `self -= scalar` may be computed: the type has the difference of each cell and the scalar.
+    /// Whether `self - scalar` and `self -= scalar` may be computed: the difference of each cell and the scalar is in the type's range.
     ///
     /// Requires nothing, and the test allocates nothing.
     ///
@@ -127,8 +127,8 @@ impl<A: Num + CheckedSub, S: Data<Elem = A>, D: Lengths> ArrayBase<S, D> {
 }
 
 impl<A: One + CheckedMul, S: Data<Elem = A>, D: Lengths> ArrayBase<S, D> {
-    /// Whether `self * rhs` may be computed: the shapes broadcast together, as [`broadcast_ok`](Self::broadcast_ok) tests, and
-    /// the type has the product of the two cells at each index list.
+    /// Whether `self * rhs` may be computed: the shapes broadcast together, as [`broadcast_ok`](Self::broadcast_ok) tests, and the product
+    /// of the two cells at each index list is in the type's range.
     ///
     /// Requires nothing, and the test allocates nothing. For `self *= rhs` there is
     /// [`mul_assign_fits`](Self::mul_assign_fits).
@@ -147,8 +147,8 @@ impl<A: One + CheckedMul, S: Data<Elem = A>, D: Lengths> ArrayBase<S, D> {
         combination_fits::<Multiplication, A, D, E>(&self.view(), &rhs.view())
     }
 
-    /// Whether `self *= rhs` may be computed: `rhs` broadcasts to the shape of this array, and the type has the product of
-    /// each cell and the one there.
+    /// Whether `self *= rhs` may be computed: `rhs` broadcasts to the shape of this array, and the product of the two cells at each index
+    /// list is in the type's range.
     ///
     /// Requires nothing, and the test allocates nothing.
     ///
@@ -164,7 +164,7 @@ impl<A: One + CheckedMul, S: Data<Elem = A>, D: Lengths> ArrayBase<S, D> {
         assignment_fits::<Multiplication, A, D, E>(&self.view(), &rhs.view())
     }
 
-    /// Whether `self * scalar` and `self *= scalar` may be computed: the type has the product of each cell and the scalar.
+    /// Whether `self * scalar` and `self *= scalar` may be computed: the product of each cell and the scalar is in the type's range.
     ///
     /// Requires nothing, and the test allocates nothing.
     ///
@@ -181,7 +181,7 @@ impl<A: One + CheckedMul, S: Data<Elem = A>, D: Lengths> ArrayBase<S, D> {
 }
 
 impl<A: Signed + CheckedNeg, S: Data<Elem = A>, D: Lengths> ArrayBase<S, D> {
-    /// Whether `-self` may be computed: the type has the negative of each cell. For the signed types, as `-` is.
+    /// Whether `-self` may be computed: the negative of each cell is in the type's range. Like `-`, the test is for signed types only.
     ///
     /// Requires nothing, and the test allocates nothing.
     ///

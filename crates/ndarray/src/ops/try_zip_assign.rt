@@ -16,17 +16,18 @@ use crate::zip::updating::{ByRef2, try_update};
 use std::alloc::AllocError;
 
 impl<A: Drop, S: DataMut<Elem = A>, D: Lengths> ArrayBase<S, D> {
-    /// Replaces each cell by what `f` returns at it and at the cell of `rhs` there, with `rhs` broadcast to the shape
-    /// of this array.
+    /// Replaces each cell by what `f` returns for it and the cell of `rhs` at the same index list, with `rhs` broadcast to the shape of
+    /// this array.
     ///
-    /// The calls go through the index lists one after another, in row-major or in column-major order. The first call
-    /// that returns an `Err` is the last one, and its error is returned. Then the cells of the calls before hold what
-    /// those returned, and all others what they held. Without an error in `f` there is none: nothing is allocated here.
+    /// The calls go through the index lists one after another, in row-major or in column-major order. The first call that returns an `Err`
+    /// is the last one, and its error is returned; the cells of the calls before then have what those returned, and all others are as they
+    /// were. The only error is one that `f` returned, as nothing is allocated here.
     ///
-    /// Requires that `rhs` broadcasts to the shape; check with `rhs.broadcast(self.raw_dim())`.
+    /// Requires that `rhs` broadcasts to the shape (check with `rhs.broadcast(self.raw_dim())`), and that these calls may be made, in row
+    /// order and in column order.
     ///
     /// ```
-    /// // each row of names gets the endings
+    /// // appends the endings to each row of names
     /// names.try_zip_assign(&endings, |name, ending| joined(alloc, name, ending))?;
     /// ```
     pub fn try_zip_assign<

@@ -81,7 +81,7 @@ impl<D: Lengths> BoxRows<D> {
         self.firsts.len() * self.count
     }
 
-    /// The same once more.
+    /// A copy of it.
     pub(crate) fn again(&self) -> Self
         ensures { result ≡ self.now }
     {

@@ -10,8 +10,8 @@ use crate::order::{Order, Walk};
 use crate::places::move_out::PlaceSequence;
 use std::marker::Model;
 
-/// The places of the cells of an array, in row order. Whether a place was passed the place map tells and how far the
-/// walk is, so no mark is kept.
+/// The places of the cells of an array, in row order. The place map and the number of places still to come say whether a place was passed,
+/// so no mark is kept.
 #[derive(Drop)]
 pub struct CellPlaces<D: Lengths> {
     map: PlaceMap<D>,

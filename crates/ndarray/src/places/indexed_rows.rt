@@ -92,7 +92,7 @@ impl<D: Lengths> IndexedRow<D> {
         Some((index, place))
     }
 
-    /// The same once more.
+    /// A copy of it.
     fn again(&self) -> Self
         ensures { result ≡ self.now }
     {
@@ -181,7 +181,7 @@ impl<D: Lengths> IndexedPlaces<D> {
         self.row.next()
     }
 
-    /// The same once more.
+    /// A copy of it.
     pub(crate) fn again(&self) -> Self
         ensures { result ≡ self.now }
     {

@@ -37,7 +37,7 @@ impl PlaceRow {
         self.left
     }
 
-    /// The first place, where there is one and the places are known to follow one another.
+    /// The first place, if there is one and the places are known to follow one another.
     #[inline(always)]
     pub(crate) fn run_start(&self) -> Option<usize>
         ensures { IfSome result (λ p. (self.now ≡ places_from p 1 (length self.now)) × (0 < length self.now) × (p + length self.now < 2 ^ 64)) }

@@ -66,7 +66,7 @@ impl<'a, A> StridedMut<'a, A> {
         }
     }
 
-    /// The cells as a slice, where they are known to lie side by side; else the cells as they are.
+    /// The cells as a slice, if they are known to lie side by side; else the cells as they are.
     #[inline(always)]
     pub(crate) fn side_by_side(self) -> Result<&'a mut [A], Self>
         ensures slice { IfOk result (λ s. s.now ≡ self.entry) }

@@ -1,4 +1,4 @@
-//! Whether the running products and the differences of integers along an axis stay in their type.
+//! Tests whether the running products and the differences of integers along an axis are in the range of their type.
 
 ghost use Rattle.std.specs.Prelude.{◌≡◌, ◌≢◌, ◌⊎◌, ◌<◌, ◌↔◌, IfErr, IfOk, IsTrue, length, slice_index};
 ghost use Rattle.ndarray.specs.AlongAxis.{CanCumulate, CanDiffer};
@@ -20,8 +20,8 @@ use num_traits::{CheckedMul, CheckedSub, Num, One};
 use std::alloc::{AllocError, Global};
 
 impl<A: Copy + One + CheckedMul, S: Data<Elem = A>, D: Lengths> ArrayBase<S, D> {
-    /// Whether [`cumprod`](Self::cumprod) may be asked for along an axis: there is an axis of that number, and the type has each product
-    /// that is taken along it.
+    /// Whether [`cumprod`](Self::cumprod) may be called along an axis: the axis is below the number of axes, and each running product along
+    /// it is in the type's range.
     ///
     /// Requires nothing, and the test allocates nothing.
     ///
@@ -83,11 +83,11 @@ fn cells_cumulate<A: Copy + One + CheckedMul>(cells: Strided<'_, A>) -> bool
 }
 
 impl<A: Copy + Num + CheckedSub, S: Data<Elem = A>, D: Lengths> ArrayBase<S, D> {
-    /// Whether [`diff`](Self::diff) of order `n` may be asked for along an axis: there is an axis of that number, the order is 0 or below
-    /// its length, as [`diff_ok`](Self::diff_ok) tests, and the type has each difference that is taken on the way to that order.
+    /// Whether [`diff`](Self::diff) of order `n` may be called along an axis: the axis is below the number of axes and the order 0 or below
+    /// the axis's length, as [`diff_ok`](Self::diff_ok) tests, and each difference of the orders 1 to `n` is in the type's range.
     ///
-    /// Requires nothing. The error is allocation failure, of the differences of the orders before: it is reported only for order 2 or
-    /// more of an array with cells.
+    /// Requires nothing. The error is an allocation failure, for the differences of lower orders; it is reported only if `n` is at least 2
+    /// and below the axis's length, and the array has cells.
     ///
     /// ```
     /// let view = ArrayView::from_shape(3, &[-100i8, 20, 100])?;

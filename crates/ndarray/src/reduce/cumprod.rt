@@ -22,11 +22,11 @@ use std::alloc::{AllocError, Global};
 use std::ops::Mul;
 
 impl<A: Copy + Mul<A, Output = A>, S: Data<Elem = A>, D: Lengths> ArrayBase<S, D> {
-    /// The running products along an axis: at index 0 the cell, and from there on the cell times the product before
-    /// it, with the cell on the left.
+    /// The running products along an axis: at index 0 the cell itself, and at each further index the cell times the product before it, with
+    /// the cell as the left factor.
     ///
-    /// Requires `axis < ndim()`, which `axis_ok` tests, and that each product that is taken is defined: of integers check both
-    /// with [`cumprod_fits`](Self::cumprod_fits). The error is allocation failure.
+    /// Requires an axis below the number of axes, which `axis_ok` tests, and that each of these products is defined; for integers check
+    /// both with [`cumprod_fits`](Self::cumprod_fits). The error is an allocation failure, and is never reported if there are no cells.
     ///
     /// ```
     /// let view = ArrayView::from_shape((2, 3), &[1i64, 2, 3, 4, 5, 6])?;
@@ -44,7 +44,7 @@ impl<A: Copy + Mul<A, Output = A>, S: Data<Elem = A>, D: Lengths> ArrayBase<S, D
     }
 }
 
-/// The running products along an axis of a view. Where the cells lie by columns, so do those of the result.
+/// The running products along an axis of a view. If the view is read faster in column order, the result is column-major.
 fn running_products<A: Copy + Mul<A, Output = A>, D: Lengths>(
     alloc: Global,
     array: &ArrayView<'_, A, D>,
@@ -62,7 +62,7 @@ fn running_products<A: Copy + Mul<A, Output = A>, D: Lengths>(
     }
 }
 
-/// The same of the array with its axes reversed, and reversed back.
+/// The running products, computed on the transpose and transposed back.
 fn products_by_columns<A: Copy + Mul<A, Output = A>, D: Lengths>(
     alloc: Global,
     array: &ArrayView<'_, A, D>,
@@ -80,7 +80,7 @@ fn products_by_columns<A: Copy + Mul<A, Output = A>, D: Lengths>(
     Ok(products.reversed_axes())
 }
 
-/// The same row by row.
+/// The running products, computed row by row.
 fn products_by_rows<A: Copy + Mul<A, Output = A>, D: Lengths>(
     alloc: Global,
     array: &ArrayView<'_, A, D>,
@@ -127,7 +127,7 @@ fn with_row<A: Copy + Mul<A, Output = A>, D: Lengths>(
     }
 }
 
-/// The same of a row along the axis: each product but the first is made of the one before it.
+/// Pushes the products of a row along the axis: each product but the first is made of the one before it.
 fn with_lane<A: Copy + Mul<A, Output = A>, D: Lengths>(
     products: ArrayBuilder<A, D>,
     array: &ArrayView<'_, A, D>,
@@ -157,7 +157,7 @@ fn with_lane<A: Copy + Mul<A, Output = A>, D: Lengths>(
     products
 }
 
-/// The same of a row of which all cells have one index on the axis.
+/// Pushes the products of a row all of whose cells have the same index on the axis.
 fn with_other_row<A: Copy + Mul<A, Output = A>, D: Lengths>(
     products: ArrayBuilder<A, D>,
     array: &ArrayView<'_, A, D>,
@@ -182,7 +182,7 @@ fn with_other_row<A: Copy + Mul<A, Output = A>, D: Lengths>(
     }
 }
 
-/// The same of the row's cells. Where they lie side by side their step is a constant, so that the loop takes vectors of them.
+/// The same for the row's cells. If they lie side by side, their step is a constant, so that the loop takes vectors of them.
 #[inline(always)]
 fn with_cells<A: Copy + Mul<A, Output = A>, D: Lengths>(
     products: ArrayBuilder<A, D>,

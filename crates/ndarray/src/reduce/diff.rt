@@ -16,7 +16,7 @@ use std::alloc::{AllocError, Global};
 use std::ops::Sub;
 
 impl<S: Data, D: Lengths> ArrayBase<S, D> {
-    /// Whether there is an axis of that number, and the order is 0 or below its length, as [`diff`](Self::diff) asks.
+    /// Whether the axis is below the number of axes, and the order `n` is 0 or below its length, as [`diff`](Self::diff) requires.
     ///
     /// ```
     /// let view = ArrayView::from_shape(3, &[1i64, 2, 5])?;
@@ -31,13 +31,13 @@ impl<S: Data, D: Lengths> ArrayBase<S, D> {
 }
 
 impl<A: Copy + Sub<A, Output = A>, S: Data<Elem = A>, D: Lengths> ArrayBase<S, D> {
-    /// The difference of order `n` along an axis: of order 0 a copy, and of each further order the cell one further
-    /// along the axis minus the cell, so that the axis gets shorter by one.
+    /// The difference of order `n` along an axis. That of order 0 is a copy; each further order has the cell one further along the axis
+    /// minus the cell, so that the axis gets shorter by one.
     ///
-    /// Requires `axis < ndim()`, and `n` that is 0 or below the length of the axis; check with
-    /// [`diff_ok`](Self::diff_ok). Requires that each difference that is taken is defined: of integers check all with
-    /// [`diff_fits`](Self::diff_fits). The error is allocation failure. Beside the result there is one array at a time, of
-    /// the order before.
+    /// Requires an axis below the number of axes, and that `n` is 0 or below the length of the axis; check with [`diff_ok`](Self::diff_ok).
+    /// Requires that each difference of each order is defined; for integers check all this with [`diff_fits`](Self::diff_fits). The error
+    /// is an allocation failure, and is never reported if the array has no cells. Besides the result, only the array of the order before is
+    /// kept.
     ///
     /// ```
     /// let view = ArrayView::from_shape(3, &[1i64, 2, 5])?;

@@ -1,10 +1,13 @@
-//! Whether the sums and the products of an array's cells stay in their integer type.
+//! Tests whether the sums and the products of an array's cells are in the range of their integer type.
 
-ghost use Rattle.std.specs.Prelude.{◌≡◌, ◌↔◌, ◌+ℤ◌, ◌*ℤ◌, ◌<ℤ◌, ◌≤ℤ◌, ◌+◌, ◌<◌, ◌++◌, ◌∷◌, [], ℤ, List, IfSome, IsSome, IsTrue, MatchOption, drop, length, map, pos, unsigned_abs};
+ghost use Rattle.std.specs.Prelude.{◌≡◌, ◌↔◌, ◌+ℤ◌, ◌*ℤ◌, ◌<ℤ◌, ◌≤ℤ◌, ◌+◌, ◌<◌, ◌++◌, ◌∷◌, [], ℕ, ℤ, List, IfSome, IsSome, IsTrue, MatchOption, drop, length, map, pos, unsigned_abs};
 ghost use Rattle.num_traits.specs.Laws.{Checks};
+ghost use Rattle.ndarray.specs.AlongAxis.{IsSummableArray};
+ghost use Rattle.ndarray.specs.Elementwise.{CanMap};
 ghost use Rattle.ndarray.specs.Products.{magnitude_sum, products_of};
 ghost use Rattle.ndarray.specs.reduce.NonzeroProducts.{MultipliedSoFar};
 ghost use Rattle.ndarray.specs.reduce.SignedSums.{AddedApart, ProductsApart};
+ghost use Rattle.ndarray.specs.Subviews.{lanes_of};
 ghost use Rattle.ndarray.specs.Sums.{IsSummable, IsSummableBy, total, total_by};
 ghost use Rattle.ndarray.specs.Integers.{int_products, int_sums, magnitude_product, negative_sum, nonzero_magnitude, positive_sum};
 
@@ -21,10 +24,10 @@ use crate::zip::pair::PairRun;
 use num_traits::{CheckedAdd, Zero};
 
 impl<A: Zero + CheckedAdd, S: Data<Elem = A>, D: Lengths> ArrayBase<S, D> {
-    /// Whether every selection of the cells has its sum in the type, as [`sum`](Self::sum) asks.
+    /// Whether every selection of the cells has its sum in the type's range, as [`sum`](Self::sum) requires.
     ///
-    /// That is so exactly where the positive cells add up to at most the type's greatest number and
-    /// the negative cells to at least its least. Requires nothing, and the test allocates nothing.
+    /// This holds exactly if the positive cells add up to at most the type's greatest number and the negative cells to at least its least.
+    /// Then [`sum_axis`](Self::sum_axis) may be called too, along any axis. Requires nothing, and the test allocates nothing.
     ///
     /// ```
     /// assert!(ArrayView::from_shape(2, &[127i8, -128])?.sums_fit());
@@ -34,14 +37,15 @@ impl<A: Zero + CheckedAdd, S: Data<Elem = A>, D: Lengths> ArrayBase<S, D> {
         ensures selections { IsTrue result ↔ IsSummableBy int_sums A.fits A.value self.now.cells }
         ensures bounds { IsTrue result ↔ (A.fits (positive_sum (map A.value self.now.cells))
             × A.fits (negative_sum (map A.value self.now.cells))) }
+        ensures lanes { IsTrue result → (axis : ℕ) → axis < length self.now.lengths → CanMap (IsSummableArray int_sums A.fits A.value) (lanes_of self.now axis) }
     {
         signed_sums(&self.view()).is_some()
     }
 
-    /// The sum of all cells, where every selection of them has its sum in the type; else `None`. So it is `Some` exactly where
-    /// [`sums_fit`](Self::sums_fit) is true, and then the value is that of [`sum`](Self::sum): the test and the sum in one walk.
+    /// The sum of all cells, if every selection of them has its sum in the type's range; else `None`. So it is `Some` exactly if
+    /// [`sums_fit`](Self::sums_fit) is true, and then has the value of [`sum`](Self::sum): one pass over the cells both tests and adds.
     ///
-    /// Requires nothing, and allocates nothing.
+    /// It requires nothing, and allocates nothing.
     ///
     /// ```
     /// assert_eq!(ArrayView::from_shape(2, &[127i8, -128])?.checked_sum(), Some(-1));
@@ -61,11 +65,12 @@ impl<A: Zero + CheckedAdd, S: Data<Elem = A>, D: Lengths> ArrayBase<S, D> {
 }
 
 impl<A: IntegerElem, S: Data<Elem = A>, D: Lengths> ArrayBase<S, D> {
-    /// Whether the absolute values of the cells that are not zero multiply to at most the type's greatest number. Then
-    /// every selection of the cells has its product in the type, as [`product`](Self::product) asks.
+    /// Whether the absolute values of the nonzero cells multiply to at most the type's greatest number. Then every selection of the cells
+    /// has its product in the type's range, as [`product`](Self::product) requires, and [`product_axis`](Self::product_axis) may be called
+    /// too, along any axis.
     ///
-    /// Requires nothing, and the test allocates nothing. It may say no where `product` could be taken, as for a cell
-    /// 0 among large ones, or for the least number of a signed type alone.
+    /// Requires nothing, and the test allocates nothing. It may return `false` although `product` may be called, as for the least number of
+    /// a signed type alone.
     ///
     /// ```
     /// assert!(ArrayView::from_shape(3, &[-127i8, 1, 0])?.products_fit());
@@ -74,12 +79,13 @@ impl<A: IntegerElem, S: Data<Elem = A>, D: Lengths> ArrayBase<S, D> {
     pub fn products_fit(&self) -> bool
         ensures magnitudes { IsTrue result ↔ A.fits (pos (magnitude_product (map A.value self.now.cells))) }
         ensures selections { IsTrue result → IsSummableBy int_products A.fits A.value self.now.cells }
+        ensures lanes { IsTrue result → (axis : ℕ) → axis < length self.now.lengths → CanMap (IsSummableArray int_products A.fits A.value) (lanes_of self.now axis) }
     {
         magnitudes_multiplied(&self.view()).is_some()
     }
 }
 
-/// The sum of the positive and that of the negative cells, where the type has both.
+/// The sum of the positive and that of the negative cells, if the type has both.
 fn signed_sums<A: Zero + CheckedAdd, D: Lengths>(
     array: &ArrayView<'_, A, D>,
 ) -> Option<SignedSums<A>>
@@ -96,7 +102,7 @@ fn signed_sums<A: Zero + CheckedAdd, D: Lengths>(
     Some(sums)
 }
 
-/// The sums with the cells of a run added, each to that of its sign, where the type has them.
+/// The sums with the cells of a run added, each to that of its sign, if the type has them.
 fn add_run<A: Zero + CheckedAdd>(sums: SignedSums<A>, run: Strided<'_, A>) -> Option<SignedSums<A>>
     ensures { (whole rest : List ℤ) → AddedApart A.fits whole (map A.value run.entry ++ rest) (A.value sums.up) (A.value sums.down)
         → MatchOption result (A.fits (positive_sum whole) × A.fits (negative_sum whole) → ⊥) (λ more. AddedApart A.fits whole rest (A.value more.up) (A.value more.down)) }
@@ -115,7 +121,7 @@ fn add_run<A: Zero + CheckedAdd>(sums: SignedSums<A>, run: Strided<'_, A>) -> Op
     Some(sums)
 }
 
-/// The same of the cells of a slice, four a turn.
+/// The same for the cells of a slice, four a turn.
 fn add_cells<A: Zero + CheckedAdd>(sums: SignedSums<A>, cells: &[A]) -> Option<SignedSums<A>>
     ensures { (whole rest : List ℤ) → AddedApart A.fits whole (map A.value cells.now ++ rest) (A.value sums.up) (A.value sums.down)
         → MatchOption result (A.fits (positive_sum whole) × A.fits (negative_sum whole) → ⊥) (λ more. AddedApart A.fits whole rest (A.value more.up) (A.value more.down)) }
@@ -136,7 +142,7 @@ fn add_cells<A: Zero + CheckedAdd>(sums: SignedSums<A>, cells: &[A]) -> Option<S
     Some(sums)
 }
 
-/// The same of the cell at a place.
+/// The same for the cell at a place.
 #[inline(always)]
 fn add_cell<A: Zero + CheckedAdd>(
     sums: SignedSums<A>,
@@ -157,7 +163,7 @@ struct SignedSums<A> {
     down: A,
 }
 
-/// The sums with a number added to that of its sign, where the type has it.
+/// The sums with a number added to that of its sign, if the type has it.
 #[inline(always)]
 fn add_by_sign<A: Zero + CheckedAdd>(sums: SignedSums<A>, x: &A) -> Option<SignedSums<A>>
     ensures up { pos 0 ≤ℤ A.value x.now → Checks (λ s. A.value s.up) A.fits (A.value sums.up +ℤ A.value x.now) result × IfSome result (λ s. s.down ≡ sums.down) }
@@ -177,7 +183,7 @@ fn add_by_sign<A: Zero + CheckedAdd>(sums: SignedSums<A>, x: &A) -> Option<Signe
     }
 }
 
-/// The absolute values of the cells that are not zero, multiplied, where the type has their product.
+/// The absolute values of the cells that are not zero, multiplied, if the type has their product.
 fn magnitudes_multiplied<A: IntegerElem, D: Lengths>(array: &ArrayView<'_, A, D>) -> Option<A>
     ensures { MatchOption result (A.fits (pos (magnitude_product (map A.value array.now.cells))) → ⊥) (λ product. MultipliedSoFar A.fits (map A.value array.now.cells) [] (A.value product)) }
 {
@@ -192,7 +198,7 @@ fn magnitudes_multiplied<A: IntegerElem, D: Lengths>(array: &ArrayView<'_, A, D>
     Some(product)
 }
 
-/// A product times the absolute values of the cells of a run that are not zero, where the type has it.
+/// A product times the absolute values of the cells of a run that are not zero, if the type has it.
 fn times_run<A: IntegerElem>(product: A, run: Strided<'_, A>) -> Option<A>
     ensures { (whole rest : List ℤ) → MultipliedSoFar A.fits whole (map A.value run.entry ++ rest) (A.value product)
         → MatchOption result (A.fits (pos (magnitude_product whole)) → ⊥) (λ more. MultipliedSoFar A.fits whole rest (A.value more)) }
@@ -208,7 +214,7 @@ fn times_run<A: IntegerElem>(product: A, run: Strided<'_, A>) -> Option<A>
     Some(product)
 }
 
-/// A product times the absolute value of a number, where the type has both; the product itself for zero.
+/// A product times the absolute value of a number, if the type has both; the product itself for zero.
 #[inline(always)]
 fn times_magnitude<A: IntegerElem>(product: A, x: A) -> Option<A>
     ensures product { Checks A.value (λ z. A.fits (pos (nonzero_magnitude (A.value x))) × A.fits z) (A.value product *ℤ pos (nonzero_magnitude (A.value x))) result }
@@ -229,11 +235,11 @@ fn times_magnitude<A: IntegerElem>(product: A, x: A) -> Option<A>
     product.checked_mul(&factor)
 }
 
-/// Whether two vectors have the same length, and the absolute values of the products of their cells, place by place, add up to
-/// at most the type's greatest number. Then every selection of the products has its sum in the type, as their `dot` asks.
+/// Whether two vectors have the same length, and the absolute values of the products of their cells at each index add up to at most the
+/// type's greatest number. Then every selection of the products has its sum in the type's range, as their `dot` requires.
 ///
-/// Requires nothing, and the test allocates nothing. It may say no where the product could be taken, as where large products
-/// of both signs are next to each other.
+/// Requires nothing, and the test allocates nothing. It may return `false` although `dot` may be called, as for large products of both
+/// signs.
 ///
 /// ```
 /// assert!(dot_fits(&ArrayView::from_shape(2, &[127i8, 0])?, &ArrayView::from_shape(2, &[-1i8, 5])?));
@@ -255,10 +261,10 @@ pub fn dot_fits<A: IntegerElem, S: Data<Elem = A>, S2: Data<Elem = A>>(
     inner_stays_in_range(xs, ys)
 }
 
-/// The sum of the products of two vectors' cells, place by place, where [`dot_fits`] is true of them; else `None`. So it is the
-/// value of their `dot`: the test and the product in one call.
+/// The sum of the products of two vectors' cells at each index, if [`dot_fits`] is true of them; else `None`. It is the value of their
+/// `dot`, tested and computed in one call.
 ///
-/// Requires nothing, and allocates nothing.
+/// It requires nothing, and allocates nothing.
 ///
 /// ```
 /// let sum = checked_dot(&ArrayView::from_shape(2, &[127i8, 1])?, &ArrayView::from_shape(2, &[-1i8, 0])?); // Some(-127)
@@ -281,7 +287,7 @@ pub fn checked_dot<A: IntegerScalar, S: Data<Elem = A>, S2: Data<Elem = A>>(
     checked_inner(xs, ys)
 }
 
-/// The cells of two vectors in turn, where these are equally long.
+/// The cells of two vectors in turn, if these are equally long.
 fn cells_in_pairs<'a, 'b, A>(
     x: ArrayView<'a, A, Ix1>,
     y: ArrayView<'b, A, Ix1>,
@@ -309,7 +315,8 @@ pub(crate) fn inner_stays_in_range<A: IntegerElem>(
     checked_inner(left, right).is_some()
 }
 
-/// The sum of the products, where it is so.
+/// The sum of the products of two lists of cells, place by place, if their absolute values add up to at most the type's greatest number;
+/// else `None`.
 fn checked_inner<A: IntegerElem>(left: Strided<'_, A>, right: Strided<'_, A>) -> Option<A>
     ensures magnitudes { IsSome result ↔ A.fits (pos (magnitude_sum (products_of int_products A.value left.entry right.entry))) }
     ensures selections { IsSome result → IsSummable int_sums A.fits (products_of int_products A.value left.entry right.entry) }
@@ -355,7 +362,7 @@ fn no_sums<A: IntegerElem>() -> SignedSums<A>
     }
 }
 
-/// Both sums added, where the type has the sum of their absolute values.
+/// Both sums added, if the type has the sum of their absolute values.
 fn joined_in_range<A: IntegerElem>(sums: &SignedSums<A>) -> Option<A>
     ensures magnitudes { (whole : List ℤ) → ProductsApart A.fits whole [] (A.value sums.now.up) (A.value sums.now.down) → IsSome result ↔ A.fits (pos (magnitude_sum whole)) }
     ensures selections { (whole : List ℤ) → ProductsApart A.fits whole [] (A.value sums.now.up) (A.value sums.now.down) → IsSome result → IsSummable int_sums A.fits whole }
@@ -370,7 +377,7 @@ fn joined_in_range<A: IntegerElem>(sums: &SignedSums<A>) -> Option<A>
     sums.up.checked_add(&sums.down)
 }
 
-/// The sums with the products of two lists of cells added, place by place, each to that of its sign, where the type has them.
+/// The sums with the products of two lists of cells added, place by place, each to that of its sign, if the type has them.
 fn add_products<A: IntegerElem>(
     sums: SignedSums<A>,
     left: Strided<'_, A>,
@@ -393,7 +400,7 @@ fn add_products<A: IntegerElem>(
     )
 }
 
-/// The same of slices.
+/// The same for slices.
 fn add_slice_products<A: IntegerElem>(
     sums: SignedSums<A>,
     xs: &[A],
@@ -414,7 +421,7 @@ fn add_slice_products<A: IntegerElem>(
     Some(sums)
 }
 
-/// The same of cells that lie a step apart.
+/// The same for cells that lie a step apart.
 fn add_stepped_products<A: IntegerElem>(
     sums: SignedSums<A>,
     pairs: PairRun<Strided<'_, A>, Strided<'_, A>>,
@@ -433,7 +440,7 @@ fn add_stepped_products<A: IntegerElem>(
     Some(sums)
 }
 
-/// The sums with a product added to that of its sign, where the type has them.
+/// The sums with a product added to that of its sign, if the type has them.
 #[inline(always)]
 fn add_product<A: IntegerElem>(sums: SignedSums<A>, x: A, y: A) -> Option<SignedSums<A>>
     ensures { (whole rest : List ℤ) → ProductsApart A.fits whole ((A.value x *ℤ A.value y) ∷ rest) (A.value sums.up) (A.value sums.down)
@@ -447,7 +454,7 @@ fn add_product<A: IntegerElem>(sums: SignedSums<A>, x: A, y: A) -> Option<Signed
     add_by_sign(sums, &product)
 }
 
-/// The absolute value, where the type has it.
+/// The absolute value, if the type has it.
 pub(crate) fn magnitude<A: IntegerElem>(x: A) -> Option<A>
     ensures { Checks A.value A.fits (pos (unsigned_abs (A.value x))) result }
 {

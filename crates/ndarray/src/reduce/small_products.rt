@@ -26,7 +26,7 @@ pub(crate) fn have_small_products<A: IntegerElem, D: Lengths, E: Lengths>(
     are_small(&extremes_of_array(a), &extremes_of_array(b), count)
 }
 
-/// The same of two lists of equal length.
+/// The same for two lists of equal length.
 pub(crate) fn lists_have_small_products<A: IntegerElem>(
     left: Strided<'_, A>,
     right: Strided<'_, A>,
@@ -95,7 +95,7 @@ fn both_products_fit<A: IntegerElem>(x: &A, y: &Extremes<A>) -> bool
     x.checked_mul(&y.least).is_some() && x.checked_mul(&y.greatest).is_some()
 }
 
-/// A number that is at least so many times one that is not negative: that one, doubled as often as the count is halved. `None` where the
+/// A number that is at least so many times one that is not negative: that one, doubled as often as the count is halved. `None` if the
 /// type does not have it.
 fn times<A: IntegerElem>(number: A, count: usize) -> Option<A>
     ensures { (n : ℕ) → A.value number ≡ pos n → IfSome result (λ s. A.fits (A.value s) × (pos (count * n) ≤ℤ A.value s)) }
@@ -113,7 +113,7 @@ fn times<A: IntegerElem>(number: A, count: usize) -> Option<A>
     Some(sum)
 }
 
-/// The largest absolute value of the numbers, where the type has it.
+/// The largest absolute value of the numbers, if the type has it.
 fn largest_magnitude<A: IntegerElem>(extremes: &Extremes<A>) -> Option<A>
     ensures { (whole : List ℤ) → ExtremesSoFar A.fits whole [] (A.value extremes.now.least) (A.value extremes.now.greatest)
         → IfSome result (λ l. (m : ℕ) × (A.value l ≡ pos m) × AreUpTo A.fits m whole) }
@@ -124,7 +124,7 @@ fn largest_magnitude<A: IntegerElem>(extremes: &Extremes<A>) -> Option<A>
     Some(larger(size, extremes.greatest))
 }
 
-/// Those of the cells of an array.
+/// The extremes of the cells of an array.
 fn extremes_of_array<A: IntegerElem, D: Lengths>(array: &ArrayView<'_, A, D>) -> Extremes<A>
     ensures { ExtremesSoFar A.fits (map A.value array.now.cells) [] (A.value result.least) (A.value result.greatest) }
 {
@@ -136,7 +136,7 @@ fn extremes_of_array<A: IntegerElem, D: Lengths>(array: &ArrayView<'_, A, D>) ->
     extremes
 }
 
-/// Those of two lists of equal length.
+/// The extremes of two lists of equal length.
 fn extremes_of_lists<A: IntegerElem>(
     left: Strided<'_, A>,
     right: Strided<'_, A>,
@@ -156,7 +156,7 @@ fn extremes_of_lists<A: IntegerElem>(
     )
 }
 
-/// Those of two slices of equal length, a block of each in turn: where both are the same memory, it is read once.
+/// The extremes of two slices of equal length, a block of each in turn: if both are the same memory, it is read once.
 fn extremes_of_slices<A: IntegerElem>(xs: &[A], ys: &[A]) -> (Extremes<A>, Extremes<A>)
     requires { length xs.now ≡ length ys.now }
     ensures left { ExtremesSoFar A.fits (map A.value xs.now) [] (A.value result.0.least) (A.value result.0.greatest) }
@@ -174,7 +174,7 @@ fn extremes_of_slices<A: IntegerElem>(xs: &[A], ys: &[A]) -> (Extremes<A>, Extre
     (first, second)
 }
 
-/// Those of no numbers.
+/// The extremes of no numbers.
 fn no_extremes<A: IntegerElem>() -> Extremes<A>
     ensures { (whole : List ℤ) → ExtremesSoFar A.fits whole whole (A.value result.least) (A.value result.greatest) }
 {
@@ -184,7 +184,7 @@ fn no_extremes<A: IntegerElem>() -> Extremes<A>
     }
 }
 
-/// Those with the cells of a run.
+/// The extremes with the cells of a run added.
 fn with_run<A: IntegerElem>(extremes: Extremes<A>, run: Strided<'_, A>) -> Extremes<A>
     ensures { (whole rest : List ℤ) → ExtremesSoFar A.fits whole (map A.value run.entry ++ rest) (A.value extremes.least) (A.value extremes.greatest)
         → ExtremesSoFar A.fits whole rest (A.value result.least) (A.value result.greatest) }
@@ -195,7 +195,7 @@ fn with_run<A: IntegerElem>(extremes: Extremes<A>, run: Strided<'_, A>) -> Extre
     with_stepped(extremes, run)
 }
 
-/// Those with the cells of a slice.
+/// The extremes with the cells of a slice added.
 fn with_slice<A: IntegerElem>(extremes: Extremes<A>, cells: &[A]) -> Extremes<A>
     ensures { (whole rest : List ℤ) → ExtremesSoFar A.fits whole (map A.value cells.now ++ rest) (A.value extremes.least) (A.value extremes.greatest)
         → ExtremesSoFar A.fits whole rest (A.value result.least) (A.value result.greatest) }
@@ -209,7 +209,7 @@ fn with_slice<A: IntegerElem>(extremes: Extremes<A>, cells: &[A]) -> Extremes<A>
     extremes
 }
 
-/// Those with cells that lie a step apart.
+/// The extremes with cells added that lie a step apart.
 fn with_stepped<A: IntegerElem>(extremes: Extremes<A>, run: Strided<'_, A>) -> Extremes<A>
     ensures { (whole rest : List ℤ) → ExtremesSoFar A.fits whole (map A.value run.entry ++ rest) (A.value extremes.least) (A.value extremes.greatest)
         → ExtremesSoFar A.fits whole rest (A.value result.least) (A.value result.greatest) }
@@ -222,7 +222,7 @@ fn with_stepped<A: IntegerElem>(extremes: Extremes<A>, run: Strided<'_, A>) -> E
     extremes
 }
 
-/// Those with a number.
+/// The extremes with a number added.
 #[inline(always)]
 fn with_number<A: IntegerElem>(extremes: Extremes<A>, x: A) -> Extremes<A>
     ensures { (whole rest : List ℤ) → ExtremesSoFar A.fits whole (A.value x ∷ rest) (A.value extremes.least) (A.value extremes.greatest)
@@ -252,7 +252,7 @@ fn larger<A: IntegerElem>(x: A, y: A) -> A
     if y < x { x } else { y }
 }
 
-/// The sum of the products of two lists of equal length, where each cell is so small that no sum of so many products can leave the type:
+/// The sum of the products of two lists of equal length, if each cell is so small that no sum of so many products can leave the type:
 /// the test of a cell goes with its product. `None` says nothing.
 pub(crate) fn sum_of_small_products<A: IntegerScalar>(
     left: Strided<'_, A>,
@@ -301,7 +301,7 @@ fn largest_factor<A: IntegerElem>(count: usize) -> Option<A>
     Some(factor)
 }
 
-/// The negative of a number that is not negative, where the type has it, else zero.
+/// The negative of a number that is not negative, if the type has it, else zero.
 fn negative_or_zero<A: IntegerElem>(x: A) -> A
     ensures { pos 0 ≤ℤ A.value x → (pos 0 -ℤ A.value x) ≤ℤ A.value result }
 {

@@ -154,7 +154,7 @@ fn total_of_run<T: TotalOperation<A>, A: Copy>(cells: Strided<'_, A>) -> A
     }
 }
 
-/// The total of each lane along an axis: by lanes where their cells lie nearer to one another than those of the items along the
+/// The total of each lane along an axis: lane by lane if the cells of lanes lie nearer to one another than those of the items along the
 /// axis, else item by item.
 pub(crate) fn totals_along<T: TotalOperation<A>, A: Copy, D: Dimension>(
     alloc: Global,

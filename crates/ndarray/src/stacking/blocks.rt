@@ -90,7 +90,7 @@ fn push_each_block<A: Clone, D: Lengths, E: Lengths>(
     Ok(())
 }
 
-/// The same of two arrays whose blocks are of one cell, row by row.
+/// The same for two arrays whose blocks are of one cell, row by row.
 fn push_pairs<A: Clone, D: Lengths, E: Lengths>(
     builder: &mut ArrayBuilder<A, E>,
     axis: usize,
@@ -138,7 +138,7 @@ fn push_by_turns<A: Clone, E: Lengths>(
     )
 }
 
-/// The same of slices.
+/// The same for slices.
 fn push_slices_by_turns<A: Clone, E: Lengths>(
     builder: &mut ArrayBuilder<A, E>,
     xs: &[A],
@@ -157,7 +157,7 @@ fn push_slices_by_turns<A: Clone, E: Lengths>(
     Ok(())
 }
 
-/// The same of cells that lie a step apart.
+/// The same for cells that lie a step apart.
 fn push_steps_by_turns<A: Clone, E: Lengths>(
     builder: &mut ArrayBuilder<A, E>,
     pairs: PairRun<Strided<'_, A>, Strided<'_, A>>,

@@ -1,4 +1,4 @@
-//! Why arrays are not joined.
+//! Errors of joining arrays.
 
 ghost use Rattle.std.specs.Prelude.{◌≡◌, Some};
 ghost use Rattle.ndarray.specs.Joining.{stack_error_text};
@@ -8,12 +8,12 @@ use crate::base::error::ShapeError;
 use std::alloc::AllocError;
 use std::{error, fmt};
 
-/// Why arrays are not joined: their shapes, or allocation failure.
+/// Why arrays were not joined: their shapes, or an allocation failure.
 #[derive(Clone, Copy, PartialEq, Eq, Debug)]
 pub enum StackError {
     /// What is wrong with the axis or the shapes.
     Shape(ShapeError),
-    /// The array, or the clone of a cell, was not allocated.
+    /// An allocation failed, for the array or for the clone of a cell.
     Memory(AllocError),
 }
 

@@ -1,9 +1,9 @@
 //! The macros `concatenate!` and `stack!`.
 
-/// Joins arrays, views and references to them along an axis: `concatenate![alloc, axis, a, b, ..]` is
-/// [`concatenate`](crate::concatenate) of their views, and has its error.
+/// Joins arrays, views or references to them along an axis: `concatenate![alloc, axis, a, b, ..]` calls [`concatenate`](crate::concatenate)
+/// with their views, and returns its errors.
 ///
-/// A last comma is allowed.
+/// A trailing comma is allowed. Requires that each clone equals its source.
 ///
 /// ```
 /// concatenate![alloc, Axis(1), a, b]?;
@@ -15,10 +15,10 @@ macro_rules! concatenate {
     };
 }
 
-/// Stacks arrays, views and references to them along a new axis: `stack![alloc, axis, a, b, ..]` is
-/// [`stack`](crate::stack) of their views, and has its error.
+/// Stacks arrays, views or references to them along a new axis: `stack![alloc, axis, a, b, ..]` calls [`stack`](crate::stack) with their
+/// views, and returns its errors.
 ///
-/// A last comma is allowed.
+/// A trailing comma is allowed. Requires that each clone equals its source.
 ///
 /// ```
 /// stack![alloc, Axis(0), a, b]?;

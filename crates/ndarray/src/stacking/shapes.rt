@@ -123,7 +123,7 @@ fn is_same<D: Lengths>(first: &D, other: &D) -> bool
     first.slice() == other.slice()
 }
 
-/// The lengths along an axis added up, or `None` where they are beyond `usize::MAX`.
+/// The lengths along an axis added up, or `None` if they are beyond `usize::MAX`.
 fn total_len<A, D: Lengths>(axis: Axis, arrays: &[ArrayView<'_, A, D>]) -> Option<usize>
     requires { All (λ g. axis.0 < length g.lengths) arrays.now }
     ensures { MatchOption result (2 ^ 64 ≤ sum_by (λ ns. slice_index ns axis.0) (shapes_of arrays.now)) (λ n. n ≡ sum_by (λ ns. slice_index ns axis.0) (shapes_of arrays.now)) }

@@ -12,14 +12,13 @@ use crate::base::layout::Layout;
 use crate::base::storage::Data;
 use crate::subviews::pieces::{Pieces, PiecesIter};
 
-/// The items along an axis that are still to come: views with that axis taken out.
+/// The iterator over the items along an axis: views with that axis taken out. A contract sees it as the list of those still to come.
 ///
-/// An iterator allocates nothing, and each item is made by arithmetic on the one axis.
+/// Neither making an iterator nor any of its steps allocates; a step takes constant time.
 pub type AxisIter<'a, A, D> = PiecesIter<'a, A, Ix1, D>;
 
 impl<S: Data, D: RemoveAxis> ArrayBase<S, D> {
-    /// The items along an axis, from the first to the last: item i is the array with i put in at
-    /// that axis.
+    /// An iterator over the items along an axis, from the first to the last: item i is the view that `index_axis` returns at i.
     ///
     /// Requires an axis below the number of axes; check with `axis_ok`.
     ///
@@ -35,7 +34,7 @@ impl<S: Data, D: RemoveAxis> ArrayBase<S, D> {
         self.items(axis).into_iter()
     }
 
-    /// The items along axis 0.
+    /// An iterator over the items along axis 0, from the first to the last.
     ///
     /// Requires at least one axis; check with `axis_ok(Axis(0))`.
     ///
@@ -70,9 +69,9 @@ impl<S: Data, D: RemoveAxis> ArrayBase<S, D> {
 }
 
 impl<'a, A, D: Lengths> AxisIter<'a, A, D> {
-    /// The first `index` items still to come, and the rest. O(1).
+    /// Splits the iterator, in constant time: into the first `index` items still to come, and the rest.
     ///
-    /// Requires an index that is at most the number of those still to come; compare with `len`.
+    /// Requires that the index is at most the number of items still to come; compare with `len`.
     ///
     /// ```
     /// // of three columns the first, and the other two
@@ -88,7 +87,7 @@ impl<'a, A, D: Lengths> AxisIter<'a, A, D> {
         (first, rest)
     }
 
-    /// Leaves out the next `n` items and takes the one after them. O(1).
+    /// Leaves out the next `n` items and takes the one after them, in constant time; `None` if there is none.
     ///
     /// ```
     /// let mut columns = a.axis_iter(Axis(1)); // of [[1, 2, 3], [4, 5, 6]]

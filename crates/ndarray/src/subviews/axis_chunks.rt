@@ -15,9 +15,9 @@ use std::alloc::AllocError;
 use std::iter::ExactSizeIterator;
 use std::marker::Model;
 
-/// The chunks along an axis that are still to come, from the first to the last.
+/// The iterator over the chunks along an axis, from the first to the last. A contract sees it as the list of those still to come.
 ///
-/// An iterator allocates nothing, and each chunk is made by arithmetic on the one axis.
+/// Neither making an iterator nor any of its steps allocates; a step takes constant time.
 #[derive(Drop)]
 pub struct AxisChunksIter<'a, A, D: Lengths> {
     view: ArrayView<'a, A, D>,
@@ -40,7 +40,7 @@ impl<'a, A, D: Lengths> Model for AxisChunksIter<'a, A, D> {
 }
 
 impl<S: Data, D: Lengths> ArrayBase<S, D> {
-    /// Whether the axis is below the number of axes, and the size is at least 1.
+    /// Whether `axis_chunks_iter` may be called: the axis is below the number of axes, and the size is at least 1.
     ///
     /// ```
     /// if a.chunk_ok(Axis(0), size) {
@@ -53,8 +53,8 @@ impl<S: Data, D: Lengths> ArrayBase<S, D> {
         axis.0 < self.ndim() && 1 <= size
     }
 
-    /// The chunks of a size along an axis, from the first to the last. All have that length on the
-    /// axis, but the last one has what is left.
+    /// An iterator over the chunks along an axis, from the first to the last. Each has the length `size` on the axis, but the last one has
+    /// what is left.
     ///
     /// Requires an axis below the number of axes and a size of at least 1; check with `chunk_ok`.
     ///
@@ -134,9 +134,9 @@ impl<'a, A, D: Lengths> AxisChunksIter<'a, A, D> {
         }
     }
 
-    /// The first `index` chunks still to come, and the rest. O(1).
+    /// Splits the iterator, in constant time: into the first `index` chunks still to come, and the rest.
     ///
-    /// Requires an index that is at most the number of those still to come; compare with `len`.
+    /// Requires that the index is at most the number of chunks still to come; compare with `len`.
     ///
     /// ```
     /// // of [1, 2], [3, 4] and [5] the first two, and the last
@@ -152,7 +152,7 @@ impl<'a, A, D: Lengths> AxisChunksIter<'a, A, D> {
         (first, rest)
     }
 
-    /// Leaves out the next `n` chunks and takes the one after them. O(1).
+    /// Leaves out the next `n` chunks and takes the one after them, in constant time; `None` if there is none.
     ///
     /// ```
     /// let mut chunks = a.axis_chunks_iter(Axis(0), 2); // [1, 2], [3, 4], [5]

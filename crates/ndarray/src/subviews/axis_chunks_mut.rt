@@ -15,7 +15,7 @@ use crate::order::{Order, Walk};
 use crate::subviews::piece_layouts::{PieceLayouts, PieceLayoutsFromEnds, PiecesIterMut};
 use std::marker::{Model, PhantomData};
 
-/// Where the chunks along an axis lie that are still to come.
+/// Where those chunks along an axis lie that are still to come.
 #[derive(Drop)]
 pub struct ChunkLayouts<D: Lengths> {
     layout: Layout<D>,
@@ -89,15 +89,15 @@ impl<D: Lengths> PieceLayoutsFromEnds for ChunkLayouts<D> {
     }
 }
 
-/// The chunks along an axis that are still to come, from the first to the last, to write in. No two
-/// of them share a cell.
+/// The iterator over the chunks along an axis, from the first to the last, to write in. No two of them share a cell. A contract sees it as
+/// the list of those still to come.
 ///
-/// An iterator allocates nothing, and each chunk is made by arithmetic on the one axis.
+/// Neither making an iterator nor any of its steps allocates; a step takes constant time.
 pub type AxisChunksIterMut<'a, A, D> = PiecesIterMut<'a, A, ChunkLayouts<D>>;
 
 impl<S: DataMut, D: Lengths> ArrayBase<S, D> {
-    /// The chunks of a size along an axis, from the first to the last, to write in. All have that
-    /// length on the axis, but the last one has what is left.
+    /// An iterator over the chunks along an axis, from the first to the last, to write in. Each has the length `size` on the axis, but the
+    /// last one has what is left. No two of them share a cell.
     ///
     /// Requires an axis below the number of axes and a size of at least 1; check with `chunk_ok`.
     ///

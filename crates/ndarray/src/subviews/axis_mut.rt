@@ -14,15 +14,15 @@ use crate::base::storage::DataMut;
 use crate::subviews::pieces_mut::{EqualPiecesIterMut, PiecesMut};
 use std::marker::PhantomData;
 
-/// The items along an axis that are still to come, to write in: views with that axis taken out. No
-/// two of them share a cell.
+/// The iterator over the items along an axis, to write in: views with that axis taken out. No two of them share a cell. A contract sees it
+/// as the list of those still to come.
 ///
-/// An iterator allocates nothing, and each item is made by arithmetic on the one axis.
+/// Neither making an iterator nor any of its steps allocates; a step takes constant time.
 pub type AxisIterMut<'a, A, D> = EqualPiecesIterMut<'a, A, Ix1, D>;
 
 impl<S: DataMut, D: RemoveAxis> ArrayBase<S, D> {
-    /// The items along an axis, from the first to the last, to write in: item i is the array with i
-    /// put in at that axis.
+    /// An iterator over the items along an axis, from the first to the last, to write in: item i is the view that `index_axis_mut` returns
+    /// at i. No two of them share a cell.
     ///
     /// Requires an axis below the number of axes; check with `axis_ok`.
     ///
@@ -41,7 +41,7 @@ impl<S: DataMut, D: RemoveAxis> ArrayBase<S, D> {
         items(self.view_mut(), axis).into_iter()
     }
 
-    /// The items along axis 0, to write in.
+    /// An iterator over the items along axis 0, from the first to the last, to write in.
     ///
     /// Requires at least one axis; check with `axis_ok(Axis(0))`.
     ///

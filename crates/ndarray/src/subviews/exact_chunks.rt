@@ -10,15 +10,14 @@ use crate::base::storage::Data;
 use crate::subviews::pieces::{Pieces, PiecesIter};
 use crate::subviews::positions::are_positive;
 
-/// The whole chunks of an array, in row order of their positions.
+/// The whole chunks of an array, one at each position: a producer, and an iterator by `into_iter`, in row order of the positions.
 pub type ExactChunks<'a, A, D> = Pieces<'a, A, D, D>;
 
-/// The whole chunks that are still to come, in row order of their positions, or in the order that
-/// `run` was asked for.
+/// The iterator over the whole chunks of an array, in row order of their positions, or in the order that was asked for by `run`.
 pub type ExactChunksIter<'a, A, D> = PiecesIter<'a, A, D, D>;
 
 impl<S: Data, D: Dimension> ArrayBase<S, D> {
-    /// Whether there are as many chunk lengths as axes, each at least 1.
+    /// Whether `exact_chunks` may be called: there are as many chunk lengths as axes, and each is at least 1.
     ///
     /// ```
     /// if a.chunks_ok(&Ix2(2, 2)) {
@@ -31,8 +30,8 @@ impl<S: Data, D: Dimension> ArrayBase<S, D> {
         are_positive(&self.layout.dim, chunk)
     }
 
-    /// The whole chunks of an array: on each axis their number is the length divided by the chunk's,
-    /// rounded down, and the rest of the axis is left out.
+    /// The whole chunks of an array, side by side: on each axis their number is the array's length divided by the chunk's, rounded down,
+    /// and what is left of the axis is in none.
     ///
     /// Requires as many chunk lengths as there are axes, each at least 1; check with `chunks_ok`.
     ///

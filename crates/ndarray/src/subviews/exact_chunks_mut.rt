@@ -11,16 +11,17 @@ use crate::subviews::pieces_mut::{EqualPiecesIterMut, PiecesMut};
 use crate::subviews::positions::window_positions;
 use std::marker::PhantomData;
 
-/// The whole chunks of an array, to write in, in row order of their positions. No two of them share
-/// a cell.
+/// The whole chunks of an array, to write in, one at each position: a producer, and an iterator by `into_iter`, in row order of the
+/// positions. No two of them share a cell.
 pub type ExactChunksMut<'a, A, D> = PiecesMut<'a, A, D, D>;
 
-/// The whole chunks that are still to come, to write in, in row order of their positions.
+/// The iterator over the whole chunks of an array, to write in, in row order of their positions, or in the order that was asked for by
+/// `run`.
 pub type ExactChunksIterMut<'a, A, D> = EqualPiecesIterMut<'a, A, D, D>;
 
 impl<S: DataMut, D: Dimension> ArrayBase<S, D> {
-    /// The whole chunks of an array, to write in: on each axis their number is the length divided by
-    /// the chunk's, rounded down, and the rest of the axis is left out.
+    /// The whole chunks of an array, side by side, to write in: on each axis their number is the array's length divided by the chunk's,
+    /// rounded down, and what is left of the axis is in none. No two of them share a cell.
     ///
     /// Requires as many chunk lengths as there are axes, each at least 1; check with `chunks_ok`.
     ///

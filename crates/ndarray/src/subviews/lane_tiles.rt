@@ -23,7 +23,7 @@ use crate::places::place_rows::PlaceRow;
 /// How many lanes are scanned side by side at most.
 const TILE: usize = 512;
 
-/// From how many cells on an array does not stay in the first cache, where the cells of a lane can be in each other's way.
+/// From how many cells on an array does not fit into the first-level cache, so that the cells of a lane may evict each other.
 const MANY_CELLS: usize = 1 << 14;
 
 /// Whether lanes are scanned faster in tiles: there are many cells, and those of neighbouring lanes lie no farther apart than
@@ -92,7 +92,7 @@ fn scan_row<A: Copy, S: DataMut<Elem = A>, D: Lengths, B: Copy, F: Fn(B, A) -> (
     }
 }
 
-/// The same of no more lanes than there are values: each step along all of them before the next one.
+/// The same for no more lanes than there are values: each step along all of them before the next one.
 #[inline(always)]
 fn scan_side_by_side<A: Copy, S: DataMut<Elem = A>, D: Lengths, B: Copy, F: Fn(B, A) -> (B, A)>(
     array: &mut ArrayBase<S, D>,

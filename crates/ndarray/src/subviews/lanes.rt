@@ -1,4 +1,4 @@
-//! The lanes along an axis: views of one axis, one for each index list of the other axes.
+//! The lanes along an axis: one-dimensional views, one for each index list of the other axes.
 
 ghost use Rattle.std.specs.Prelude.{◌≡◌, ◌⊎◌, ◌-◌, ◌<◌, ◌↔◌, [], length, remove, slice_index, IsTrue};
 ghost use Rattle.ndarray.specs.Subviews.{lanes_of};
@@ -10,16 +10,15 @@ use crate::base::layout::Layout;
 use crate::base::storage::Data;
 use crate::subviews::pieces::{Pieces, PiecesIter};
 
-/// The lanes along an axis: views of that one axis, one for each index list of the other axes, whose
-/// dimension is `D`.
+/// The lanes along an axis: one-dimensional views, one for each index list of the other axes, whose dimension is `D`. They are a producer,
+/// and an iterator by `into_iter`, in row order of these index lists.
 pub type Lanes<'a, A, D> = Pieces<'a, A, D, Ix1>;
 
-/// The lanes that are still to come, in row order of their index lists, or in the order that `run`
-/// was asked for.
+/// The iterator over the lanes along an axis, in row order of their index lists, or in the order that was asked for by `run`.
 pub type LanesIter<'a, A, D> = PiecesIter<'a, A, D, Ix1>;
 
 impl<S: Data, D: Dimension> ArrayBase<S, D> {
-    /// Whether the axis is below the number of axes, or there are no axes at all.
+    /// Whether `lanes` may be called: the axis is below the number of axes, or there are no axes.
     ///
     /// ```
     /// if a.lanes_ok(axis) {
@@ -33,10 +32,10 @@ impl<S: Data, D: Dimension> ArrayBase<S, D> {
         ndim == 0 || axis.0 < ndim
     }
 
-    /// The lanes along an axis, one for each index list of the other axes. An array of no axes has
-    /// one lane of length 1, whichever axis is named.
+    /// The lanes along an axis, one for each index list of the other axes. An array without axes has one lane of length 1, whichever axis
+    /// is named.
     ///
-    /// Requires an axis below the number of axes, or no axes at all; check with `lanes_ok`.
+    /// Requires that the axis is below the number of axes, or that there are no axes; check with `lanes_ok`.
     ///
     /// ```
     /// let view = ArrayView::from_shape((2, 3), &[1, 2, 3, 4, 5, 6])?;
@@ -56,7 +55,7 @@ impl<S: Data, D: Dimension> ArrayBase<S, D> {
         }
     }
 
-    /// The lanes along the last axis.
+    /// The lanes along the last axis: of a matrix, its rows. An array without axes has one of length 1.
     ///
     /// ```
     /// // of [[1, 2, 3], [4, 5, 6]]: [1, 2, 3] and [4, 5, 6]
@@ -68,7 +67,7 @@ impl<S: Data, D: Dimension> ArrayBase<S, D> {
         self.lanes(Axis(self.ndim().saturating_sub(1)))
     }
 
-    /// The lanes along axis 0.
+    /// The lanes along axis 0: of a matrix, its columns. An array without axes has one of length 1.
     ///
     /// ```
     /// // of [[1, 2, 3], [4, 5, 6]]: [1, 4], [2, 5] and [3, 6]
@@ -96,7 +95,7 @@ pub(super) fn first_cells<D: Dimension>(layout: &Layout<D>, axis: Axis) -> Layou
     }
 }
 
-/// The length of each lane along an axis and the stride in it: 1 and 0 where there are no axes.
+/// The length of each lane along an axis and the stride in it: 1 and 0 if there are no axes.
 pub(super) fn len_and_stride<D: Lengths>(layout: &Layout<D>, axis: Axis) -> (usize, usize)
     requires dim { (D.numbers layout.now.dim ≡ []) ⊎ (axis.0 < length (D.numbers layout.now.dim)) }
     requires as_many { length (D.numbers layout.now.strides) ≡ length (D.numbers layout.now.dim) }

@@ -11,18 +11,18 @@ use crate::subviews::lanes::{first_cells, len_and_stride};
 use crate::subviews::pieces_mut::{EqualPiecesIterMut, PiecesMut};
 use std::marker::PhantomData;
 
-/// The lanes along an axis, to write in: views of that one axis, one for each index list of the
-/// other axes, whose dimension is `D`. No two of them share a cell.
+/// The lanes along an axis, to write in: one-dimensional views, one for each index list of the other axes, whose dimension is `D`. No two
+/// of them share a cell. They are a producer, and an iterator by `into_iter`, in row order of these index lists.
 pub type LanesMut<'a, A, D> = PiecesMut<'a, A, D, Ix1>;
 
-/// The lanes that are still to come, to write in, in row order of their index lists.
+/// The iterator over the lanes along an axis, to write in, in row order of their index lists, or in the order that was asked for by `run`.
 pub type LanesIterMut<'a, A, D> = EqualPiecesIterMut<'a, A, D, Ix1>;
 
 impl<S: DataMut, D: Dimension> ArrayBase<S, D> {
-    /// The lanes along an axis, one for each index list of the other axes, to write in. An array of
-    /// no axes has one lane of length 1, whichever axis is named.
+    /// The lanes along an axis, one for each index list of the other axes, to write in. No two of them share a cell. An array without axes
+    /// has one lane of length 1, whichever axis is named.
     ///
-    /// Requires an axis below the number of axes, or no axes at all; check with `lanes_ok`.
+    /// Requires that the axis is below the number of axes, or that there are no axes; check with `lanes_ok`.
     ///
     /// ```
     /// for mut lane in array.lanes_mut(Axis(0)) {
@@ -38,11 +38,11 @@ impl<S: DataMut, D: Dimension> ArrayBase<S, D> {
         pieces(self.view_mut(), axis)
     }
 
-    /// The lanes along the last axis, to write in.
+    /// The lanes along the last axis, to write in: of a matrix, its rows. An array without axes has one of length 1.
     ///
     /// ```
     /// for mut row in array.rows_mut() {
-    ///     row.update(|j, x| x + j); // the number of the column added to each cell
+    /// row.update(|j, x| x + j); // adds to each cell the number of its column
     /// }
     /// ```
     pub fn rows_mut(&mut self) -> LanesMut<'_, S::Elem, D::Smaller>
@@ -52,11 +52,11 @@ impl<S: DataMut, D: Dimension> ArrayBase<S, D> {
         self.lanes_mut(Axis(last))
     }
 
-    /// The lanes along axis 0, to write in.
+    /// The lanes along axis 0, to write in: of a matrix, its columns. An array without axes has one of length 1.
     ///
     /// ```
     /// for mut column in array.columns_mut() {
-    ///     column.update(|i, x| x + i); // the number of the row added to each cell
+    /// column.update(|i, x| x + i); // adds to each cell the number of its row
     /// }
     /// ```
     pub fn columns_mut(&mut self) -> LanesMut<'_, S::Elem, D::Smaller>

@@ -147,9 +147,14 @@ impl<'a, A, T: PieceLayoutsFromEnds> DoubleEndedIterator for PiecesIterMut<'a, A
 }
 
 impl<'a, A, T: PieceLayoutsFromEnds> PiecesIterMut<'a, A, T> {
-    /// The first `index` sub-views still to come, and the rest. O(1).
+    /// Splits the iterator, in constant time: into the first `index` sub-views still to come, and the rest. No cell is in both.
     ///
-    /// Requires an index that is at most the number of those still to come; compare with `len`.
+    /// Requires that the index is at most the number of sub-views still to come; compare with `len`.
+    ///
+    /// ```
+    /// // of three columns the first, and the other two
+    /// let (first, others) = a.axis_iter_mut(Axis(1)).split_at(1);
+    /// ```
     pub fn split_at(self, index: usize) -> (Self, Self)
         requires { index ≤ length self }
         ensures first { result.0 ≡ take index self.entry }

@@ -69,7 +69,7 @@ impl<'a, A, P: Lengths, D: Lengths> Pieces<'a, A, P, D> {
         }
     }
 
-    /// The same once more.
+    /// A copy of it.
     pub(crate) fn again(&self) -> Self
         ensures { result ≡ self.now }
     {

@@ -43,8 +43,8 @@ fn count(len: usize, window: usize, step: usize) -> usize
     }
 }
 
-/// The positions of the windows of these lengths, steps apart on each axis. The distance of two
-/// positions is formed only where there is a window.
+/// The positions of the windows of these lengths, steps apart on each axis. The distance of two positions is formed only if there is a
+/// window.
 pub(super) fn window_positions<D: Lengths>(layout: &Layout<D>, window: &D, steps: &D) -> Layout<D>
     requires limit { IsWithinLimit (D.numbers layout.now.dim) }
     requires strides { length (D.numbers layout.now.strides) ≡ length (D.numbers layout.now.dim) }

@@ -1,4 +1,4 @@
-//! Scans of the lanes of an array, in place: a value goes along each lane, and each cell is replaced on the way.
+//! Scans of the lanes of an array in place: a value is carried along each lane, and each cell is replaced on the way.
 
 ghost use Rattle.std.specs.Prelude.{◌≡◌, ◌≢◌, ◌⊎◌, ◌<◌, ℕ, Contains, List, [], Some, filter_map, length, remove, slice_index};
 ghost use Rattle.ndarray.specs.Grid.{IsGrid, cell};
@@ -18,13 +18,14 @@ use crate::subviews::lane_tiles::{are_tiles_faster, scan_by_tiles};
 use std::mem::size_of_val;
 
 impl<A: Copy, S: DataMut<Elem = A>, D: Lengths> ArrayBase<S, D> {
-    /// Scans each lane of an axis in place: the value is `init` at the lane's first cell, and `f` takes the value and the
-    /// old cell and returns the next value and the new cell. Nothing is allocated.
+    /// Scans each lane along an axis in place: the value is `init` at the lane's first cell, and `f` takes the value and the old cell and
+    /// returns the next value and the new cell. Nothing is allocated.
     ///
-    /// There are `len()` calls, in each lane in the order of its indices; each lane begins with `init`. An array of no
-    /// axes has one lane of length 1, whichever axis is named. Without cells `f` is not called.
+    /// There is one call for each cell, `len()` in all, in each lane in the order of its indices. An array without axes has one lane of
+    /// length 1, whichever axis is named.
     ///
-    /// Requires an axis below the number of axes, or no axes at all; check with `lanes_ok`.
+    /// Requires that the axis is below the number of axes, or that there are no axes (check with `lanes_ok`), and that each of these calls
+    /// may be made.
     ///
     /// ```
     /// // [[1, 2, 3], [4, 5, 6]] becomes [[1, 3, 6], [4, 9, 15]]
@@ -45,7 +46,7 @@ impl<A: Copy, S: DataMut<Elem = A>, D: Lengths> ArrayBase<S, D> {
     }
 }
 
-/// The same of an array of no axes.
+/// The same for an array of no axes.
 fn scan_cell<A: Copy, S: DataMut<Elem = A>, D: Lengths, B: Copy, F: Fn(B, A) -> (B, A)>(
     array: &mut ArrayBase<S, D>,
     axis: Axis,
@@ -60,7 +61,7 @@ fn scan_cell<A: Copy, S: DataMut<Elem = A>, D: Lengths, B: Copy, F: Fn(B, A) -> 
     let _last = scan_step(array, &index, init, f);
 }
 
-/// The same of an array that has the axis, lane by lane.
+/// The same for an array that has the axis, lane by lane.
 fn scan_axis<A: Copy, S: DataMut<Elem = A>, D: Lengths, B: Copy, F: Fn(B, A) -> (B, A)>(
     array: &mut ArrayBase<S, D>,
     axis: Axis,

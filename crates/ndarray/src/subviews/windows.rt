@@ -12,15 +12,14 @@ use crate::subviews::pieces::{Pieces, PiecesIter};
 use crate::subviews::positions::{are_positive, ones};
 use std::marker::Model;
 
-/// The windows of an array, in row order of their positions.
+/// The windows of an array, one at each position: a producer, and an iterator by `into_iter`, in row order of the positions.
 pub type Windows<'a, A, D> = Pieces<'a, A, D, D>;
 
-/// The windows that are still to come, in row order of their positions, or in the order that `run`
-/// was asked for.
+/// The iterator over the windows of an array, in row order of their positions, or in the order that was asked for by `run`.
 pub type WindowsIter<'a, A, D> = PiecesIter<'a, A, D, D>;
 
-/// The windows of an array along one axis, from the first to the last; on the other axes they have
-/// the whole length.
+/// The windows of an array along one axis, from the first to the last; on the other axes they have the array's length. They are a producer,
+/// and an iterator by `into_iter`.
 #[derive(Drop)]
 pub struct AxisWindows<'a, A, D: Lengths> {
     // on each axis but this one there is one position
@@ -40,7 +39,7 @@ impl<'a, A, D: Lengths> Model for AxisWindows<'a, A, D> {
 }
 
 impl<S: Data, D: Dimension> ArrayBase<S, D> {
-    /// Whether there are as many window lengths and as many steps as axes, all at least 1.
+    /// Whether `windows_with_stride` may be called: there are as many window lengths and as many steps as axes, and each is at least 1.
     ///
     /// ```
     /// if a.windows_ok(&Ix2(2, 2), &Ix2(1, 1)) {
@@ -53,10 +52,9 @@ impl<S: Data, D: Dimension> ArrayBase<S, D> {
         are_positive(&self.layout.dim, window) && are_positive(&self.layout.dim, steps)
     }
 
-    /// The windows of these lengths, one at each position where a whole window begins.
+    /// The windows with the lengths `window`, one at each position at which a whole window begins.
     ///
-    /// Requires as many window lengths as there are axes, each at least 1; check with `windows_ok`,
-    /// with steps of 1.
+    /// Requires as many window lengths as there are axes, each at least 1; check with `windows_ok` at steps of 1.
     ///
     /// ```
     /// let a = ArrayView::from_shape(4, &[1, 2, 3, 4])?;
@@ -69,11 +67,9 @@ impl<S: Data, D: Dimension> ArrayBase<S, D> {
         self.pieces(window.into_dimension(), &ones(&self.layout.dim))
     }
 
-    /// The windows of these lengths, with positions so many steps apart on each axis: window i of an
-    /// axis starts at i times the step.
+    /// The windows with the lengths `window` at positions `steps` apart: along an axis, window i starts at i times the axis's step.
     ///
-    /// Requires as many window lengths and as many steps as there are axes, all at least 1; check
-    /// with `windows_ok`.
+    /// Requires as many window lengths and as many steps as there are axes, each at least 1; check with `windows_ok`.
     ///
     /// ```
     /// let a = ArrayView::from_shape(4, &[1, 2, 3, 4])?;
@@ -93,7 +89,8 @@ impl<S: Data, D: Dimension> ArrayBase<S, D> {
 }
 
 impl<S: Data, D: Lengths> ArrayBase<S, D> {
-    /// The windows of a length along one axis; on the other axes they have the whole length.
+    /// The windows along one axis, one at each index at which a whole window begins: they have the length `window` on it, and on the other
+    /// axes the array's length.
     ///
     /// Requires an axis below the number of axes and a window length of at least 1; check with
     /// `chunk_ok(axis, window)`.
@@ -110,7 +107,7 @@ impl<S: Data, D: Lengths> ArrayBase<S, D> {
         self.axis_windows_with_stride(axis, window, 1)
     }
 
-    /// The same with positions a step apart: window i starts at i times the step.
+    /// The windows along one axis, as those of [`axis_windows`](Self::axis_windows), but a step apart: window i starts at i times the step.
     ///
     /// Requires an axis below the number of axes, and a window length and a step of at least 1;
     /// check with `chunk_ok(axis, window)` and `chunk_ok(axis, step)`.

@@ -1,4 +1,4 @@
-//! The walks over all items of a `Zip`, in the order that suits its producers: once for all numbers of them.
+//! The calls at all items of a `Zip`, in the order that suits its producers, for any number of them.
 
 ghost use Rattle.std.specs.Prelude.{◌≡◌, true, false, length, IfOk, IsOk};
 ghost use Rattle.ndarray.specs.Grid.{IsGrid};

@@ -19,7 +19,7 @@ use crate::zip::{Parts, Zip};
 use std::alloc::{AllocError, Global};
 
 impl<N: NdProducer<Dim = D>, D: Lengths> Zip<Parts<N, One>, D> {
-    /// Calls `f` once at the items of each index list.
+    /// Calls `f` once for each index list, with the items there. Requires that these calls may be made, in row order and in column order.
     ///
     /// ```
     /// Zip::from(a.view_mut()).for_each(|x| *x += 1);
@@ -31,8 +31,8 @@ impl<N: NdProducer<Dim = D>, D: Lengths> Zip<Parts<N, One>, D> {
         self.visit_items(On1(f))
     }
 
-    /// Calls `f` once at the total and the items of each index list; what it returns is the next total, and the
-    /// last one the result.
+    /// Calls `f` once for each index list, with the total so far and the items there; `f` returns the next total, and the last total is the
+    /// result. Requires that these calls may be made, in row order and in column order.
     ///
     /// ```
     /// let sum = Zip::from(&a).fold(0, |sum, x| sum + x);
@@ -44,7 +44,8 @@ impl<N: NdProducer<Dim = D>, D: Lengths> Zip<Parts<N, One>, D> {
         self.fold_items(acc, On1(f))
     }
 
-    /// As `fold`, up to the first result that is `Done`.
+    /// Calls `f` as `fold` does, but no more after its first result that is `Done`. It returns the last result of `f`, or `Continue(acc)`
+    /// if there is no index list. Requires that these calls may be made, in row order and in column order.
     ///
     /// ```
     /// // how many come before the first cell that is not positive
@@ -59,7 +60,8 @@ impl<N: NdProducer<Dim = D>, D: Lengths> Zip<Parts<N, One>, D> {
         self.fold_items_while(acc, On1(f))
     }
 
-    /// Whether `f` returns `true` at the items of each index list; it stops at the first `false`.
+    /// Whether `f` returns `true` for each index list, with the items there; it stops at the first `false`. Requires that these calls may
+    /// be made, in row order and in column order.
     ///
     /// ```
     /// let all = Zip::from(&a).all(|x| *x > 0);
@@ -71,7 +73,8 @@ impl<N: NdProducer<Dim = D>, D: Lengths> Zip<Parts<N, One>, D> {
         self.all_items(On1(f))
     }
 
-    /// Whether `f` returns `true` at the items of some index list; it stops at the first `true`.
+    /// Whether `f` returns `true` for some index list, with the items there; it stops at the first `true`. Requires that these calls may be
+    /// made, in row order and in column order.
     ///
     /// ```
     /// let any = Zip::from(&a).any(|x| *x == 0);
@@ -83,10 +86,10 @@ impl<N: NdProducer<Dim = D>, D: Lengths> Zip<Parts<N, One>, D> {
         self.any_items(On1(f))
     }
 
-    /// The array that has at each index list what `f` returns at the items there.
+    /// The array whose cell at each index list is what `f` returns for the items there. Requires that these calls may be made, in row order
+    /// and in column order.
     ///
-    /// All memory is reserved before the first call; an `Err` calls `f` never, and where there is no index
-    /// list there is none.
+    /// The error is an allocation failure, before the first call of `f`, and is never reported if there is no index list.
     ///
     /// ```
     /// let made = Zip::from(&a).map_collect(alloc, |x| x * x)?;
@@ -105,9 +108,10 @@ impl<N: NdProducer<Dim = D>, D: Lengths> Zip<Parts<N, One>, D> {
         self.collect_items(alloc, On1(f))
     }
 
-    /// Leaves in the cells of an array what `f` returns at the items of each index list.
+    /// Sets the cell of `into` at each index list to what `f` returns for the items there. Nothing is allocated.
     ///
-    /// Requires that the array has the same shape; check with `fits`.
+    /// Requires that `into` has the same lengths as the producers (check with `fits` of its view), and that these calls may be made, in row
+    /// order and in column order.
     ///
     /// ```
     /// Zip::from(&a).map_assign_into(&mut into, |x| x * x);
@@ -127,7 +131,7 @@ impl<N: NdProducer<Dim = D>, D: Lengths> Zip<Parts<N, One>, D> {
 }
 
 impl<X, Y, N: NdProducer<Item = (X, Y), Dim = D>, D: Lengths> Zip<Parts<N, Two>, D> {
-    /// Calls `f` once at the items of each index list.
+    /// Calls `f` once for each index list, with the items there. Requires that these calls may be made, in row order and in column order.
     ///
     /// ```
     /// Zip::from(a.view_mut()).and(&b).for_each(|x, y| *x += *y);
@@ -139,8 +143,8 @@ impl<X, Y, N: NdProducer<Item = (X, Y), Dim = D>, D: Lengths> Zip<Parts<N, Two>,
         self.visit_items(On2(f))
     }
 
-    /// Calls `f` once at the total and the items of each index list; what it returns is the next total, and the
-    /// last one the result.
+    /// Calls `f` once for each index list, with the total so far and the items there; `f` returns the next total, and the last total is the
+    /// result. Requires that these calls may be made, in row order and in column order.
     ///
     /// ```
     /// let sum = Zip::from(&a).and(&b).fold(0, |sum, x, y| sum + x * y);
@@ -152,7 +156,8 @@ impl<X, Y, N: NdProducer<Item = (X, Y), Dim = D>, D: Lengths> Zip<Parts<N, Two>,
         self.fold_items(acc, On2(f))
     }
 
-    /// As `fold`, up to the first result that is `Done`.
+    /// Calls `f` as `fold` does, but no more after its first result that is `Done`. It returns the last result of `f`, or `Continue(acc)`
+    /// if there is no index list. Requires that these calls may be made, in row order and in column order.
     ///
     /// ```
     /// // how many come before the first sum that is not positive
@@ -167,7 +172,8 @@ impl<X, Y, N: NdProducer<Item = (X, Y), Dim = D>, D: Lengths> Zip<Parts<N, Two>,
         self.fold_items_while(acc, On2(f))
     }
 
-    /// Whether `f` returns `true` at the items of each index list; it stops at the first `false`.
+    /// Whether `f` returns `true` for each index list, with the items there; it stops at the first `false`. Requires that these calls may
+    /// be made, in row order and in column order.
     ///
     /// ```
     /// let all = Zip::from(&a).and(&b).all(|x, y| x <= y);
@@ -179,7 +185,8 @@ impl<X, Y, N: NdProducer<Item = (X, Y), Dim = D>, D: Lengths> Zip<Parts<N, Two>,
         self.all_items(On2(f))
     }
 
-    /// Whether `f` returns `true` at the items of some index list; it stops at the first `true`.
+    /// Whether `f` returns `true` for some index list, with the items there; it stops at the first `true`. Requires that these calls may be
+    /// made, in row order and in column order.
     ///
     /// ```
     /// let any = Zip::from(&a).and(&b).any(|x, y| x + y == 0);
@@ -191,10 +198,10 @@ impl<X, Y, N: NdProducer<Item = (X, Y), Dim = D>, D: Lengths> Zip<Parts<N, Two>,
         self.any_items(On2(f))
     }
 
-    /// The array that has at each index list what `f` returns at the items there.
+    /// The array whose cell at each index list is what `f` returns for the items there. Requires that these calls may be made, in row order
+    /// and in column order.
     ///
-    /// All memory is reserved before the first call; an `Err` calls `f` never, and where there is no index
-    /// list there is none.
+    /// The error is an allocation failure, before the first call of `f`, and is never reported if there is no index list.
     ///
     /// ```
     /// let made = Zip::from(&a).and(&b).map_collect(alloc, |x, y| x * y)?;
@@ -213,9 +220,10 @@ impl<X, Y, N: NdProducer<Item = (X, Y), Dim = D>, D: Lengths> Zip<Parts<N, Two>,
         self.collect_items(alloc, On2(f))
     }
 
-    /// Leaves in the cells of an array what `f` returns at the items of each index list.
+    /// Sets the cell of `into` at each index list to what `f` returns for the items there. Nothing is allocated.
     ///
-    /// Requires that the array has the same shape; check with `fits`.
+    /// Requires that `into` has the same lengths as the producers (check with `fits` of its view), and that these calls may be made, in row
+    /// order and in column order.
     ///
     /// ```
     /// Zip::from(&a).and(&b).map_assign_into(&mut into, |x, y| x * y);
@@ -235,7 +243,7 @@ impl<X, Y, N: NdProducer<Item = (X, Y), Dim = D>, D: Lengths> Zip<Parts<N, Two>,
 }
 
 impl<X, Y, Z, N: NdProducer<Item = ((X, Y), Z), Dim = D>, D: Lengths> Zip<Parts<N, Three>, D> {
-    /// Calls `f` once at the items of each index list.
+    /// Calls `f` once for each index list, with the items there. Requires that these calls may be made, in row order and in column order.
     ///
     /// ```
     /// Zip::from(a.view_mut()).and(&b).and(&c).for_each(|x, y, z| *x += *y + *z);
@@ -247,8 +255,8 @@ impl<X, Y, Z, N: NdProducer<Item = ((X, Y), Z), Dim = D>, D: Lengths> Zip<Parts<
         self.visit_items(On3(f))
     }
 
-    /// Calls `f` once at the total and the items of each index list; what it returns is the next total, and the
-    /// last one the result.
+    /// Calls `f` once for each index list, with the total so far and the items there; `f` returns the next total, and the last total is the
+    /// result. Requires that these calls may be made, in row order and in column order.
     ///
     /// ```
     /// let sum = Zip::from(&a).and(&b).and(&c).fold(0, |sum, x, y, z| sum + x * y * z);
@@ -260,7 +268,8 @@ impl<X, Y, Z, N: NdProducer<Item = ((X, Y), Z), Dim = D>, D: Lengths> Zip<Parts<
         self.fold_items(acc, On3(f))
     }
 
-    /// As `fold`, up to the first result that is `Done`.
+    /// Calls `f` as `fold` does, but no more after its first result that is `Done`. It returns the last result of `f`, or `Continue(acc)`
+    /// if there is no index list. Requires that these calls may be made, in row order and in column order.
     ///
     /// ```
     /// // how many come before the first sum that is not positive
@@ -275,7 +284,8 @@ impl<X, Y, Z, N: NdProducer<Item = ((X, Y), Z), Dim = D>, D: Lengths> Zip<Parts<
         self.fold_items_while(acc, On3(f))
     }
 
-    /// Whether `f` returns `true` at the items of each index list; it stops at the first `false`.
+    /// Whether `f` returns `true` for each index list, with the items there; it stops at the first `false`. Requires that these calls may
+    /// be made, in row order and in column order.
     ///
     /// ```
     /// let all = Zip::from(&a).and(&b).and(&c).all(|x, y, z| x <= y && y <= z);
@@ -287,7 +297,8 @@ impl<X, Y, Z, N: NdProducer<Item = ((X, Y), Z), Dim = D>, D: Lengths> Zip<Parts<
         self.all_items(On3(f))
     }
 
-    /// Whether `f` returns `true` at the items of some index list; it stops at the first `true`.
+    /// Whether `f` returns `true` for some index list, with the items there; it stops at the first `true`. Requires that these calls may be
+    /// made, in row order and in column order.
     ///
     /// ```
     /// let any = Zip::from(&a).and(&b).and(&c).any(|x, y, z| x + y + z == 0);
@@ -299,10 +310,10 @@ impl<X, Y, Z, N: NdProducer<Item = ((X, Y), Z), Dim = D>, D: Lengths> Zip<Parts<
         self.any_items(On3(f))
     }
 
-    /// The array that has at each index list what `f` returns at the items there.
+    /// The array whose cell at each index list is what `f` returns for the items there. Requires that these calls may be made, in row order
+    /// and in column order.
     ///
-    /// All memory is reserved before the first call; an `Err` calls `f` never, and where there is no index
-    /// list there is none.
+    /// The error is an allocation failure, before the first call of `f`, and is never reported if there is no index list.
     ///
     /// ```
     /// let made = Zip::from(&a).and(&b).and(&c).map_collect(alloc, |x, y, z| x * y * z)?;
@@ -321,9 +332,10 @@ impl<X, Y, Z, N: NdProducer<Item = ((X, Y), Z), Dim = D>, D: Lengths> Zip<Parts<
         self.collect_items(alloc, On3(f))
     }
 
-    /// Leaves in the cells of an array what `f` returns at the items of each index list.
+    /// Sets the cell of `into` at each index list to what `f` returns for the items there. Nothing is allocated.
     ///
-    /// Requires that the array has the same shape; check with `fits`.
+    /// Requires that `into` has the same lengths as the producers (check with `fits` of its view), and that these calls may be made, in row
+    /// order and in column order.
     ///
     /// ```
     /// Zip::from(&a).and(&b).and(&c).map_assign_into(&mut into, |x, y, z| x * y * z);
@@ -346,10 +358,10 @@ impl<X, Y, Z, U, N: NdProducer<Item = (((X, Y), Z), U), Dim = D>, D: Lengths> Zi
     Parts<N, Four>,
     D,
 > {
-    /// Calls `f` once at the items of each index list.
+    /// Calls `f` once for each index list, with the items there. Requires that these calls may be made, in row order and in column order.
     ///
     /// ```
-    /// Zip::from(a.view_mut()).and(&b).and(&c).for_each(|x, y, z| *x += *y + *z);
+    /// Zip::from(a.view_mut()).and(&b).and(&c).and(&d).for_each(|x, y, z, u| *x += *y + *z + *u);
     /// ```
     pub fn for_each<F: FnMut(X, Y, Z, U)>(self, f: F)
         requires callable { (o : Order) → MayVisit (N.yields_at self.nested) (call_gives4 F.FnMut) (can_call4 F.FnMut) (box_in o (N.lengths self.nested)) f }
@@ -358,11 +370,11 @@ impl<X, Y, Z, U, N: NdProducer<Item = (((X, Y), Z), U), Dim = D>, D: Lengths> Zi
         self.visit_items(On4(f))
     }
 
-    /// Calls `f` once at the total and the items of each index list; what it returns is the next total, and the
-    /// last one the result.
+    /// Calls `f` once for each index list, with the total so far and the items there; `f` returns the next total, and the last total is the
+    /// result. Requires that these calls may be made, in row order and in column order.
     ///
     /// ```
-    /// let sum = Zip::from(&a).and(&b).and(&c).fold(0, |sum, x, y, z| sum + x * y * z);
+    /// let sum = Zip::from(&a).and(&b).and(&c).and(&d).fold(0, |sum, x, y, z, u| sum + x * y * z * u);
     /// ```
     pub fn fold<B, F: FnMut(B, X, Y, Z, U) -> B>(self, acc: B, f: F) -> B
         requires callable { (o : Order) → MayFold (N.yields_at self.nested) (call_gives_fold4 F.FnMut) (can_call_fold4 F.FnMut) (box_in o (N.lengths self.nested)) f acc }
@@ -371,12 +383,13 @@ impl<X, Y, Z, U, N: NdProducer<Item = (((X, Y), Z), U), Dim = D>, D: Lengths> Zi
         self.fold_items(acc, On4(f))
     }
 
-    /// As `fold`, up to the first result that is `Done`.
+    /// Calls `f` as `fold` does, but no more after its first result that is `Done`. It returns the last result of `f`, or `Continue(acc)`
+    /// if there is no index list. Requires that these calls may be made, in row order and in column order.
     ///
     /// ```
     /// // how many come before the first sum that is not positive
-    /// let count = Zip::from(&a).and(&b).and(&c).fold_while(0, |n, x, y, z| {
-    ///     if x + y + z > 0 { FoldWhile::Continue(n + 1) } else { FoldWhile::Done(n) }
+    /// let count = Zip::from(&a).and(&b).and(&c).and(&d).fold_while(0, |n, x, y, z, u| {
+    ///     if x + y + z + u > 0 { FoldWhile::Continue(n + 1) } else { FoldWhile::Done(n) }
     /// });
     /// ```
     pub fn fold_while<B, F: FnMut(B, X, Y, Z, U) -> FoldWhile<B>>(
@@ -390,10 +403,11 @@ impl<X, Y, Z, U, N: NdProducer<Item = (((X, Y), Z), U), Dim = D>, D: Lengths> Zi
         self.fold_items_while(acc, On4(f))
     }
 
-    /// Whether `f` returns `true` at the items of each index list; it stops at the first `false`.
+    /// Whether `f` returns `true` for each index list, with the items there; it stops at the first `false`. Requires that these calls may
+    /// be made, in row order and in column order.
     ///
     /// ```
-    /// let all = Zip::from(&a).and(&b).and(&c).all(|x, y, z| x <= y && y <= z);
+    /// let all = Zip::from(&a).and(&b).and(&c).and(&d).all(|x, y, z, u| x <= y && y <= z && z <= u);
     /// ```
     pub fn all<F: FnMut(X, Y, Z, U) -> bool>(self, f: F) -> bool
         requires callable { (o : Order) → MayTest (N.yields_at self.nested) (call_gives4 F.FnMut) (can_call4 F.FnMut) (box_in o (N.lengths self.nested)) f true }
@@ -402,10 +416,11 @@ impl<X, Y, Z, U, N: NdProducer<Item = (((X, Y), Z), U), Dim = D>, D: Lengths> Zi
         self.all_items(On4(f))
     }
 
-    /// Whether `f` returns `true` at the items of some index list; it stops at the first `true`.
+    /// Whether `f` returns `true` for some index list, with the items there; it stops at the first `true`. Requires that these calls may be
+    /// made, in row order and in column order.
     ///
     /// ```
-    /// let any = Zip::from(&a).and(&b).and(&c).any(|x, y, z| x + y + z == 0);
+    /// let any = Zip::from(&a).and(&b).and(&c).and(&d).any(|x, y, z, u| x + y + z + u == 0);
     /// ```
     pub fn any<F: FnMut(X, Y, Z, U) -> bool>(self, f: F) -> bool
         requires callable { (o : Order) → MayTest (N.yields_at self.nested) (call_gives4 F.FnMut) (can_call4 F.FnMut) (box_in o (N.lengths self.nested)) f false }
@@ -414,13 +429,13 @@ impl<X, Y, Z, U, N: NdProducer<Item = (((X, Y), Z), U), Dim = D>, D: Lengths> Zi
         self.any_items(On4(f))
     }
 
-    /// The array that has at each index list what `f` returns at the items there.
+    /// The array whose cell at each index list is what `f` returns for the items there. Requires that these calls may be made, in row order
+    /// and in column order.
     ///
-    /// All memory is reserved before the first call; an `Err` calls `f` never, and where there is no index
-    /// list there is none.
+    /// The error is an allocation failure, before the first call of `f`, and is never reported if there is no index list.
     ///
     /// ```
-    /// let made = Zip::from(&a).and(&b).and(&c).map_collect(alloc, |x, y, z| x * y * z)?;
+    /// let made = Zip::from(&a).and(&b).and(&c).and(&d).map_collect(alloc, |x, y, z, u| x * y * z * u)?;
     /// ```
     pub fn map_collect<R: Drop, F: FnMut(X, Y, Z, U) -> R>(
         self,
@@ -436,12 +451,13 @@ impl<X, Y, Z, U, N: NdProducer<Item = (((X, Y), Z), U), Dim = D>, D: Lengths> Zi
         self.collect_items(alloc, On4(f))
     }
 
-    /// Leaves in the cells of an array what `f` returns at the items of each index list.
+    /// Sets the cell of `into` at each index list to what `f` returns for the items there. Nothing is allocated.
     ///
-    /// Requires that the array has the same shape; check with `fits`.
+    /// Requires that `into` has the same lengths as the producers (check with `fits` of its view), and that these calls may be made, in row
+    /// order and in column order.
     ///
     /// ```
-    /// Zip::from(&a).and(&b).and(&c).map_assign_into(&mut into, |x, y, z| x * y * z);
+    /// Zip::from(&a).and(&b).and(&c).and(&d).map_assign_into(&mut into, |x, y, z, u| x * y * z * u);
     /// ```
     pub fn map_assign_into<R: Drop, S: DataMut<Elem = R>, F: FnMut(X, Y, Z, U) -> R>(
         self,
@@ -461,10 +477,10 @@ impl<X, Y, Z, U, V, N: NdProducer<Item = ((((X, Y), Z), U), V), Dim = D>, D: Len
     Parts<N, Five>,
     D,
 > {
-    /// Calls `f` once at the items of each index list.
+    /// Calls `f` once for each index list, with the items there. Requires that these calls may be made, in row order and in column order.
     ///
     /// ```
-    /// Zip::from(a.view_mut()).and(&b).and(&c).for_each(|x, y, z| *x += *y + *z);
+    /// Zip::from(a.view_mut()).and(&b).and(&c).and(&d).and(&e).for_each(|x, y, z, u, v| *x += *y + *z + *u + *v);
     /// ```
     pub fn for_each<F: FnMut(X, Y, Z, U, V)>(self, f: F)
         requires callable { (o : Order) → MayVisit (N.yields_at self.nested) (call_gives5 F.FnMut) (can_call5 F.FnMut) (box_in o (N.lengths self.nested)) f }
@@ -473,11 +489,11 @@ impl<X, Y, Z, U, V, N: NdProducer<Item = ((((X, Y), Z), U), V), Dim = D>, D: Len
         self.visit_items(On5(f))
     }
 
-    /// Calls `f` once at the total and the items of each index list; what it returns is the next total, and the
-    /// last one the result.
+    /// Calls `f` once for each index list, with the total so far and the items there; `f` returns the next total, and the last total is the
+    /// result. Requires that these calls may be made, in row order and in column order.
     ///
     /// ```
-    /// let sum = Zip::from(&a).and(&b).and(&c).fold(0, |sum, x, y, z| sum + x * y * z);
+    /// let sum = Zip::from(&a).and(&b).and(&c).and(&d).and(&e).fold(0, |sum, x, y, z, u, v| sum + x * y * z * u * v);
     /// ```
     pub fn fold<B, F: FnMut(B, X, Y, Z, U, V) -> B>(self, acc: B, f: F) -> B
         requires callable { (o : Order) → MayFold (N.yields_at self.nested) (call_gives_fold5 F.FnMut) (can_call_fold5 F.FnMut) (box_in o (N.lengths self.nested)) f acc }
@@ -486,12 +502,13 @@ impl<X, Y, Z, U, V, N: NdProducer<Item = ((((X, Y), Z), U), V), Dim = D>, D: Len
         self.fold_items(acc, On5(f))
     }
 
-    /// As `fold`, up to the first result that is `Done`.
+    /// Calls `f` as `fold` does, but no more after its first result that is `Done`. It returns the last result of `f`, or `Continue(acc)`
+    /// if there is no index list. Requires that these calls may be made, in row order and in column order.
     ///
     /// ```
     /// // how many come before the first sum that is not positive
-    /// let count = Zip::from(&a).and(&b).and(&c).fold_while(0, |n, x, y, z| {
-    ///     if x + y + z > 0 { FoldWhile::Continue(n + 1) } else { FoldWhile::Done(n) }
+    /// let count = Zip::from(&a).and(&b).and(&c).and(&d).and(&e).fold_while(0, |n, x, y, z, u, v| {
+    ///     if x + y + z + u + v > 0 { FoldWhile::Continue(n + 1) } else { FoldWhile::Done(n) }
     /// });
     /// ```
     pub fn fold_while<B, F: FnMut(B, X, Y, Z, U, V) -> FoldWhile<B>>(
@@ -505,10 +522,11 @@ impl<X, Y, Z, U, V, N: NdProducer<Item = ((((X, Y), Z), U), V), Dim = D>, D: Len
         self.fold_items_while(acc, On5(f))
     }
 
-    /// Whether `f` returns `true` at the items of each index list; it stops at the first `false`.
+    /// Whether `f` returns `true` for each index list, with the items there; it stops at the first `false`. Requires that these calls may
+    /// be made, in row order and in column order.
     ///
     /// ```
-    /// let all = Zip::from(&a).and(&b).and(&c).all(|x, y, z| x <= y && y <= z);
+    /// let all = Zip::from(&a).and(&b).and(&c).and(&d).and(&e).all(|x, y, z, u, v| x <= y && y <= z && z <= u && u <= v);
     /// ```
     pub fn all<F: FnMut(X, Y, Z, U, V) -> bool>(self, f: F) -> bool
         requires callable { (o : Order) → MayTest (N.yields_at self.nested) (call_gives5 F.FnMut) (can_call5 F.FnMut) (box_in o (N.lengths self.nested)) f true }
@@ -517,10 +535,11 @@ impl<X, Y, Z, U, V, N: NdProducer<Item = ((((X, Y), Z), U), V), Dim = D>, D: Len
         self.all_items(On5(f))
     }
 
-    /// Whether `f` returns `true` at the items of some index list; it stops at the first `true`.
+    /// Whether `f` returns `true` for some index list, with the items there; it stops at the first `true`. Requires that these calls may be
+    /// made, in row order and in column order.
     ///
     /// ```
-    /// let any = Zip::from(&a).and(&b).and(&c).any(|x, y, z| x + y + z == 0);
+    /// let any = Zip::from(&a).and(&b).and(&c).and(&d).and(&e).any(|x, y, z, u, v| x + y + z + u + v == 0);
     /// ```
     pub fn any<F: FnMut(X, Y, Z, U, V) -> bool>(self, f: F) -> bool
         requires callable { (o : Order) → MayTest (N.yields_at self.nested) (call_gives5 F.FnMut) (can_call5 F.FnMut) (box_in o (N.lengths self.nested)) f false }
@@ -529,13 +548,13 @@ impl<X, Y, Z, U, V, N: NdProducer<Item = ((((X, Y), Z), U), V), Dim = D>, D: Len
         self.any_items(On5(f))
     }
 
-    /// The array that has at each index list what `f` returns at the items there.
+    /// The array whose cell at each index list is what `f` returns for the items there. Requires that these calls may be made, in row order
+    /// and in column order.
     ///
-    /// All memory is reserved before the first call; an `Err` calls `f` never, and where there is no index
-    /// list there is none.
+    /// The error is an allocation failure, before the first call of `f`, and is never reported if there is no index list.
     ///
     /// ```
-    /// let made = Zip::from(&a).and(&b).and(&c).map_collect(alloc, |x, y, z| x * y * z)?;
+    /// let made = Zip::from(&a).and(&b).and(&c).and(&d).and(&e).map_collect(alloc, |x, y, z, u, v| x * y * z * u * v)?;
     /// ```
     pub fn map_collect<R: Drop, F: FnMut(X, Y, Z, U, V) -> R>(
         self,
@@ -551,12 +570,13 @@ impl<X, Y, Z, U, V, N: NdProducer<Item = ((((X, Y), Z), U), V), Dim = D>, D: Len
         self.collect_items(alloc, On5(f))
     }
 
-    /// Leaves in the cells of an array what `f` returns at the items of each index list.
+    /// Sets the cell of `into` at each index list to what `f` returns for the items there. Nothing is allocated.
     ///
-    /// Requires that the array has the same shape; check with `fits`.
+    /// Requires that `into` has the same lengths as the producers (check with `fits` of its view), and that these calls may be made, in row
+    /// order and in column order.
     ///
     /// ```
-    /// Zip::from(&a).and(&b).and(&c).map_assign_into(&mut into, |x, y, z| x * y * z);
+    /// Zip::from(&a).and(&b).and(&c).and(&d).and(&e).map_assign_into(&mut into, |x, y, z, u, v| x * y * z * u * v);
     /// ```
     pub fn map_assign_into<R: Drop, S: DataMut<Elem = R>, F: FnMut(X, Y, Z, U, V) -> R>(
         self,
@@ -576,10 +596,10 @@ impl<X, Y, Z, U, V, W, N: NdProducer<Item = (((((X, Y), Z), U), V), W), Dim = D>
     Parts<N, Six>,
     D,
 > {
-    /// Calls `f` once at the items of each index list.
+    /// Calls `f` once for each index list, with the items there. Requires that these calls may be made, in row order and in column order.
     ///
     /// ```
-    /// Zip::from(a.view_mut()).and(&b).and(&c).for_each(|x, y, z| *x += *y + *z);
+    /// Zip::from(a.view_mut()).and(&b).and(&c).and(&d).and(&e).and(&g).for_each(|x, y, z, u, v, w| *x += *y + *z + *u + *v + *w);
     /// ```
     pub fn for_each<F: FnMut(X, Y, Z, U, V, W)>(self, f: F)
         requires callable { (o : Order) → MayVisit (N.yields_at self.nested) (call_gives6 F.FnMut) (can_call6 F.FnMut) (box_in o (N.lengths self.nested)) f }
@@ -588,11 +608,11 @@ impl<X, Y, Z, U, V, W, N: NdProducer<Item = (((((X, Y), Z), U), V), W), Dim = D>
         self.visit_items(On6(f))
     }
 
-    /// Calls `f` once at the total and the items of each index list; what it returns is the next total, and the
-    /// last one the result.
+    /// Calls `f` once for each index list, with the total so far and the items there; `f` returns the next total, and the last total is the
+    /// result. Requires that these calls may be made, in row order and in column order.
     ///
     /// ```
-    /// let sum = Zip::from(&a).and(&b).and(&c).fold(0, |sum, x, y, z| sum + x * y * z);
+    /// let sum = Zip::from(&a).and(&b).and(&c).and(&d).and(&e).and(&g).fold(0, |sum, x, y, z, u, v, w| sum + x * y * z * u * v * w);
     /// ```
     pub fn fold<B, F: FnMut(B, X, Y, Z, U, V, W) -> B>(self, acc: B, f: F) -> B
         requires callable { (o : Order) → MayFold (N.yields_at self.nested) (call_gives_fold6 F.FnMut) (can_call_fold6 F.FnMut) (box_in o (N.lengths self.nested)) f acc }
@@ -601,12 +621,13 @@ impl<X, Y, Z, U, V, W, N: NdProducer<Item = (((((X, Y), Z), U), V), W), Dim = D>
         self.fold_items(acc, On6(f))
     }
 
-    /// As `fold`, up to the first result that is `Done`.
+    /// Calls `f` as `fold` does, but no more after its first result that is `Done`. It returns the last result of `f`, or `Continue(acc)`
+    /// if there is no index list. Requires that these calls may be made, in row order and in column order.
     ///
     /// ```
     /// // how many come before the first sum that is not positive
-    /// let count = Zip::from(&a).and(&b).and(&c).fold_while(0, |n, x, y, z| {
-    ///     if x + y + z > 0 { FoldWhile::Continue(n + 1) } else { FoldWhile::Done(n) }
+    /// let count = Zip::from(&a).and(&b).and(&c).and(&d).and(&e).and(&g).fold_while(0, |n, x, y, z, u, v, w| {
+    ///     if x + y + z + u + v + w > 0 { FoldWhile::Continue(n + 1) } else { FoldWhile::Done(n) }
     /// });
     /// ```
     pub fn fold_while<B, F: FnMut(B, X, Y, Z, U, V, W) -> FoldWhile<B>>(
@@ -620,10 +641,12 @@ impl<X, Y, Z, U, V, W, N: NdProducer<Item = (((((X, Y), Z), U), V), W), Dim = D>
         self.fold_items_while(acc, On6(f))
     }
 
-    /// Whether `f` returns `true` at the items of each index list; it stops at the first `false`.
+    /// Whether `f` returns `true` for each index list, with the items there; it stops at the first `false`. Requires that these calls may
+    /// be made, in row order and in column order.
     ///
     /// ```
-    /// let all = Zip::from(&a).and(&b).and(&c).all(|x, y, z| x <= y && y <= z);
+    /// let zip = Zip::from(&a).and(&b).and(&c).and(&d).and(&e).and(&g);
+    /// let all = zip.all(|x, y, z, u, v, w| x <= y && y <= z && z <= u && u <= v && v <= w);
     /// ```
     pub fn all<F: FnMut(X, Y, Z, U, V, W) -> bool>(self, f: F) -> bool
         requires callable { (o : Order) → MayTest (N.yields_at self.nested) (call_gives6 F.FnMut) (can_call6 F.FnMut) (box_in o (N.lengths self.nested)) f true }
@@ -632,10 +655,11 @@ impl<X, Y, Z, U, V, W, N: NdProducer<Item = (((((X, Y), Z), U), V), W), Dim = D>
         self.all_items(On6(f))
     }
 
-    /// Whether `f` returns `true` at the items of some index list; it stops at the first `true`.
+    /// Whether `f` returns `true` for some index list, with the items there; it stops at the first `true`. Requires that these calls may be
+    /// made, in row order and in column order.
     ///
     /// ```
-    /// let any = Zip::from(&a).and(&b).and(&c).any(|x, y, z| x + y + z == 0);
+    /// let any = Zip::from(&a).and(&b).and(&c).and(&d).and(&e).and(&g).any(|x, y, z, u, v, w| x + y + z + u + v + w == 0);
     /// ```
     pub fn any<F: FnMut(X, Y, Z, U, V, W) -> bool>(self, f: F) -> bool
         requires callable { (o : Order) → MayTest (N.yields_at self.nested) (call_gives6 F.FnMut) (can_call6 F.FnMut) (box_in o (N.lengths self.nested)) f false }

@@ -1,13 +1,12 @@
 //! The macro `azip!`.
 
-/// Walks arrays and other producers together, each with a pattern for its items.
+/// Calls a body once for each index list, with the items of up to six arrays or other producers there, each bound to a pattern.
 ///
 /// - `azip!((pat in expr, ..) body)` is `Zip::from(expr).and(expr)..for_each(|pat, ..| body)`.
-/// - `azip!((index pat, pat in expr, ..) body)` begins with `Zip::indexed`: the first pattern is for the
-///   index pattern.
-/// - `azip!(expr, ..)` makes the `Zip` alone.
+/// - `azip!((index pat, pat in expr, ..) body)` begins with `Zip::indexed`: the first pattern is bound to the index list.
+/// - `azip!(expr, ..)` is the `Zip` alone.
 ///
-/// A last comma is allowed. Requires equal shapes, as for `and`; check with `fits` of a `Zip`.
+/// A trailing comma is allowed. Requires equal shapes, as `and` does; check with `fits` of a `Zip`.
 ///
 /// ```
 /// azip!((x in &mut a, &y in &b) *x += y);

@@ -38,7 +38,7 @@ pub(crate) fn collect_items<P: NdProducer, R: Drop, C: ItemCall<P::Item, Out = R
     try_collect_items(alloc, p, order, NeverRefused(f))
 }
 
-/// The same of a closure that may fail: the array where it returns `Ok` at each item, else its first error.
+/// The same for a closure that may fail: the array if it returns `Ok` at each item, else its first error.
 pub(crate) fn try_collect_items<
     P: NdProducer,
     R: Drop,
@@ -73,7 +73,7 @@ pub(crate) fn collect_in_either_order<P: NdProducer, R: Drop, C: ItemCall<P::Ite
     try_collect_in_either_order(alloc, p, NeverRefused(f))
 }
 
-/// The same of a closure that may fail.
+/// The same for a closure that may fail.
 #[tactic(auto, using(crate::proofs::runs::Answers::may_gather_in))]
 pub(crate) fn try_collect_in_either_order<
     P: NdProducer,
@@ -108,7 +108,7 @@ pub(crate) fn collect_of_both<
     collect_in_either_order(alloc, Pair { first, second }, f)
 }
 
-/// The same of a closure that may fail.
+/// The same for a closure that may fail.
 pub(crate) fn try_collect_of_both<
     P: NdProducer,
     Q: NdProducer,

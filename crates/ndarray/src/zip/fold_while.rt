@@ -1,19 +1,19 @@
-//! Whether a fold goes on.
+//! The results of a fold that may end early.
 
 ghost use Rattle.std.specs.Prelude.{◌≡◌, ◌↔◌, IsTrue, ⊤};
 ghost use Rattle.ndarray.specs.FoldWhiles.{IsDone, value_in};
 
-/// What the closure of `fold_while` returns: whether to go on, and with which value.
+/// What the closure of `fold_while` returns: whether to go on, and the total.
 #[derive(Debug, Clone, Copy)]
 pub enum FoldWhile<T> {
-    /// Goes on with this value.
+    /// Go on with this total.
     Continue(T),
-    /// Ends with this value.
+    /// End with this total.
     Done(T),
 }
 
 impl<T> FoldWhile<T> {
-    /// The value held.
+    /// The total in it.
     ///
     /// ```
     /// assert_eq!(FoldWhile::Done(3).into_inner(), 3);

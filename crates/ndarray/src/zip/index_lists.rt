@@ -1,4 +1,4 @@
-//! The index lists of a box as a producer of their patterns.
+//! The index lists of a box, as a producer.
 
 ghost use Rattle.std.specs.Prelude.{◌≡◌, Some, map, filter_map, ⊤};
 ghost use Rattle.std.specs.Iterator.{YieldsFirst, YieldsFirstBy, item_count};
@@ -14,9 +14,9 @@ use crate::order::{Order, Walk};
 use crate::zip::producer::{KeepsLengths, NdProducer, Shaped};
 use std::marker::Model;
 
-/// The patterns of index lists that are still to come.
+/// The iterator over index lists, as patterns. A contract sees it as the list of those still to come.
 ///
-/// An iterator allocates nothing, and neither does any of its steps.
+/// Neither making an iterator nor any of its steps allocates.
 #[derive(Drop)]
 pub struct Patterns<D: Lengths> {
     lists: Indices<D>,

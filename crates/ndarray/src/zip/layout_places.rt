@@ -25,7 +25,7 @@ pub(crate) struct LayoutPlaces<D: Lengths> {
 }
 
 impl<D: Lengths> LayoutPlaces<D> {
-    /// Those of a layout.
+    /// The places of the cells of a layout.
     pub(crate) fn of(layout: Layout<D>) -> Self
         requires as_many { length (D.numbers layout.strides) ≡ length (D.numbers layout.dim) }
         requires limit { IsWithinLimit (D.numbers layout.dim) }

@@ -9,12 +9,12 @@ use crate::order::Order;
 use crate::zip::producer::{KeepsLengths, NdProducer, Shaped};
 use std::alloc::AllocError;
 
-/// Two producers of the same lengths, as one of pairs of their items.
+/// Two producers of the same lengths, as one producer of pairs of their items.
 #[derive(Drop)]
 pub struct Pair<P: Shaped, Q: Shaped> {
-    /// The first.
+    /// The first producer.
     pub first: P,
-    /// The second.
+    /// The second producer.
     pub second: Q,
     ghost same: { P.lengths first ≡ Q.lengths second },
 }
@@ -138,7 +138,7 @@ impl<P: NdProducer, Q: NdProducer> NdProducer for Pair<P, Q> {
     }
 }
 
-/// The items of two runs, side by side. Its step is inlined, where that of the standard library's is a call.
+/// The items of two runs, side by side. Its step is inlined, while that of the standard library's `zip` is a call.
 #[derive(Drop)]
 pub struct PairRun<R, S> {
     pub(crate) first: R,

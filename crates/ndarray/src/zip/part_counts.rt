@@ -1,4 +1,4 @@
-//! One more producer walked along.
+//! Joining one more producer to a `Zip`.
 
 ghost use Rattle.std.specs.Prelude.{◌≡◌};
 ghost use Rattle.ndarray.specs.Broadcast.{BroadcastsTo};
@@ -8,7 +8,7 @@ use crate::zip::pair::Pair;
 use crate::zip::producer::{IntoBroadcast, IntoNdProducer, NdProducer};
 use crate::zip::{Parts, Zip};
 
-/// A number of producers that one more may join.
+/// A number of producers, as a type, to which one more may be joined: `One` to `Five`.
 pub trait JoinOne {
     /// The number with one more.
     type Next;
@@ -29,7 +29,7 @@ pub struct Four;
 /// Five producers.
 pub struct Five;
 
-/// Six producers, which no other joins.
+/// Six producers, to which no more can be joined.
 pub struct Six;
 
 impl JoinOne for One {
@@ -53,7 +53,7 @@ impl JoinOne for Five {
 }
 
 impl<N: NdProducer<Dim = D>, D: Lengths, K: JoinOne> Zip<Parts<N, K>, D> {
-    /// Walks one more producer along. Requires the same shape; check with `fits`.
+    /// Joins one more producer, or the cells of an array by reference. Requires that it has the same lengths; check with `fits`.
     ///
     /// ```
     /// Zip::from(&a).and(&b).and(&c).all(|x, y, z| x + y == *z);
@@ -71,8 +71,7 @@ impl<N: NdProducer<Dim = D>, D: Lengths, K: JoinOne> Zip<Parts<N, K>, D> {
         Zip::of(Pair { first, second })
     }
 
-    /// Walks an array along as it is seen at the shape. Requires that it broadcasts to the shape; check
-    /// with `broadcasts`.
+    /// Joins the cells of an array, broadcast to the lengths. Requires that it broadcasts to them; check with `broadcasts`.
     ///
     /// ```
     /// Zip::from(&table).and_broadcast(&row).all(|x, y| x <= y);

@@ -1,4 +1,4 @@
-//! What can be walked together: producers, and what becomes one.
+//! Producers, and what can be turned into one.
 
 ghost use Rattle.std.specs.Prelude.{◌≡◌, ℕ, ◌<◌, ◌≤◌, List, length, slice_index, MatchOption, IsTrue};
 ghost use Rattle.std.specs.Iterator.{IsFinite};
@@ -15,7 +15,7 @@ use crate::base::dimension::Lengths;
 use crate::order::Order;
 use std::iter::Once;
 
-/// What has lengths.
+/// A type whose values have lengths.
 pub trait Shaped {
     // The lengths, that of axis 0 first.
     ghost lengths: { Self → List ℕ };
@@ -23,7 +23,7 @@ pub trait Shaped {
 
 /// A producer: lengths, and an item at each index list of their box.
 pub trait NdProducer: Shaped + Drop + Sized {
-    /// What it yields.
+    /// The type of an item.
     type Item: Drop;
 
     /// The dimension of its lengths.
@@ -40,25 +40,24 @@ pub trait NdProducer: Shaped + Drop + Sized {
         ensures lengths { Self.Dim.numbers result ≡ Self.lengths self.now }
         ensures limit { IsWithinLimit (Self.lengths self.now) };
 
-    /// The items whose index on the axis is below `index`, and the rest with that index counted from
-    /// `index`.
+    /// Splits the producer at an index of an axis: into the items whose index there is below `index`, and the rest, whose indices there are
+    /// counted from `index`.
     ///
-    /// Requires an axis below the number of axes, and an index that is at most its length; compare with
-    /// `raw_dim`.
+    /// Requires that the axis is below the number of axes and the index at most its length; compare with `raw_dim`.
     fn split_at(self, axis: Axis, index: usize) -> (Self, Self)
         requires axis_below { axis.0 < length (Self.lengths self) }
         requires index_at_most { index ≤ slice_index (Self.lengths self) axis.0 }
         ensures first { IsPart axis.0 0 index (Self.lengths self) (yields_at self) (Self.lengths result.0) (yields_at result.0) }
         ensures second { IsPart axis.0 index (slice_index (Self.lengths self) axis.0) (Self.lengths self) (yields_at self) (Self.lengths result.1) (yields_at result.1) };
 
-    /// An item at each index list, in the order.
+    /// An iterator over the items, one for each index list, in the order.
     fn run(self, order: Order) -> Self::Run
         ensures can { Self.Run.can_next result }
         ensures finite { IsFinite (Self.Run.remaining result) }
         ensures gives { YieldsInTurn Self.Run.next_gives (yields_at self) result (box_in order (Self.lengths self)) };
 
-    /// Which order is fast: row order where it is positive, column order where it is negative. No contract
-    /// speaks of it. A producer without a fast order has 0.
+    /// Which order is faster: row order if it is positive, column order if it is negative, and neither if it is 0. No contract speaks of
+    /// it.
     fn tendency(&self) -> i32 {
         0
     }
@@ -81,7 +80,7 @@ pub trait NdProducer: Shaped + Drop + Sized {
     // Whether the items of a row lie side by side.
     ghost is_flat: { Self.Row → Type 0 };
 
-    /// The producer to be walked in an order, with what is known of how its items lie.
+    /// The producer with an order for its items, and what is known of how they lie in memory.
     type Ordered: Drop;
 
     // Whether it is that of a producer and an order.
@@ -90,7 +89,7 @@ pub trait NdProducer: Shaped + Drop + Sized {
     // Whether all items are one row.
     ghost is_one: { Self.Ordered → Type 0 };
 
-    /// The producer, to be walked in the order.
+    /// The producer, with the order for its items.
     fn in_order(self, order: Order) -> Self::Ordered
         ensures { ordered_form self order result };
 
@@ -101,11 +100,11 @@ pub trait NdProducer: Shaped + Drop + Sized {
         false
     }
 
-    /// All items as one row, where they are known to be one.
+    /// All items as one row, if they are known to be one.
     fn one_row(ordered: Self::Ordered) -> Option<Self::Row>
         ensures { is_one ordered → MatchOption result ⊥ (λ row. (p : Self) (o : Order) → ordered_form p o ordered → row_form p (box_in o (Self.lengths p)) row) };
 
-    /// The rows, one after another.
+    /// An iterator over the rows. Requires a producer that `in_order` returned.
     fn rows(ordered: Self::Ordered) -> Self::Rows
         requires { (p : Self) × ((o : Order) × ordered_form p o ordered) }
         ensures can { Self.Rows.can_next result }
@@ -116,7 +115,7 @@ pub trait NdProducer: Shaped + Drop + Sized {
     fn is_flat_row(row: &Self::Row) -> bool
         ensures { IsTrue result → is_flat row.now };
 
-    /// The items of a row that lie side by side.
+    /// The items of a row that lie side by side. Requires that they do; check with `is_flat_row`.
     fn flat_row(row: Self::Row) -> Self::FlatRow
         requires flat { is_flat row }
         requires form { (p : Self) × ((is : List (List ℕ)) × row_form p is row) }
@@ -124,7 +123,7 @@ pub trait NdProducer: Shaped + Drop + Sized {
         ensures finite { IsFinite (Self.FlatRow.remaining result) }
         ensures gives { (p : Self) (is : List (List ℕ)) → row_form p is row → YieldsInTurn Self.FlatRow.next_gives (yields_at p) result is };
 
-    /// The items of a row, however they lie.
+    /// The items of a row, however they lie. Requires that it is a row of a producer of this type.
     fn run_row(row: Self::Row) -> Self::RowRun
         requires { (p : Self) × ((is : List (List ℕ)) × row_form p is row) }
         ensures can { Self.RowRun.can_next result }
@@ -137,9 +136,9 @@ pub trait KeepsLengths: Shaped + Clone {
     ghost keeps: { (s r : Self) → Self.is_clone s r → Self.lengths r ≡ Self.lengths s };
 }
 
-/// What may be seen at a shape to which it broadcasts: reading views, and references to arrays.
+/// What can be broadcast to a shape and joined to a `Zip`: views to read, and references to arrays.
 pub trait IntoBroadcast<D: Lengths> {
-    /// The view at that shape.
+    /// The type of the broadcast view.
     type Output: NdProducer;
 
     // Its own lengths.
@@ -148,7 +147,8 @@ pub trait IntoBroadcast<D: Lengths> {
     // Whether a view is what is seen at these lengths.
     ghost broadcasts_as: { Self → List ℕ → Self.Output → Type 0 };
 
-    /// What is seen at the shape.
+    /// The view at the shape. Requires that it broadcasts to the shape, and that the nonzero lengths of this multiply to at most
+    /// `isize::MAX`; check with `broadcasts` of a `Zip` of that shape.
     fn into_broadcast(self, dim: D) -> Self::Output
         requires broadcasts { BroadcastsTo (own_lengths self) (D.numbers dim) }
         requires limit { IsWithinLimit (D.numbers dim) }
@@ -156,21 +156,21 @@ pub trait IntoBroadcast<D: Lengths> {
         ensures lengths { Self.Output.lengths result ≡ D.numbers dim };
 }
 
-/// What becomes a producer: every producer itself, and references to arrays.
+/// What can be turned into a producer: every producer, which stays as it is, and references to arrays.
 pub trait IntoNdProducer {
-    /// What the producer yields.
+    /// The type of the producer's items.
     type Item: Drop;
 
     /// The dimension of its lengths.
     type Dim: Lengths;
 
-    /// The producer that it becomes.
+    /// The type of the producer.
     type Output: NdProducer<Item = Self::Item, Dim = Self::Dim>;
 
     // Whether it becomes this producer.
     ghost converts_to: { Self → Self.Output → Type 0 };
 
-    /// The producer.
+    /// The producer that it is turned into.
     fn into_producer(self) -> Self::Output
         ensures { converts_to self result };
 }
@@ -194,7 +194,7 @@ pub(crate) fn preferred_order<P: NdProducer>(p: &P) -> Order {
     Order::by_tendency(p.tendency())
 }
 
-/// The rows of a producer of one axis: the one, or none where the axis is empty.
+/// The rows of a one-dimensional producer: one row, or none if the axis is empty.
 pub(crate) fn rows_of_axis<R: Drop>(row: R, len: usize) -> Once<R>
     ensures { once_item result ≡ some_unless_none len row }
 {

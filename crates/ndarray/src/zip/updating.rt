@@ -52,8 +52,8 @@ impl<'b, A: Drop, B, F: FnMut(&A, &B) -> Result<A, AllocError>> CellCall<A, &'b 
     }
 }
 
-/// Leaves in each cell of an array what `f` returns at the cell and the item of a producer at its index list, up to
-/// the first error, which is returned. The cells from there on stay as they are.
+/// Sets each cell of an array to what `f` returns for the cell and the item of a producer at its index list, up to the first error, which
+/// is returned. The cells from there on stay as they are.
 ///
 /// The elements are taken out of the array for the walk, and the places of the cells are walked next to the items.
 pub(crate) fn try_update<P: NdProducer, A: Drop, S: DataMut<Elem = A>, C: CellCall<A, P::Item>>(

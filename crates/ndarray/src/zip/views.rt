@@ -123,7 +123,7 @@ impl<'a, A, D: Lengths> NdProducer for ArrayView<'a, A, D> {
     }
 }
 
-/// A view to be walked in an order, and its cells as a slice where they lie side by side in it.
+/// A view with an order for its cells, and these as a slice if they lie side by side in it.
 #[derive(Drop)]
 pub struct OrderedView<'a, A, D: Lengths> {
     view: ArrayView<'a, A, D>,

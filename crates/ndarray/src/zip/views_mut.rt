@@ -194,7 +194,7 @@ impl<'a, A, D: Lengths> Iterator for ViewRowsMut<'a, A, D> {
     }
 }
 
-/// A view to write in, to be walked in an order: its cells as a slice where they lie side by side in it.
+/// A view to write in, with an order for its cells: they are a slice if they lie side by side in it.
 #[derive(Drop)]
 pub struct OrderedViewMut<'a, A, D: Lengths> {
     cells: Result<FlatCells<'a, A, D>, ArrayViewMut<'a, A, D>>,

@@ -1,4 +1,4 @@
-//! The one walk over all items of a producer, row by row. Where they lie evenly, all are one row.
+//! The one walk over all items of a producer, row by row. If they lie evenly, all are one row.
 
 ghost use Rattle.std.specs.Prelude.{List, ℕ, MatchResult};
 ghost use Rattle.std.specs.Iterator.{IsFinite};

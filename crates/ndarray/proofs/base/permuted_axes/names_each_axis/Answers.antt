@@ -1,5 +1,4 @@
-use Rattle.std.proofs.Common.{◌≡◌, ◌∙◌, ◌<◌, ◌≤◌, ℕ, Contains, IsPermutation, IsTrue, ap, arith, get_or, inl, inr, length, refl, subst, sym}
-use Rattle.std.specs.List.{range_with_len}
+use Rattle.std.proofs.Common.{◌≡◌, Contains, arith, inl, inr, length, refl, subst}
 use Rattle.std.proofs.lemmas.Bool.{cases_lt, eqb-false, eqb-true}
 use Rattle.ndarray.proofs.lists.AxisOrders.{each-once, order-contains, order-length}
 use Rattle.ndarray.proofs.base.permuted_axes.names_each_axis.Goals as goal

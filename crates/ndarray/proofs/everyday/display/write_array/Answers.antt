@@ -1,4 +1,4 @@
-use Rattle.std.proofs.Common.{◌≡◌, ◌∙◌, ◌++◌, List, ℕ, Option, Some, None, ap, length, refl, replicate, subst, sym, true}
+use Rattle.std.proofs.Common.{◌∙◌, ◌++◌, List, ℕ, Option, Some, None, ap, refl, subst, sym, true}
 use Rattle.std.specs.Prelude.{IfSome, IsOk}
 use Rattle.std.specs.Result.{is_ok}
 use Rattle.std.specs.Fmt.{◌++?◌, HasWritten, IsPlainFormatter, WritesOnOk}

@@ -1,8 +1,7 @@
-use Rattle.std.proofs.Common.{◌≡◌, ◌∙◌, ◌<◌, ◌%◌, ◌/◌, ap, arith, drop, get_or, length, refl, subst, sym, true}
+use Rattle.std.proofs.Common.{◌≡◌, ◌∙◌, ◌%◌, ap, arith, refl, subst, sym, true}
 use Rattle.std.specs.Fmt.{HasWritten, IsPlainFormatter}
 use Rattle.std.proofs.Math.Nat.{mod-eq_of_lt}
 use Rattle.std.proofs.lemmas.Grind.{put_three}
-use Rattle.ndarray.specs.Index.{size}
 use Rattle.ndarray.specs.every_day.Breaks.{break_text}
 use Rattle.ndarray.proofs.texts.Breaks.{IsAxisOfBlocks, axis-blocks, break-here, break-later}
 use Rattle.ndarray.proofs.everyday.display.write_break.Goals as goal

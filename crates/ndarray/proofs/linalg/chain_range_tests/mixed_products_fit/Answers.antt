@@ -1,4 +1,4 @@
-use Rattle.std.proofs.Common.{◌≡◌, get_or}
+use Rattle.std.proofs.Common.{get_or}
 use Rattle.std.specs.Prelude.{◌↔◌, ◌≢◌, IsTrue}
 use Rattle.ndarray.specs.ChainRanges.{MixedProductHasCells}
 use Rattle.ndarray.specs.Products.{HasProductsInRange, matrix_of}

@@ -1,4 +1,4 @@
-use Rattle.std.proofs.Common.{◌≡◌, ◌∙◌, ◌∷◌, [], ◌<◌, ap, arith, get_or, length, pos, subst, sym}
+use Rattle.std.proofs.Common.{◌≡◌, ◌∙◌, ◌<◌, ap, arith, get_or, pos, subst, sym}
 use Rattle.ndarray.specs.Integers.{int_products, int_sums}
 use Rattle.ndarray.specs.Matrices.{inner_products}
 use Rattle.ndarray.specs.Products.{CanAddScaled, column_of, magnitude_sum, matrix_of, products_of}

@@ -1,4 +1,4 @@
-use Rattle.std.proofs.Common.{◌⊎◌, ◌<◌, ◌≡◌, arith, get_or, inl, inr}
+use Rattle.std.proofs.Common.{◌⊎◌, ◌<◌, ◌≡◌, arith, inl, inr}
 use Rattle.std.proofs.lemmas.Result.{IfErr-weaker, IfOk-weaker}
 use Rattle.std.specs.Prelude.{◌≢◌, ◌↔◌, IfErr, IfOk, IsTrue, ℕ}
 use Rattle.ndarray.specs.AlongAxisRanges.{HasDifferencesInRange}

@@ -1,7 +1,11 @@
-use Rattle.std.proofs.Common.{◌↔◌, [], map, refl, subst, sym}
+use Rattle.std.proofs.Common.{◌↔◌, ◌<◌, [], length, map, refl, subst, sym}
 use Rattle.std.specs.Prelude.{IsTrue, pos}
+use Rattle.ndarray.specs.AlongAxis.{IsSummableArray}
+use Rattle.ndarray.specs.Elementwise.{CanMap}
 use Rattle.ndarray.specs.Integers.{int_products, magnitude_product}
+use Rattle.ndarray.specs.Subviews.{lanes_of}
 use Rattle.ndarray.specs.Sums.{IsSummableBy}
+use Rattle.ndarray.proofs.callers.Lanes.{lanes-summable}
 use Rattle.ndarray.proofs.lists.Decisions.{from_some, says_some}
 use Rattle.ndarray.proofs.sums.NonzeroProducts.{multiplied-end, products-summable}
 use Rattle.ndarray.proofs.sums.Selections.{IsSummableBy-map}
@@ -30,3 +34,10 @@ returns-clause-selections g c =
     (IsSummableBy-map int_products v fits cells).1
     (products-summable fits (λ x y z. g.A.Number.between_law x y z exact) g.met.A.IntegerElem.negated_fits (g.met.A.Zero.zero_fits_law exact) (map v cells) each fit))
     c.magnitudes_multiplied-2.result c.magnitudes_multiplied-2.ensures))
+
+pub returns-clause-lanes : goal.returns-clause-lanes
+returns-clause-lanes g c =
+    let same = c.view.ensures.same in
+    λ yes axis below. subst (λ a. CanMap (IsSummableArray int_products g.A.Number.fits g.A.Number.value) (lanes_of a axis)) same
+    (lanes-summable c.view.result c.view.ensures.whole axis (subst (λ a. axis < length a.lengths) (sym same) below) int_products g.A.Number.fits g.A.Number.value
+    (subst (λ a. IsSummableBy int_products g.A.Number.fits g.A.Number.value a.cells) (sym same) (returns-clause-selections g c yes)))

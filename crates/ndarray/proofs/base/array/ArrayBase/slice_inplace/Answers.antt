@@ -1,4 +1,4 @@
-use Rattle.std.proofs.Common.{◌≡◌, ◌∙◌, ◌+◌, ◌<◌, ℕ, List, None, ap, arith, drop, get_or, length, pos, subst, sym}
+use Rattle.std.proofs.Common.{◌∙◌, ◌+◌, ◌<◌, ℕ, List, None, ap, arith, drop, get_or, length, pos, subst, sym}
 use Rattle.std.proofs.lemmas.List.{get_or_default}
 use Rattle.ndarray.specs.AxisSlices.{AreSlicesOf, axes_sliced}
 use Rattle.ndarray.specs.Grid.{Grid}

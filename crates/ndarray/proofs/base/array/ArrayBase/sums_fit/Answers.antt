@@ -1,7 +1,11 @@
-use Rattle.std.proofs.Common.{◌↔◌, [], map, refl, subst, sym}
+use Rattle.std.proofs.Common.{◌↔◌, ◌<◌, [], length, map, refl, subst, sym}
 use Rattle.std.specs.Prelude.{IsTrue}
+use Rattle.ndarray.specs.AlongAxis.{IsSummableArray}
+use Rattle.ndarray.specs.Elementwise.{CanMap}
 use Rattle.ndarray.specs.Integers.{int_sums, negative_sum, positive_sum}
+use Rattle.ndarray.specs.Subviews.{lanes_of}
 use Rattle.ndarray.specs.Sums.{IsSummableBy}
+use Rattle.ndarray.proofs.callers.Lanes.{lanes-summable}
 use Rattle.ndarray.proofs.lists.Decisions.{says_some}
 use Rattle.ndarray.proofs.sums.IntegerSelections.{tells_summable_by}
 use Rattle.ndarray.proofs.sums.SignedSums.{AddedApart-end}
@@ -17,3 +21,10 @@ returns-clause-selections g c =
     subst (λ a. IsTrue c.is_some.result ↔ IsSummableBy int_sums fits v a.cells) c.view.ensures.same
     (tells_summable_by fits (λ x y z. g.A.Number.between_law x y z exact) v cells c.is_some.result
     (subst (λ b. IsTrue b ↔ (fits (positive_sum (map v cells)) × fits (negative_sum (map v cells)))) (sym c.is_some.ensures) both))
+
+pub returns-clause-lanes : goal.returns-clause-lanes
+returns-clause-lanes g c =
+    let same = c.view.ensures.same in
+    λ yes axis below. subst (λ a. CanMap (IsSummableArray int_sums g.A.Number.fits g.A.Number.value) (lanes_of a axis)) same
+    (lanes-summable c.view.result c.view.ensures.whole axis (subst (λ a. axis < length a.lengths) (sym same) below) int_sums g.A.Number.fits g.A.Number.value
+    (subst (λ a. IsSummableBy int_sums g.A.Number.fits g.A.Number.value a.cells) (sym same) ((returns-clause-selections g c).0 yes)))

@@ -1,4 +1,4 @@
-use Rattle.std.proofs.Common.{◌≡◌, ◌∙◌, ◌<◌, subst, sym}
+use Rattle.std.proofs.Common.{◌∙◌, ◌<◌, subst, sym}
 use Rattle.std.specs.Prelude.{All}
 use Rattle.ndarray.proofs.lists.AxisOrders.{order-all, order-length}
 use Rattle.ndarray.proofs.base.layout.Layout.permuted.Goals as goal
