@@ -1,6 +1,7 @@
 pub mod EmptyLanes
 pub mod FaultsPassedOn
 pub mod FirstFaults
+pub mod LaneProducts
 pub mod LinesAlone
 pub mod Neighbours
 pub mod NumberWords
@@ -13,6 +14,7 @@ pub mod RecordFields
 pub mod RoundTrip
 pub mod RunningProducts
 pub mod ShapeWords
+pub mod ShownText
 pub mod SpacedWords
 pub mod StoredCells
 pub mod Taken

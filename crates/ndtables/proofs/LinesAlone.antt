@@ -1,9 +1,11 @@
 -- A line that stands for its own words has their answer, and their faults.
-use Rattle.std.proofs.Common.{◌≡◌, ◌∷◌, ℕ, List, Option, inl, inr, refl, subst}
+use Rattle.std.proofs.Common.{◌≡◌, [], ◌∷◌, ℕ, List, Option, inl, inr, refl, subst}
 use Rattle.std.specs.Prelude.{codes}
 use Rattle.ndtables.specs.Answering.{Answers, ForbidsAnswer}
-use Rattle.ndtables.specs.Lines.{AnswersLine, AsksForm, AsksSource, Begins, EndsInNoDash, ForbidsLine, StandFor, StandForNone, StandsAlone}
+use Rattle.ndtables.specs.Lines.{AnswersLine, AsksForm, AsksInput, AsksSource, Begins, BeginsWrongly, EndsInNoDash, ForbidsLine, StandFor, StandForNone, StandsAlone}
+use Rattle.ndtables.specs.Streams.{IsPlaceOf}
 use Rattle.ndtables.specs.declared.fault.Fault.{Fault}
+use Rattle.ndtables.specs.declared.fault.Fault.TheVariants.{Usage}
 use Rattle.ndtables.specs.declared.printing.Form.{Form}
 use Rattle.ndtables.specs.declared.printing.Form.TheVariants.{Plain, Table, Csv}
 use Rattle.ndtables.specs.declared.source.Source.{Source}
@@ -22,10 +24,20 @@ module _ (line : List (List ℕ)) where
 
   -- it begins with no option
   no-options : (source : Source) (form : Form) (given : List (List ℕ)) → AsksSource line Words line → AsksForm line Plain line → Begins line source form given → (source ≡ Words) × (form ≡ Plain) × (given ≡ line)
-  no-options source form given a b h =
-      let (words, behind) = no-source source h.behind a h.asks_source in
-      let (plain, all) = no-form form given b (subst (λ k. AsksForm k form given) behind h.asks_form) in
-      (words, plain, all)
+  no-options source form given a b h = elim h [
+    | inl s ↦ absurd (s.is_said (no-source source s.behind a s.asks_source).0)
+    | inr f ↦
+        (let (plain, behind) = no-form form f.behind b f.asks_form in
+        let (words, all) = no-source source given a (subst (λ k. AsksSource k source given) behind f.asks_source) in
+        (words, plain, all))
+  ]
+
+  wrong-name : (fault : Fault) → BeginsWrongly line → fault ≡ Usage → ForbidsAnswer Plain line fault
+  wrong-name fault h e = named line h e
+    where
+      named : (ws : List (List ℕ)) → BeginsWrongly ws → fault ≡ Usage → ForbidsAnswer Plain ws fault
+      named [] wrong u = absurd wrong
+      named (word ∷ rest) wrong u = inl (wrong.0, u)
 
   own-words : (remaining : Option (List ℕ)) (words : List (List ℕ)) → EndsInNoDash line → StandFor Words line remaining words → words ≡ line
   own-words remaining words without h = elim h [
@@ -48,11 +60,25 @@ module _ (line : List (List ℕ)) where
     | inr a ↦
         (let (words, plain, all) = no-options a.source a.form a.given alone.1 alone.2 a.begins in
         elim a.why [
-          | inl none ↦
-              (let asks : StandForNone Words line remaining fault = subst (λ s. StandForNone s line remaining fault) words (subst (λ k. StandForNone a.source k remaining fault) all none) in
-              absurd (alone.3 asks.0.0 asks.0.1))
-          | inr why ↦
-              (let stands : StandFor Words line remaining why.0 = subst (λ s. StandFor s line remaining why.0) words (subst (λ k. StandFor a.source k remaining why.0) all why.1) in
-              subst (λ f. ForbidsAnswer f line fault) plain (subst (λ ws. ForbidsAnswer a.form ws fault) (own-words remaining why.0 alone.3 stands) why.2))
+          | inl wrong ↦ wrong-name fault (subst BeginsWrongly all wrong.0) wrong.1
+          | inr right ↦ elim right.1 [
+            | inl none ↦
+                (let asks : StandForNone Words line remaining fault = subst (λ s. StandForNone s line remaining fault) words (subst (λ k. StandForNone a.source k remaining fault) all none) in
+                absurd (alone.3 asks.0.0 asks.0.1))
+            | inr why ↦
+                (let stands : StandFor Words line remaining why.0 = subst (λ s. StandFor s line remaining why.0) words (subst (λ k. StandFor a.source k remaining why.0) all why.1) in
+                subst (λ f. ForbidsAnswer f line fault) plain (subst (λ ws. ForbidsAnswer a.form ws fault) (own-words remaining why.0 alone.3 stands) why.2))
+          ]
         ])
+  ]
+
+  -- it asks for no input, in which a fault could be
+  pub alone-place : (place : List ℕ) → StandsAlone line → IsPlaceOf line place → place ≡ []
+  alone-place place alone h = elim h [
+    | inl none ↦ none
+    | inr told ↦
+        (let r = told.0 in
+        let (words, plain, all) = no-options r.source r.form r.given alone.1 alone.2 r.begins in
+        let asks : AsksInput Words line = subst (λ s. AsksInput s line) words (subst (λ k. AsksInput r.source k) all r.asks) in
+        absurd (alone.3 asks.0 asks.1))
   ]

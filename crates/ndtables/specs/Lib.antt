@@ -5,6 +5,7 @@ pub mod Faults
 pub mod Lines
 pub mod Multiplying
 pub mod Pages
+pub mod Places
 pub mod Printing
 pub mod Reading
 pub mod Records

@@ -1,11 +1,11 @@
 -- What a command line asks for, and what is printed for it.
-use Rattle.std.specs.Prelude.{◌≡◌, ◌⊎◌, ℕ, Bool, false, true, List, [], ◌∷◌, ◌++◌, Option, IfSome, codes}
-use Rattle.ndtables.specs.Answering.{Answers, ForbidsAnswer}
+use Rattle.std.specs.Prelude.{◌≡◌, ◌⊎◌, ⊤, ℕ, Bool, false, true, List, [], ◌∷◌, ◌++◌, Option, IfSome, codes}
+use Rattle.ndtables.specs.Answering.{Answers, ForbidsAnswer, NamesNoCommand}
 use Rattle.ndtables.specs.Pages.{AsksPage, page_text}
 use Rattle.ndtables.specs.Records.{ForbidsRecords, SpellsRecords}
 use Rattle.ndtables.specs.Words.{AreShort, words_of}
 use Rattle.ndtables.specs.declared.fault.Fault.{Fault}
-use Rattle.ndtables.specs.declared.fault.Fault.TheVariants.{Input, Memory}
+use Rattle.ndtables.specs.declared.fault.Fault.TheVariants.{Input, Memory, Usage}
 use Rattle.ndtables.specs.declared.help.Page.{Page}
 use Rattle.ndtables.specs.declared.printing.Form.{Form}
 use Rattle.ndtables.specs.declared.printing.Form.TheVariants.{Plain, Table, Csv}
@@ -16,23 +16,40 @@ use Rattle.ndtables.specs.declared.source.Source.TheVariants.{Words, Records, Re
 abbrev pub AsksNoPage : List (List ℕ) → Type 0
 AsksNoPage line = (page : Page) → AsksPage line page → ⊥
 
--- the line says first where the last table comes from, and then has these words
+-- the words begin by saying where the last table comes from, and these follow
 abbrev pub AsksSource : List (List ℕ) → Source → List (List ℕ) → Type 0
 AsksSource line Words rest = (rest ≡ line) × ((more : List (List ℕ)) → line ≡ codes "--csv" ∷ more → ⊥)
 AsksSource line Records rest = (line ≡ codes "--csv" ∷ rest) × ((more : List (List ℕ)) → rest ≡ codes "--header" ∷ more → ⊥)
 AsksSource line RecordsBelowHeader rest = line ≡ codes "--csv" ∷ codes "--header" ∷ rest
 
--- the line says first how the result is to be printed, and then has these words
+-- the words begin by saying how the result is to be printed, and these follow
 abbrev pub AsksForm : List (List ℕ) → Form → List (List ℕ) → Type 0
 AsksForm line Plain rest = (rest ≡ line) × ((more : List (List ℕ)) → (line ≡ codes "--table" ∷ more) ⊎ (line ≡ codes "--to-csv" ∷ more) → ⊥)
 AsksForm line Table rest = line ≡ codes "--table" ∷ rest
 AsksForm line Csv rest = line ≡ codes "--to-csv" ∷ rest
 
--- the line begins with its options, and then has these words
-pub record Begins (line : List (List ℕ)) (source : Source) (form : Form) (rest : List (List ℕ)) : Type 0 where
+-- the line says first where the last table comes from, then how the result is to be printed, and then has these words
+pub record BeginsWithSource (line : List (List ℕ)) (source : Source) (form : Form) (rest : List (List ℕ)) : Type 0 where
+  pub is_said : source ≡ Words → ⊥
   pub behind : List (List ℕ)
   pub asks_source : AsksSource line source behind
   pub asks_form : AsksForm behind form rest
+
+-- the line says first how the result is to be printed, then where the last table comes from, and then has these words
+pub record BeginsWithForm (line : List (List ℕ)) (source : Source) (form : Form) (rest : List (List ℕ)) : Type 0 where
+  pub no_source_first : AsksSource line Words line
+  pub behind : List (List ℕ)
+  pub asks_form : AsksForm line form behind
+  pub asks_source : AsksSource behind source rest
+
+-- the line begins with its options, in either order, and then has these words
+abbrev pub Begins : List (List ℕ) → Source → Form → List (List ℕ) → Type 0
+Begins line source form rest = BeginsWithSource line source form rest ⊎ BeginsWithForm line source form rest
+
+-- the first of the words is neither a command's name nor `-`, which the words of an input may stand for
+abbrev pub BeginsWrongly : List (List ℕ) → Type 0
+BeginsWrongly [] = ⊥
+BeginsWrongly (word ∷ rest) = NamesNoCommand word × (word ≡ codes "-" → ⊥)
 
 -- the text is what the reader had left, where that is known
 abbrev pub IsInput : Option (List ℕ) → List ℕ → Type 0
@@ -67,6 +84,12 @@ StandFor Words given remaining words = (EndsInNoDash given × (words ≡ given))
 StandFor Records given remaining words = PutsRecords false given remaining words
 StandFor RecordsBelowHeader given remaining words = PutsRecords true given remaining words
 
+-- the words ask for an input: a `-` is the last of them, or the last table is to come from records
+abbrev pub AsksInput : Source → List (List ℕ) → Type 0
+AsksInput Words given = (front : List (List ℕ)) × EndsInDash given front
+AsksInput Records given = ⊤
+AsksInput RecordsBelowHeader given = ⊤
+
 -- the fault is that of reading an input: it was not read, is no text or has a word that is too long, or allocation failure
 abbrev pub IsFaultOfReader : Fault → Type 0
 IsFaultOfReader fault = (fault ≡ Input) ⊎ (fault ≡ Memory)
@@ -96,14 +119,18 @@ pub record AnswersWords (line : List (List ℕ)) (remaining : Option (List ℕ))
 abbrev pub AnswersLine : List (List ℕ) → Option (List ℕ) → List ℕ → Type 0
 AnswersLine line remaining text = ((page : Page) × AsksPage line page × (text ≡ page_text page)) ⊎ AnswersWords line remaining text
 
--- the line asks for no page, and the fault is that of its input, or that of the words that it stands for
+-- the fault is why given words have no answer in the form: that of their input, or that of the words that they stand for
+abbrev pub ForbidsGiven : Source → Form → List (List ℕ) → Option (List ℕ) → Fault → Type 0
+ForbidsGiven source form given remaining fault = StandForNone source given remaining fault ⊎ ((words : List (List ℕ)) × StandFor source given remaining words × ForbidsAnswer form words fault)
+
+-- the line asks for no page; where the words behind its options begin with neither a command's name nor `-` the fault is `usage`, whatever the input, else that of these words
 pub record ForbidsWords (line : List (List ℕ)) (remaining : Option (List ℕ)) (fault : Fault) : Type 0 where
   pub no_page : AsksNoPage line
   pub source : Source
   pub form : Form
   pub given : List (List ℕ)
   pub begins : Begins line source form given
-  pub why : StandForNone source given remaining fault ⊎ ((words : List (List ℕ)) × StandFor source given remaining words × ForbidsAnswer form words fault)
+  pub why : (BeginsWrongly given × (fault ≡ Usage)) ⊎ ((BeginsWrongly given → ⊥) × ForbidsGiven source form given remaining fault)
 
 -- the fault is why the line has no answer: allocation failure for a page, or that of its words
 abbrev pub ForbidsLine : List (List ℕ) → Option (List ℕ) → Fault → Type 0

@@ -1,9 +1,13 @@
 -- What is written to the two streams.
-use Rattle.std.specs.Prelude.{◌≡◌, ◌⊎◌, ℕ, List, [], ◌∷◌, ◌++◌, Option, codes}
+use Rattle.std.specs.Prelude.{◌≡◌, ◌⊎◌, ℕ, List, [], ◌∷◌, ◌++◌, Option, None, Some, String, codes, string_bytes}
+use Rattle.std.specs.Global.{Global}
 use Rattle.std.specs.Io.KnownBytes.{Appends}
-use Rattle.ndtables.specs.Lines.{AnswersLine, ForbidsLine}
+use Rattle.ndtables.specs.Lines.{AnswersLine, AsksInput, Begins, ForbidsLine}
+use Rattle.ndtables.specs.Places.{IsPlaceLine}
 use Rattle.ndtables.specs.declared.fault.Fault.{Fault}
 use Rattle.ndtables.specs.declared.fault.Fault.TheVariants.{Usage, Shape, Number, Range, Input, Memory}
+use Rattle.ndtables.specs.declared.printing.Form.{Form}
+use Rattle.ndtables.specs.declared.source.Source.{Source}
 
 -- the word of a fault
 abbrev pub word_of : Fault → List ℕ
@@ -34,11 +38,30 @@ pub record PrintsAnswer (line : List (List ℕ)) (remaining old new : Option (Li
   pub answer : AnswersLine line remaining text
   pub printed : Appends old new text
 
--- a fault is why the command line has no answer, and the stream took the fault's line, or a front of that
+-- the line that says where a fault is, and no text where there is none
+abbrev pub place_text : Option (String Global) → List ℕ
+place_text None = []
+place_text (Some text) = string_bytes text
+
+-- the command line takes an input: its words behind the options ask for one
+pub record TakesInput (line : List (List ℕ)) : Type 0 where
+  pub source : Source
+  pub form : Form
+  pub given : List (List ℕ)
+  pub begins : Begins line source form given
+  pub asks : AsksInput source given
+
+-- there is no text, or the command line takes an input, and the text is a line that says where a fault is in it
+abbrev pub IsPlaceOf : List (List ℕ) → List ℕ → Type 0
+IsPlaceOf line text = (text ≡ []) ⊎ (TakesInput line × IsPlaceLine text)
+
+-- a fault is why the command line has no answer, and the stream took the fault's line, and then where it is in the input, or a front of these
 pub record PrintsFault (line : List (List ℕ)) (remaining old new : Option (List ℕ)) : Type 0 where
   pub fault : Fault
+  pub place : List ℕ
   pub forbids : ForbidsLine line remaining fault
-  pub told : AppendsFront old new (line_of fault)
+  pub is_place : IsPlaceOf line place
+  pub told : AppendsFront old new (line_of fault ++ place)
 
 -- the command line has an answer, and the stream took a front of it
 pub record PrintsFront (line : List (List ℕ)) (remaining old new : Option (List ℕ)) : Type 0 where

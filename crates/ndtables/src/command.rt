@@ -72,9 +72,9 @@ impl Command {
     ///
     /// The fault is the first one that holds as the words are read from left to right, then of what is
     /// computed, or `memory`.
-    pub fn answer(self, alloc: Global, words: Words<'_>) -> Made
-        ensures computed { IfOk result (Computes self words.entry) }
-        ensures err { IfErr result (Forbids self words.entry) }
+    pub fn answer(self, alloc: Global, words: &mut Words<'_>) -> Made
+        ensures computed { IfOk result (Computes self words.old) }
+        ensures err { IfErr result (Forbids self words.old) }
     {
         match self {
             Command::Add => add(alloc, words),
@@ -92,9 +92,9 @@ impl Command {
 }
 
 /// `add TABLE TABLE`.
-fn add(alloc: Global, words: Words<'_>) -> Made
-    ensures computed { IfOk result (ComputesAdd words.entry) }
-    ensures err { IfErr result (ForbidsAdd words.entry) }
+fn add(alloc: Global, words: &mut Words<'_>) -> Made
+    ensures computed { IfOk result (ComputesAdd words.old) }
+    ensures err { IfErr result (ForbidsAdd words.old) }
 {
     let (left, right) = words.two_tables(alloc)?;
     let sums = sums_in_range(alloc, &left.view(), &right.view())?;
@@ -102,9 +102,9 @@ fn add(alloc: Global, words: Words<'_>) -> Made
 }
 
 /// `conv TABLE KERNEL`.
-fn conv(alloc: Global, words: Words<'_>) -> Made
-    ensures computed { IfOk result (ComputesConv words.entry) }
-    ensures err { IfErr result (ForbidsConv words.entry) }
+fn conv(alloc: Global, words: &mut Words<'_>) -> Made
+    ensures computed { IfOk result (ComputesConv words.old) }
+    ensures err { IfErr result (ForbidsConv words.old) }
 {
     let (table, kernel) = words.two_tables(alloc)?;
     let sums = valid_convolution(alloc, &table.view(), &kernel.view())?;
@@ -112,9 +112,9 @@ fn conv(alloc: Global, words: Words<'_>) -> Made
 }
 
 /// `conv-full TABLE TABLE`.
-fn conv_full(alloc: Global, words: Words<'_>) -> Made
-    ensures computed { IfOk result (ComputesConvFull words.entry) }
-    ensures err { IfErr result (ForbidsConvFull words.entry) }
+fn conv_full(alloc: Global, words: &mut Words<'_>) -> Made
+    ensures computed { IfOk result (ComputesConvFull words.old) }
+    ensures err { IfErr result (ForbidsConvFull words.old) }
 {
     let (left, right) = words.two_tables(alloc)?;
     let sums = full_convolution(alloc, &left.view(), &right.view())?;
@@ -122,9 +122,9 @@ fn conv_full(alloc: Global, words: Words<'_>) -> Made
 }
 
 /// `cumprod K TABLE`.
-fn cumprod(alloc: Global, words: Words<'_>) -> Made
-    ensures computed { IfOk result (ComputesCumprod words.entry) }
-    ensures err { IfErr result (ForbidsCumprod words.entry) }
+fn cumprod(alloc: Global, words: &mut Words<'_>) -> Made
+    ensures computed { IfOk result (ComputesCumprod words.old) }
+    ensures err { IfErr result (ForbidsCumprod words.old) }
 {
     let (axis, table) = words.axis_and_table(alloc)?;
     let products = running_products(alloc, &table.view(), axis)?;
@@ -132,9 +132,9 @@ fn cumprod(alloc: Global, words: Words<'_>) -> Made
 }
 
 /// `diff N K TABLE`.
-fn diff(alloc: Global, mut words: Words<'_>) -> Made
-    ensures computed { IfOk result (ComputesDiff words.entry) }
-    ensures err { IfErr result (ForbidsDiff words.entry) }
+fn diff(alloc: Global, words: &mut Words<'_>) -> Made
+    ensures computed { IfOk result (ComputesDiff words.old) }
+    ensures err { IfErr result (ForbidsDiff words.old) }
 {
     let order = words.count()?;
     let (axis, table) = words.axis_and_table(alloc)?;
@@ -143,9 +143,9 @@ fn diff(alloc: Global, mut words: Words<'_>) -> Made
 }
 
 /// `dot TABLE TABLE`.
-fn dot(alloc: Global, words: Words<'_>) -> Made
-    ensures computed { IfOk result (ComputesDot words.entry) }
-    ensures err { IfErr result (ForbidsDot words.entry) }
+fn dot(alloc: Global, words: &mut Words<'_>) -> Made
+    ensures computed { IfOk result (ComputesDot words.old) }
+    ensures err { IfErr result (ForbidsDot words.old) }
 {
     let (left, right) = words.two_tables(alloc)?;
     let product = dot_in_range(alloc, &left.view(), &right.view())?;
@@ -153,9 +153,9 @@ fn dot(alloc: Global, words: Words<'_>) -> Made
 }
 
 /// `product TABLE`.
-fn product(alloc: Global, words: Words<'_>) -> Made
-    ensures computed { IfOk result (ComputesTotal int_products ProductsFit words.entry) }
-    ensures err { IfErr result (ForbidsTotal ProductsFit words.entry) }
+fn product(alloc: Global, words: &mut Words<'_>) -> Made
+    ensures computed { IfOk result (ComputesTotal int_products ProductsFit words.old) }
+    ensures err { IfErr result (ForbidsTotal ProductsFit words.old) }
 {
     let table = words.last_table(alloc)?;
     let product = product_in_range(&table.view()).ok_or(Fault::Range)?;
@@ -164,9 +164,9 @@ fn product(alloc: Global, words: Words<'_>) -> Made
 }
 
 /// `product-axis K TABLE`.
-fn product_axis(alloc: Global, words: Words<'_>) -> Made
-    ensures computed { IfOk result (ComputesTotals int_products ProductsFit words.entry) }
-    ensures err { IfErr result (ForbidsTotals ProductsFit words.entry) }
+fn product_axis(alloc: Global, words: &mut Words<'_>) -> Made
+    ensures computed { IfOk result (ComputesTotals int_products ProductsFit words.old) }
+    ensures err { IfErr result (ForbidsTotals ProductsFit words.old) }
 {
     let (axis, table) = words.axis_and_table(alloc)?;
     let products = products_along(alloc, &table.view(), axis)?;
@@ -174,9 +174,9 @@ fn product_axis(alloc: Global, words: Words<'_>) -> Made
 }
 
 /// `sum TABLE`.
-fn sum(alloc: Global, words: Words<'_>) -> Made
-    ensures computed { IfOk result (ComputesTotal int_sums SumsFit words.entry) }
-    ensures err { IfErr result (ForbidsTotal SumsFit words.entry) }
+fn sum(alloc: Global, words: &mut Words<'_>) -> Made
+    ensures computed { IfOk result (ComputesTotal int_sums SumsFit words.old) }
+    ensures err { IfErr result (ForbidsTotal SumsFit words.old) }
 {
     let table = words.last_table(alloc)?;
     let total = sum_in_range(&table.view()).ok_or(Fault::Range)?;
@@ -185,9 +185,9 @@ fn sum(alloc: Global, words: Words<'_>) -> Made
 }
 
 /// `sum-axis K TABLE`.
-fn sum_axis(alloc: Global, words: Words<'_>) -> Made
-    ensures computed { IfOk result (ComputesTotals int_sums SumsFit words.entry) }
-    ensures err { IfErr result (ForbidsTotals SumsFit words.entry) }
+fn sum_axis(alloc: Global, words: &mut Words<'_>) -> Made
+    ensures computed { IfOk result (ComputesTotals int_sums SumsFit words.old) }
+    ensures err { IfErr result (ForbidsTotals SumsFit words.old) }
 {
     let (axis, table) = words.axis_and_table(alloc)?;
     let sums = sums_along(alloc, &table.view(), axis)?;

@@ -1,7 +1,7 @@
 //! What a run may end with in place of an answer.
 
 ghost use Rattle.ndtables.specs.declared.fault.Fault.TheVariants.{Memory};
-ghost use Rattle.std.specs.Prelude.{◌≡◌};
+ghost use Rattle.std.specs.Prelude.{◌≡◌, None};
 
 use std::alloc::{AllocError, AllocFailed};
 
@@ -37,6 +37,35 @@ impl Fault {
             Fault::Range => "ndtables: range\n",
             Fault::Input => "ndtables: input\n",
             Fault::Memory => "ndtables: memory\n",
+        }
+    }
+}
+
+/// What a run that has no answer tells: the fault, and then where it is in the input, as a line, where that is known and there was memory
+/// for the line.
+#[derive(Drop)]
+pub struct Complaint {
+    /// The fault.
+    pub fault: Fault,
+    /// The line that says where it is.
+    pub place: Option<String>,
+}
+
+impl From<Fault> for Complaint {
+    ghost from_gives = { λ fault complaint. (complaint.fault ≡ fault) × (complaint.place ≡ None) };
+
+    fn from(fault: Fault) -> Complaint {
+        Complaint { fault, place: None }
+    }
+}
+
+impl From<AllocError> for Complaint {
+    ghost from_gives = { λ _ complaint. (complaint.fault ≡ Memory) × (complaint.place ≡ None) };
+
+    fn from(_error: AllocError) -> Complaint {
+        Complaint {
+            fault: Fault::Memory,
+            place: None,
         }
     }
 }

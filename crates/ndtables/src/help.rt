@@ -37,10 +37,10 @@ A TABLE is a shape word and then its cells, row after row. Axes are counted from
 A - as the last word stands for the words of standard input: white space is between them, and none has more than 4096 bytes.
     ndtables sum-axis 0 - < table.txt
 
-Before the command may stand, in this order,
+Before the command may stand, in either order, one of
     --csv                   the last TABLE is standard input: records of comma-separated cells, each a row
     --csv --header          the same, and the first record is no row
-and then one of
+and one of
     --table                 the result is printed as a TABLE, to be read by the next command
     --to-csv                the result is printed with commas; it has two axes at most
     ndtables --csv --header sum-axis 0 < sales.csv
@@ -53,6 +53,10 @@ The status is 0, and the result is on standard output. Else it is 2, and a line 
     ndtables: range         a number of the result, or on the way to it, may be beyond 64 bits
     ndtables: input         standard input cannot be read, is no text, or has too long a word
     ndtables: memory        there is not enough memory
+Where a number or a record of standard input is at fault, a second line says where, for instance
+    ndtables: line 3, word 2: '4x'
+    ndtables: line 3, field 2: '4x'
+    ndtables: line 3: 1 field, not 2
 ";
 
 const ADD: &str = "ndtables add TABLE TABLE

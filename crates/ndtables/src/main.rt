@@ -8,6 +8,8 @@ mod fault;
 mod help;
 mod input;
 mod multiplying;
+mod options;
+mod place;
 mod printing;
 mod program;
 mod records;

@@ -1,16 +1,19 @@
 //! The program over any words, any reader and any two streams.
 
-ghost use Rattle.std.specs.Prelude.{◌≡◌, ◌⊎◌, ◌++◌, length, map, IfOk, IfErr, OnErr, OnOk, drop, string_bytes};
+ghost use Rattle.std.specs.Prelude.{◌≡◌, ◌<◌, ◌⊎◌, ◌++◌, length, map, IfOk, IfErr, IfSome, OnErr, OnOk, drop, string_bytes};
 ghost use Rattle.std.specs.Result.{IsOkAnd};
 ghost use Rattle.std.specs.Io.KnownBytes.{Appends};
 ghost use Rattle.ndtables.specs.Answering.{Answers, ForbidsAnswer, IsFirstFault};
 ghost use Rattle.ndtables.specs.Lines.{AnswersLine, ForbidsLine, StandsAlone};
-ghost use Rattle.ndtables.specs.Streams.{AppendsFront, PrintsAnswer, PrintsEither, PrintsFault, PrintsFront, line_of};
+ghost use Rattle.ndtables.specs.Places.{IsPlaceLine};
+ghost use Rattle.ndtables.specs.Streams.{AppendsFront, IsPlaceOf, PrintsAnswer, PrintsEither, PrintsFault, PrintsFront, line_of, place_text};
 ghost use Rattle.ndtables.specs.Words.{words_of};
 
 use crate::command::Command;
-use crate::fault::Fault;
+use crate::fault::{Complaint, Fault};
 use crate::help::Page;
+use crate::options;
+use crate::options::begins_wrongly;
 use crate::printing::Form;
 use crate::source::Source;
 use crate::words::Words;
@@ -50,11 +53,11 @@ fn after_name(words: &[String]) -> &[String]
 }
 
 /// Answers the words, which are those after the program's name, and gives the exit status. The input is read only where the last word
-/// is `-` or the first `--csv`.
+/// is `-` or an option is `--csv`, and not where the word behind the options is neither a command's name nor `-`.
 ///
 /// The status is 0 where the result is on `out`. Else it is 2: the first fault of the words, or of the
-/// input, or allocation failure, leaves nothing on `out` and one line on `err`, and after a fault of a stream,
-/// which has then taken a front of the text, nothing more is printed on either.
+/// input, or allocation failure, leaves nothing on `out` and one line on `err`, and a second one that says where a number or a record of
+/// the input is at fault. After a fault of a stream, which has then taken a front of the text, nothing more is printed on either.
 pub fn run<R: Read + Drop, W: Write, E: Write>(
     alloc: Global,
     words: &[String],
@@ -73,39 +76,60 @@ pub fn run<R: Read + Drop, W: Write, E: Write>(
             Ok(()) => 0,
             Err(_) => 2,
         },
-        Err(fault) => report(fault, err),
+        Err(complaint) => complain(complaint, err),
     }
 }
 
-/// What the words ask to be printed, whole; or the first fault, where they have no answer.
-fn answer<R: Read + Drop>(alloc: Global, words: &[String], input: R) -> Result<String, Fault>
+/// What the words ask to be printed, whole; or the first fault, where they have no answer, and where it is.
+fn answer<R: Read + Drop>(alloc: Global, words: &[String], input: R) -> Result<String, Complaint>
     ensures text { IfOk result (λ text. AnswersLine (map string_bytes words.now) (R.remaining input) (string_bytes text)) }
-    ensures err { IfErr result (ForbidsLine (map string_bytes words.now) (R.remaining input)) }
+    ensures err { IfErr result (λ complaint. ForbidsLine (map string_bytes words.now) (R.remaining input) complaint.fault) }
+    ensures place { IfErr result (λ complaint. IsPlaceOf (map string_bytes words.now) (place_text complaint.place)) }
 {
     if let Some(page) = Page::asked(words) {
         return Ok(String::from_str(alloc, page.text())?);
     }
-    let (source, words) = Source::asked(words);
-    let (form, words) = Form::asked(words);
+    let (source, form, words) = options::asked(words);
+    if begins_wrongly(words) {
+        return Err(Complaint::from(Fault::Usage));
+    }
     match source.given(alloc, words, input) {
-        Ok((words, text, count)) => computed(alloc, form, words, text.as_str(), count),
-        Err(fault) => Err(fault),
+        Ok((words, text, count)) => computed(alloc, source, form, words, text.as_str(), count),
+        Err(complaint) => Err(complaint),
     }
 }
 
-/// What the command of these words and of those of a text prints, in a form. Requires that the text has so many words.
+/// What the command of these words and of those of a text prints, in a form; or the fault, and where it is in the text, if that has the words
+/// of an input. Requires that the text has so many words.
 fn computed(
     alloc: Global,
+    source: Source,
     form: Form,
     words: &[String],
     text: &str,
     count: usize,
-) -> Result<String, Fault>
+) -> Result<String, Complaint>
     requires { count ≡ length (words_of text.now) }
     ensures text { IfOk result (λ printed. Answers form (map string_bytes words.now ++ words_of text.now) (string_bytes printed)) }
-    ensures err { IfErr result (ForbidsAnswer form (map string_bytes words.now ++ words_of text.now)) }
+    ensures err { IfErr result (λ complaint. ForbidsAnswer form (map string_bytes words.now ++ words_of text.now) complaint.fault) }
+    ensures place { IfErr result (λ complaint. IfSome complaint.place (λ line. (0 < count) × IsPlaceLine (string_bytes line))) }
 {
     let mut words = Words::new(words, text, count);
+    match printed(alloc, form, &mut words) {
+        Ok(printed) => Ok(printed),
+        Err(fault) => {
+            let read = count.saturating_sub(words.left_of_text());
+            let place = source.place(alloc, fault, text, read);
+            Err(Complaint { fault, place })
+        }
+    }
+}
+
+/// What the command of words prints, in a form.
+fn printed(alloc: Global, form: Form, words: &mut Words<'_>) -> Result<String, Fault>
+    ensures text { IfOk result (λ printed. Answers form words.old (string_bytes printed)) }
+    ensures err { IfErr result (ForbidsAnswer form words.old) }
+{
     let command = Command::named(words.word()?).ok_or(Fault::Usage)?;
     let array = command.answer(alloc, words)?;
     form.text_of(alloc, &array.view())
@@ -134,8 +158,22 @@ fn print<W: Write>(text: &str, out: &mut W) -> io::Result<()>
     Err(io::Error::from(ErrorKind::Interrupted))
 }
 
+/// Prints a fault as a line of the stream, and then where it is, and gives the exit status.
+fn complain<E: Write>(complaint: Complaint, err: &mut E) -> u8
+    ensures status { result ≡ 2 }
+    ensures lines { AppendsFront (E.contents err.old) (E.contents err.new) (line_of complaint.fault ++ place_text complaint.place) }
+{
+    let Ok(()) = print(complaint.fault.line(), err) else {
+        return 2;
+    };
+    if let Some(line) = complaint.place {
+        let _ = print(line.as_str(), err);
+    }
+    2
+}
+
 /// Prints a fault as a line of the stream, and gives the exit status.
-pub fn report<E: Write>(fault: Fault, err: &mut E) -> u8
+fn report<E: Write>(fault: Fault, err: &mut E) -> u8
     ensures status { result ≡ 2 }
     ensures line { AppendsFront (E.contents err.old) (E.contents err.new) (line_of fault) }
 {

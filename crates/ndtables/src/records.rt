@@ -115,7 +115,7 @@ fn push_fields(text: &mut String, fields: &ByteRecord) -> Result<(), Fault>
 }
 
 /// A field as a word that spells a cell.
-fn cell_word(field: &[u8]) -> Result<&str, Fault>
+pub fn cell_word(field: &[u8]) -> Result<&str, Fault>
     ensures word { IfOk result (λ word. (word.now ≡ field.now) × IsCellWord field.now) }
     ensures err { IfErr result (λ _. IsCellWord field.now → ⊥) }
 {

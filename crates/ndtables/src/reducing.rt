@@ -62,8 +62,9 @@ fn lane_sums_fit(table: &View<'_>, axis: Axis) -> bool
     requires axis { HasAxis table.now axis.0 }
     ensures { IsTrue result ↔ CanSumAlong table.now axis.0 }
 {
-    // Without cells there may be more lanes than could be walked.
-    if table.len() == 0 {
+    // All cells in one walk of memory, and only where they may not be added lane after lane. This ends at once where there are no cells, however
+    // many lanes there are.
+    if table.view().sums_fit() {
         return true;
     }
     Zip::from(table.lanes(axis)).all(|lane| lane.sums_fit())
@@ -93,8 +94,8 @@ fn lane_products_fit(table: &View<'_>, axis: Axis) -> bool
     ensures magnitudes { IsTrue result ↔ CanMultiplyAlong table.now axis.0 }
     ensures selections { IsTrue result → CanMap (λ lane. IsSummable int_products (FitsSigned w64) lane.cells) (lanes_of table.now axis.0) }
 {
-    // Without cells there may be more lanes than could be walked.
-    if table.len() == 0 {
+    // All cells in one walk of memory, as in `lane_sums_fit`.
+    if table.view().products_fit() {
         return true;
     }
     Zip::from(table.lanes(axis)).all(|lane| lane.products_fit())

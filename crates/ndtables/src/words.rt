@@ -46,6 +46,11 @@ impl<'a> Words<'a> {
         }
     }
 
+    /// How many words of the text are still to be read.
+    pub fn left_of_text(&self) -> usize {
+        self.left
+    }
+
     /// Whether so many words are still to be read.
     pub fn has(&self, count: usize) -> bool
         ensures { IsTrue result ↔ (count ≤ length self.now) }
@@ -114,9 +119,9 @@ impl<'a> Words<'a> {
     }
 
     /// Reads all of the words as a table. The fault is that of the table, or `usage` where a word is left over.
-    pub fn last_table(mut self, alloc: Global) -> Result<Table<IxDyn>, Fault>
-        ensures read { IfOk result (ReadsTable self.entry []) }
-        ensures err { IfErr result (ForbidsLastTable self.entry) }
+    pub fn last_table(&mut self, alloc: Global) -> Result<Table<IxDyn>, Fault>
+        ensures read { IfOk result (ReadsTable self.old []) }
+        ensures err { IfErr result (ForbidsLastTable self.old) }
     {
         let table = self.table(alloc)?;
         self.end()?;
@@ -124,9 +129,9 @@ impl<'a> Words<'a> {
     }
 
     /// Reads all of the words as two tables, one after the other.
-    pub fn two_tables(mut self, alloc: Global) -> Result<(Table<IxDyn>, Table<IxDyn>), Fault>
-        ensures read { IfOk result (λ tables. ReadsTables self.entry tables.0 tables.1) }
-        ensures err { IfErr result (ForbidsTables self.entry) }
+    pub fn two_tables(&mut self, alloc: Global) -> Result<(Table<IxDyn>, Table<IxDyn>), Fault>
+        ensures read { IfOk result (λ tables. ReadsTables self.old tables.0 tables.1) }
+        ensures err { IfErr result (ForbidsTables self.old) }
     {
         let left = self.table(alloc)?;
         let right = self.last_table(alloc)?;
@@ -134,9 +139,9 @@ impl<'a> Words<'a> {
     }
 
     /// Reads all of the words as an axis and a table.
-    pub fn axis_and_table(mut self, alloc: Global) -> Result<(Axis, Table<IxDyn>), Fault>
-        ensures read { IfOk result (λ both. ReadsAxisAndTable self.entry both.0.0 both.1) }
-        ensures err { IfErr result (ForbidsAxisAndTable self.entry) }
+    pub fn axis_and_table(&mut self, alloc: Global) -> Result<(Axis, Table<IxDyn>), Fault>
+        ensures read { IfOk result (λ both. ReadsAxisAndTable self.old both.0.0 both.1) }
+        ensures err { IfErr result (ForbidsAxisAndTable self.old) }
     {
         let axis = self.count()?;
         let table = self.last_table(alloc)?;

@@ -5,8 +5,8 @@ use Rattle.ndtables.proofs.FaultsPassedOn.{passed-on}
 use Rattle.ndtables.proofs.command.sum_axis.Goals as goal
 
 pub returns-in_err-axis-clause-err : goal.returns-in_err-axis-clause-err
-returns-in_err-axis-clause-err c = passed-on (ForbidsTotals SumsFit c.args.words) c.from_residual.result c.in_err-axis.field-0.0 c.from_residual.ensures.1 (inl c.in_err-axis.ensures.err)
+returns-in_err-axis-clause-err c = passed-on (ForbidsTotals SumsFit c.args.words.now) c.from_residual.result c.in_err-axis.field-0.0 c.from_residual.ensures.1 (inl c.in_err-axis.ensures.err)
 
 pub returns-in_err-sums-clause-err : goal.returns-in_err-sums-clause-err
 returns-in_err-sums-clause-err c =
-    passed-on (ForbidsTotals SumsFit c.args.words) c.from_residual-in_err-sums.result c.in_err-sums.field-0.0 c.from_residual-in_err-sums.ensures.1 (inr (c.in_ok-axis.axis.0, c.in_ok-axis.table, c.in_ok-axis.ensures.read, subst (λ g. ForbidsMaking (HasAxis g c.in_ok-axis.axis.0) (CanSumAlong g c.in_ok-axis.axis.0) c.in_err-sums.field-0.0) c.view.ensures.same c.in_err-sums.ensures.err))
+    passed-on (ForbidsTotals SumsFit c.args.words.now) c.from_residual-in_err-sums.result c.in_err-sums.field-0.0 c.from_residual-in_err-sums.ensures.1 (inr (c.in_ok-axis.axis.0, c.in_ok-axis.table, c.in_ok-axis.ensures.read, subst (λ g. ForbidsMaking (HasAxis g c.in_ok-axis.axis.0) (CanSumAlong g c.in_ok-axis.axis.0) c.in_err-sums.field-0.0) c.view.ensures.same c.in_err-sums.ensures.err))

@@ -1,10 +1,10 @@
-use Rattle.std.proofs.Common.{rules, ℤ, ◌∙◌, refl, sym, subst, pos}
+use Rattle.std.proofs.Common.{rules, ℤ, ◌∙◌, refl, subst}
 use Rattle.std.specs.Prelude.{FitsSigned}
 use Rattle.std.specs.Int.{w64}
-use Rattle.ndarray.specs.Grid.{Grid}
+use Rattle.ndarray.specs.Grid.{Grid, IsGrid}
 use Rattle.ndarray.specs.Integers.{int_sums}
 use Rattle.ndarray.specs.Sums.{IsSummable}
-use Rattle.ndtables.proofs.EmptyLanes.{empty-lanes}
+use Rattle.ndarray.proofs.callers.Lanes.{lanes-summable}
 use Rattle.ndarray.proofs.callers.Testing.{tested-cells}
 use Rattle.ndtables.proofs.reducing.lane_sums_fit.Goals as goal
 
@@ -15,10 +15,10 @@ returns c =
     let told = tested-cells _ _ _ _ fits _ c.from.result.nested (c.from.ensures ∙ c.lanes.ensures) o c.all.result ran (λ is k turn. (search rules, (turn.0, turn.1, search (rules, turn.2)))) in
     told (λ is stop. (stop.2.0, (stop.0, stop.1, λ fit. absurd (search (rules, stop.2.1.1, fit))))) (λ end. end)
 
-pub returns-then-len-eq0 : goal.returns-then-len-eq0
-returns-then-len-eq0 c =
-    let zero : FitsSigned w64 (pos 0) = search rules in
-    let lanes = empty-lanes (λ lane. IsSummable int_sums (FitsSigned w64) lane.cells)
-    (λ lane e. subst (IsSummable int_sums (FitsSigned w64)) (sym e) (λ _. zero))
-    c.args.table.now c.args.axis.0 (sym c.len.ensures.cells ∙ c.len.ensures.size) (sym c.len.ensures.cells ∙ c.if-len-eq0.true) c.requires.axis in
-    (λ _. lanes, λ _. refl)
+pub returns-then-sums_fit : goal.returns-then-sums_fit
+returns-then-sums_fit c =
+    let fits : IsSummable int_sums (FitsSigned w64) c.view.result.cells = search rules in
+    let table = c.args.table.now in
+    let all : IsSummable int_sums (FitsSigned w64) table.cells = subst (λ g. IsSummable int_sums (FitsSigned w64) g.cells) c.view.ensures.same fits in
+    let whole : IsGrid table = subst IsGrid c.view.ensures.same c.view.ensures.whole in
+    (λ _. lanes-summable table whole c.args.axis.0 c.requires.axis int_sums (FitsSigned w64) (λ z. z) all, λ _. refl)

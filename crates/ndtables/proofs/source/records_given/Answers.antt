@@ -3,5 +3,5 @@ use Rattle.std.proofs.lemmas.Iterator.Consumers.{count_from_yields_List}
 use Rattle.ndtables.proofs.TextWords.{words-given}
 use Rattle.ndtables.proofs.source.records_given.Goals as goal
 
-pub returns-clause-count : goal.returns-clause-count
-returns-clause-count g c = count_from_yields_List c.split_ascii_whitespace.result c.count-count.result c.count-count.ensures.ran (words-given _ (string_bytes c.in_ok-text.text) (c.split_ascii_whitespace.ensures.text ∙ c.as_str-2.ensures.value))
+pub returns-in-Ok-clause-count : goal.returns-in-Ok-clause-count
+returns-in-Ok-clause-count g c = count_from_yields_List c.split_ascii_whitespace.result c.count-count.result c.count-count.ensures.ran (words-given _ (string_bytes c.in-Ok.text) (c.split_ascii_whitespace.ensures.text ∙ c.as_str-in-Ok.ensures.value))
