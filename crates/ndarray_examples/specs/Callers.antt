@@ -2,11 +2,9 @@
 use Rattle.std.specs.Prelude.{ℕ, ℤ, pos, ◌-◌, ◌+ℤ◌, ◌/◌, ◌==◌, if◌then◌else◌, Bool, false, List, [], ◌∷◌, Option, Some, None, drop, max, slice_index}
 use Rattle.std.specs.List.{fold}
 use Rattle.ndarray.specs.Grid.{Grid, cell}
-use Rattle.ndarray.specs.Integers.{int_sums}
 use Rattle.ndarray.specs.Matrices.{Matrix}
 use Rattle.ndarray.specs.Products.{matrix_entries}
-use Rattle.ndarray.specs.Subviews.{lane, window}
-use Rattle.ndarray.specs.Sums.{total}
+use Rattle.ndarray.specs.Subviews.{window}
 use Rattle.ndarray.specs.Views.{broadcast_to}
 use Rattle.ndarray_examples.specs.PairedProducts.{number}
 use Rattle.residue.specs.Residue.{Below, modulus_pos, residue_products, residue_sums}
@@ -48,10 +46,6 @@ sum_at g h is = whole_number (cell g is) +ℤ whole_number (cell h is)
 -- the sum of the cell of a table at an index list, and of the cell of a row at the list's other indices
 abbrev pub sum_below : Grid ℤ → Grid ℤ → List ℕ → ℤ
 sum_below table row is = whole_number (cell table is) +ℤ whole_number (cell row (drop 1 is))
-
--- the sum of the row of a table at an index list of one number
-abbrev pub row_total : Grid ℤ → List ℕ → ℤ
-row_total table is = total int_sums (lane table 1 is).cells
 
 -- the residue at an index list, and 0 outside the box
 abbrev pub residue : Option (Below 5) → Below 5

@@ -1,7 +1,7 @@
 //! Functions that a user would write with the calls of a closure that has no state, each with what it computes as its contract.
 //! All but the last take no proof.
 
-ghost use Rattle.std.specs.Prelude.{◌≡◌, ◌↔◌, ◌<◌, ◌/◌, ◌+◌, ◌-◌, ◌∷◌, [], IfOk, IsOk, IsTrue, length, max, nat_lt, remove, slice_index};
+ghost use Rattle.std.specs.Prelude.{◌≡◌, ◌↔◌, ◌<◌, ◌/◌, ◌+◌, ◌∷◌, [], IfOk, IsOk, IsTrue, length, max, nat_lt, remove, slice_index};
 ghost use Rattle.std.specs.List.{fold};
 ghost use Rattle.ndarray.specs.Elementwise.{CanMap};
 ghost use Rattle.ndarray.specs.Everyday.{combined, mapped};
@@ -67,19 +67,6 @@ pub fn clear<S: DataMut<Elem = u64>, D: Lengths>(a: &mut ArrayBase<S, D>)
     ensures { a.new ≡ mapped (λ _. 0) a.old }
 {
     a.fill(0);
-}
-
-/// The difference of two images, and 0 where the second is brighter.
-pub fn difference<S: Data<Elem = u64>, T: Data<Elem = u64>, D: Lengths>(
-    alloc: Global,
-    a: &ArrayBase<S, D>,
-    b: &ArrayBase<T, D>,
-) -> Result<Array<u64, D>, AllocError>
-    requires { b.now.lengths ≡ a.now.lengths }
-    ensures cells { IfOk result (λ c. c ≡ combined (λ x y. x - y) a.now b.now) }
-    ensures empty { size a.now.lengths ≡ 0 → IsOk result }
-{
-    a.combine(alloc, b, |x, y| x.saturating_sub(*y))
 }
 
 /// Leaves at each cell of an image the brighter one of it and that of another.

@@ -1,16 +1,19 @@
-//! Filters: two of a signal, one after another, one of a picture in two parts, and the greatest cells of a table's windows.
+//! Filters: two of a signal, one after another, one of a picture in two parts, one of two pictures, and the greatest cells of a table's
+//! windows; and full convolutions of two signals and of three.
 
-ghost use Rattle.std.specs.Prelude.{◌≡◌, ◌≤◌, ◌↔◌, ℤ, length, slice_index, IfErr, IfOk, IfSome, IsSome, IsTrue};
-ghost use Rattle.ndarray.specs.Convolution.{CanPad, valid_convolution_by};
-ghost use Rattle.ndarray.specs.FilterLaws.{IsColumnTimesRow};
-ghost use Rattle.ndarray.specs.Grid.{Grid, IsGrid, one_axis};
+ghost use Rattle.std.specs.Prelude.{◌≡◌, ◌≤◌, ◌↔◌, ◌+ℤ◌, ℤ, FitsSigned, length, slice_index, IfErr, IfOk, IfSome, IsSome, IsTrue};
+ghost use Rattle.std.specs.Int.{w64};
+ghost use Rattle.ndarray.specs.Convolution.{CanPad, HasFullMagnitudesInRange, filtered, full_convolution, valid_convolution_by, valid_counts};
+ghost use Rattle.ndarray.specs.FilterLaws.{IsColumnTimesRow, filtered_at};
+ghost use Rattle.ndarray.specs.Grid.{Grid, IsGrid, array_by, one_axis};
 ghost use Rattle.ndarray.specs.Integers.{int_products, int_sums};
 ghost use Rattle.ndarray.specs.Subviews.{ArePositive};
 ghost use Rattle.ndarray_examples.specs.Filters.{AreLocalMaxima, AreZeroTests, IsZero, convolved_residues, filtered_residues};
 
 use crate::maximum_filter;
-use ndarray::conv::{conv_full, conv_valid, conv_valid_ok, valid_fits};
-use ndarray::laws::{conv_filters, filters_compose};
+use crate::range_tests::Checked;
+use ndarray::conv::{conv_full, conv_full_ok, conv_valid, conv_valid_ok, full_fits, valid_fits};
+use ndarray::laws::{conv_assoc, conv_commutes, conv_filters, filters_add, filters_compose};
 use ndarray::{Array, ArrayBase, ArrayView, Data, Dimension, Ix1, Ix2, Lengths, Zip};
 use residue::Residue;
 use std::alloc::{AllocError, Global};
@@ -36,6 +39,37 @@ pub fn filter_twice(
     let kernel = conv_full(alloc, first, second)?;
     let direct = conv_valid(alloc, signal, &kernel)?;
     Ok((twice, direct))
+}
+
+/// A signal filtered by two kernels one after another, by one filter: by the convolution of the kernels. `None` where a kernel has no cells, they
+/// are too long for a convolution, or a sum may be no `i64`. The error is allocation failure.
+pub fn filter_by_one<S: Data<Elem = i64>, T: Data<Elem = i64>, U: Data<Elem = i64>>(
+    alloc: Global,
+    signal: &ArrayBase<S, Ix1>,
+    first: &ArrayBase<T, Ix1>,
+    second: &ArrayBase<U, Ix1>,
+) -> Checked<i64, Ix1>
+    ensures { IfOk result (λ made. IfSome made (λ r. r ≡ one_axis (filtered int_sums int_products (filtered int_sums int_products signal.now.cells first.now.cells) second.now.cells))) }
+{
+    conv_filters::<i64>();
+    let _lengths = (signal.raw_dim(), first.raw_dim(), second.raw_dim());
+    if first.len() == 0 {
+        return Ok(None);
+    }
+    if second.len() == 0 {
+        return Ok(None);
+    }
+    let Some(kernel) = convolution_either_way(alloc, first, second)? else {
+        return Ok(None);
+    };
+    if !conv_valid_ok(signal, &kernel) {
+        return Ok(None);
+    }
+    if !valid_fits(signal, &kernel) {
+        return Ok(None);
+    }
+    let direct = conv_valid(alloc, signal, &kernel)?;
+    Ok(Some(direct))
 }
 
 /// The greatest cell of each square of three by three cells of a table, or `None` where a side is shorter.
@@ -110,4 +144,75 @@ pub fn filter_by_parts<S: Data<Elem = i64>, T: Data<Elem = i64>, U: Data<Elem = 
     }
     let twice = conv_valid(alloc, &once, row)?;
     Ok(Some(twice))
+}
+
+/// The filters of two pictures by one kernel, added up, by one filter of the sum of the pictures. `None` where the pictures are not of one
+/// shape, the kernel has no row or no column, or a sum may be no `i64`. The error is allocation failure.
+pub fn filter_both<S: Data<Elem = i64>, T: Data<Elem = i64>, U: Data<Elem = i64>>(
+    alloc: Global,
+    a: &ArrayBase<S, Ix2>,
+    b: &ArrayBase<T, Ix2>,
+    kernel: &ArrayBase<U, Ix2>,
+) -> Checked<i64, Ix2>
+    ensures { IfOk result (λ made. IfSome made (λ r. r ≡ array_by (valid_counts a.now.lengths kernel.now.lengths) (λ ps. filtered_at int_sums int_products (λ x. x) a.now kernel.now ps +ℤ filtered_at int_sums int_products (λ x. x) b.now kernel.now ps))) }
+{
+    filters_add::<i64>();
+    let _whole = (a.raw_dim(), b.raw_dim(), kernel.raw_dim());
+    if a.shape() != b.shape() {
+        return Ok(None);
+    }
+    if !a.add_fits(b) {
+        return Ok(None);
+    }
+    let copy = a.to_owned(alloc)?;
+    let sum = (copy + b)?;
+    if !conv_valid_ok(&sum, kernel) {
+        return Ok(None);
+    }
+    if !valid_fits(&sum, kernel) {
+        return Ok(None);
+    }
+    let filtered = conv_valid(alloc, &sum, kernel)?;
+    Ok(Some(filtered))
+}
+
+/// The full convolution of two signals, which is that of the second and the first. `None` where they are too long for one, or at some place
+/// the absolute values of the products add up to more than the greatest `i64`. The error is allocation failure.
+pub fn convolution_either_way<S: Data<Elem = i64>, T: Data<Elem = i64>>(
+    alloc: Global,
+    x: &ArrayBase<S, Ix1>,
+    y: &ArrayBase<T, Ix1>,
+) -> Checked<i64, Ix1>
+    ensures when { IfOk result (λ made. IsSome made ↔ (CanPad (length x.now.cells) (length y.now.cells) × HasFullMagnitudesInRange (λ v. v) (FitsSigned w64) x.now.cells y.now.cells)) }
+    ensures one_way { IfOk result (λ made. IfSome made (λ r. r ≡ one_axis (full_convolution int_sums int_products x.now.cells y.now.cells))) }
+    ensures other_way { IfOk result (λ made. IfSome made (λ r. r ≡ one_axis (full_convolution int_sums int_products y.now.cells x.now.cells))) }
+{
+    conv_commutes::<i64>();
+    if !conv_full_ok(x, y) {
+        return Ok(None);
+    }
+    if !full_fits(x, y) {
+        return Ok(None);
+    }
+    let full = conv_full(alloc, x, y)?;
+    Ok(Some(full))
+}
+
+/// The full convolution of three signals, of the first two and then with the third, which is that of the first with the other two's. `None`
+/// where two of them are too long for one, or at some place the absolute values of the products add up to more than the greatest `i64`. The
+/// error is allocation failure.
+pub fn convolution_of_three<S: Data<Elem = i64>, T: Data<Elem = i64>, U: Data<Elem = i64>>(
+    alloc: Global,
+    x: &ArrayBase<S, Ix1>,
+    y: &ArrayBase<T, Ix1>,
+    z: &ArrayBase<U, Ix1>,
+) -> Checked<i64, Ix1>
+    ensures from_left { IfOk result (λ made. IfSome made (λ r. r ≡ one_axis (full_convolution int_sums int_products (full_convolution int_sums int_products x.now.cells y.now.cells) z.now.cells))) }
+    ensures from_right { IfOk result (λ made. IfSome made (λ r. r ≡ one_axis (full_convolution int_sums int_products x.now.cells (full_convolution int_sums int_products y.now.cells z.now.cells)))) }
+{
+    conv_assoc::<i64>();
+    let Some(first) = convolution_either_way(alloc, x, y)? else {
+        return Ok(None);
+    };
+    convolution_either_way(alloc, &first, z)
 }

@@ -96,7 +96,7 @@ pub fn triangles<S: Data<Elem = i64>, D: Lengths>(
     ensures empty { size array.now.lengths ≡ 0 → IsOk result }
 {
     triangles_part::<i64>();
-    let array = array.view();
+    let _whole = array.raw_dim();
     let upper = array.triu(alloc, k)?;
     let lower = array.tril(alloc, k - 1)?;
     Ok((upper, lower))

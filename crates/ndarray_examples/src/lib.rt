@@ -6,12 +6,16 @@ pub mod algebra;
 pub mod dots;
 pub mod everyday;
 pub mod filters;
+pub mod images;
 pub mod laws;
 pub mod laws_of_parts;
+pub mod matrix_laws;
 pub mod parts;
 pub mod product_ranges;
 pub mod range_tests;
 pub mod reading;
+pub mod scan_laws;
+pub mod tables;
 pub mod unrolled;
 pub mod updating;
 pub mod walks;
@@ -24,6 +28,7 @@ ghost use Rattle.ndarray.specs.AlongAxis.{Cumulates, IsDifference, one_further};
 ghost use Rattle.ndarray.specs.Broadcast.{BroadcastsTo, broadcast_lengths};
 ghost use Rattle.ndarray.specs.Chains.{HasColumn, HasMatrix};
 ghost use Rattle.ndarray.specs.Elementwise.{CanCombine, Combines};
+ghost use Rattle.ndarray.specs.Everyday.{lanes_mapped};
 ghost use Rattle.ndarray.specs.Grid.{Grid, IsGrid, array_by, cell, one_axis};
 ghost use Rattle.ndarray.specs.Index.{InBox, size};
 ghost use Rattle.ndarray.specs.Integers.{int_products, int_sums, magnitude_product};
@@ -33,7 +38,7 @@ ghost use Rattle.ndarray.specs.Subviews.{window_counts};
 ghost use Rattle.ndarray.specs.Sums.{IsSummable, total, total_by};
 ghost use Rattle.ndarray.specs.WholeValues.{HasMagnitudesInRange};
 ghost use Rattle.ndarray.specs.declared.stacking.error.StackError.TheVariants.{Memory};
-ghost use Rattle.ndarray_examples.specs.Callers.{greater_at, greatest_in_square, half_at, multiple_added, off_diagonal, product_added, rest_at, row_total, sum_at, sum_below};
+ghost use Rattle.ndarray_examples.specs.Callers.{greater_at, greatest_in_square, half_at, multiple_added, off_diagonal, product_added, rest_at, sum_at, sum_below};
 ghost use Rattle.residue.specs.Residue.{Below, modulus, modulus_pos, residue_products, residue_sums};
 
 use ndarray::iter::{to_vec, to_vec_mapped};
@@ -276,7 +281,7 @@ pub fn row_sums<S: Data<Elem = i64>>(
     a: &ArrayBase<S, Ix2>,
 ) -> Result<Option<Array<i64, Ix1>>, AllocError>
     ensures fits { IfOk result (λ made. IsSome made ↔ IsSummable int_sums (FitsSigned w64) a.now.cells) }
-    ensures sums { IfOk result (λ made. IfSome made (λ r. r ≡ array_by (slice_index a.now.lengths 0 ∷ []) (row_total a.now))) }
+    ensures sums { IfOk result (λ made. IfSome made (λ r. r ≡ lanes_mapped (λ l. total int_sums l.cells) a.now 1)) }
     ensures error { IfErr result (λ _. IsSummable int_sums (FitsSigned w64) a.now.cells × (slice_index a.now.lengths 0 ≢ 0)) }
 {
     let table = a.view();

@@ -1,18 +1,18 @@
-use Rattle.ndarray.proofs.Common.{rules, ◌≡◌, ◌∙◌, refl, subst, int_sums, matrix_sum, matrix_of, product_of, AddsUp, inner-matrices, sum-matrix, made-as, product-same, same-self, same-then}
-use Rattle.ndarray_examples.specs.RangeTests.{whole_i64}
+use Rattle.ndarray.proofs.Common.{rules, ◌≡◌, false, true, refl, FitsSigned, w64}
+use Rattle.ndarray_examples.proofs.SumsOfMatrices.{copy-adds, sum-made, sum-multiplies}
 use Rattle.ndarray_examples.proofs.algebra.sum_of_products_by_one.Goals as goal
 
-pub returns : goal.returns
-returns g c =
-    let e = whole_i64 in
-    let a = c.args.a.now in
-    let b = c.args.b.now in
-    let k = c.args.c.now in
-    let s = c.in_ok-sum.sum in
-    let same : c.in_ok-copy.copy ≡ b = c.in_ok-copy.ensures.same (λ x y h. h) in
-    let lengths : b.lengths ≡ k.lengths = search rules in
-    let adds : AddsUp int_sums (λ x. x) b k s = subst (λ w. AddsUp int_sums (λ x. x) w k s) same (record { left = c.in_ok-copy.ensures.whole; right = c.raw_dim-3.ensures.whole; same = c.in_ok-copy.ensures.lengths ∙ lengths; sums = c.in_ok-sum.ensures.made }) in
-    let inner = inner-matrices a.lengths s.lengths c.raw_dim.ensures.axes c.in_ok-sum.ensures.axes (c.if-not-entries_fit.ensures.exact.0 refl).0.inner in
-    made-as e (product_of e (matrix_of e a) (matrix_of e s)) (matrix_sum int_sums (product_of e (matrix_of e a) (matrix_of e b)) (product_of e (matrix_of e a) (matrix_of e k)))
-    (same-then _ _ _ (product-same e (matrix_of e a) (matrix_of e s) (matrix_of e a) (matrix_sum int_sums (matrix_of e b) (matrix_of e k)) (same-self (matrix_of e a)) (sum-matrix e b k s adds) inner) (c.mat_distributes.ensures.of_sums (matrix_of e a) (matrix_of e b) (matrix_of e k)))
-    c.in_ok-product.product c.in_ok-product.ensures.made
+pub returns-then-not-entries_fit-clause-when : goal.returns-then-not-entries_fit-clause-when
+returns-then-not-entries_fit-clause-when g c =
+    let adds = copy-adds c.args.b.now c.args.c.now c.in_ok-copy.copy c.in_ok-sum.sum (c.in_ok-copy.ensures.same (λ x y h. h)) c.in_ok-copy.ensures.whole c.raw_dim-3.ensures.whole (search rules) c.in_ok-sum.ensures.made in
+    (λ off. absurd (search rules), λ given. absurd (let yes : false ≡ true = c.if-not-entries_fit.ensures.exact.1 ((sum-multiplies c.args.a.now c.args.b.now c.args.c.now c.in_ok-sum.sum c.raw_dim.ensures.axes c.raw_dim-2.ensures.axes adds (FitsSigned w64)).1 (given.2, given.3)) in cc))
+
+pub returns-clause-when : goal.returns-clause-when
+returns-clause-when g c =
+    let adds = copy-adds c.args.b.now c.args.c.now c.in_ok-copy.copy c.in_ok-sum.sum (c.in_ok-copy.ensures.same (λ x y h. h)) c.in_ok-copy.ensures.whole c.raw_dim-3.ensures.whole (search rules) c.in_ok-sum.ensures.made in
+    let fits = (sum-multiplies c.args.a.now c.args.b.now c.args.c.now c.in_ok-sum.sum c.raw_dim.ensures.axes c.raw_dim-2.ensures.axes adds (FitsSigned w64)).0 (c.if-not-entries_fit.ensures.exact.0 refl) in
+    (λ some. (adds.same, c.if-not-add_fits.ensures.exact.0 refl, fits.0, fits.1), λ given. refl)
+
+pub returns-clause-product : goal.returns-clause-product
+returns-clause-product g c =
+    sum-made c.args.a.now c.args.b.now c.args.c.now c.in_ok-sum.sum c.raw_dim.ensures.axes c.raw_dim-2.ensures.axes (copy-adds c.args.b.now c.args.c.now c.in_ok-copy.copy c.in_ok-sum.sum (c.in_ok-copy.ensures.same (λ x y h. h)) c.in_ok-copy.ensures.whole c.raw_dim-3.ensures.whole (search rules) c.in_ok-sum.ensures.made) c.mat_distributes.ensures.of_sums (c.if-not-entries_fit.ensures.exact.0 refl).0 c.in_ok-product.product c.in_ok-product.ensures.made

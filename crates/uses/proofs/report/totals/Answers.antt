@@ -1,17 +1,7 @@
-use Rattle.ndarray.proofs.Common.{rules, ◌≡◌, ◌∙◌, ap, arith, of_z, refl, remove, sym, to_z, FitsSigned, w64, to_z-of_z, array_by, int_sums, total, lanes-summable, two-lengths}
+use Rattle.ndarray.proofs.Common.{rules, ◌≡◌, ◌∙◌, ap, arith, of_z, refl, remove, sym, to_z, FitsSigned, w64, to_z-of_z, array_by, int_sums, total, two-lengths}
 use Rattle.uses.specs.Report.{column_total, row_total}
 use Rattle.uses.proofs.Reports.{is-axis, lane-sums}
 use Rattle.uses.proofs.report.totals.Goals as goal
-
-pub sum_axis-requires-clause-lanes : goal.sum_axis-requires-clause-lanes
-sum_axis-requires-clause-lanes g c =
-    let t = c.view-table in
-    lanes-summable t.result t.ensures.whole 1 (is-axis _ _ t.ensures.same t.ensures.axes 1 (omega arith)) int_sums (FitsSigned w64) (λ x. x) (c.if-not-sums_fit.ensures.selections.0 refl)
-
-pub sum_axis-requires-2-clause-lanes : goal.sum_axis-requires-2-clause-lanes
-sum_axis-requires-2-clause-lanes g c =
-    let t = c.view-table in
-    lanes-summable t.result t.ensures.whole 0 (is-axis _ _ t.ensures.same t.ensures.axes 0 (omega arith)) int_sums (FitsSigned w64) (λ x. x) (c.if-not-sums_fit.ensures.selections.0 refl)
 
 pub sum-all-requires : goal.sum-all-requires
 sum-all-requires g c =

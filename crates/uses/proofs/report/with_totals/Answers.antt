@@ -1,14 +1,9 @@
-use Rattle.ndarray.proofs.Common.{rules, ◌≡◌, ◌∙◌, ◌+◌, ◌<◌, ◌∷◌, [], Some, ap, arith, length, refl, pos, remove, subst, sym, Err, FitsSigned, slice_index, w64, IsTotalOf, shape_error, array_by, cell, int_sums, concatenate_error, value_or, lane, total, lanes_of-some, lane-maps, lanes-summable, first-and-rest, row-below}
+use Rattle.ndarray.proofs.Common.{rules, ◌≡◌, ◌∙◌, ◌+◌, ◌<◌, ◌∷◌, [], Some, ap, arith, length, refl, pos, remove, subst, sym, Err, FitsSigned, slice_index, w64, IsTotalOf, shape_error, array_by, cell, int_sums, concatenate_error, value_or, lane, total, lanes_of-some, lane-maps, first-and-rest, row-below}
 use Rattle.ndarray.specs.declared.stacking.error.StackError.TheVariants.{Shape}
 use Rattle.std.proofs.lemmas.Result.{err_from_is_err_and}
 use Rattle.uses.specs.Report.{total_below}
 use Rattle.uses.proofs.Reports.{is-axis}
 use Rattle.uses.proofs.report.with_totals.Goals as goal
-
-pub sum_axis-requires-clause-lanes : goal.sum_axis-requires-clause-lanes
-sum_axis-requires-clause-lanes g c =
-    let t = c.view-table in
-    lanes-summable t.result t.ensures.whole 0 (is-axis _ _ t.ensures.same t.ensures.axes 0 (omega arith)) int_sums (FitsSigned w64) (λ x. x) (c.if-not-sums_fit.ensures.selections.0 refl)
 
 pub returns-clause-totals : goal.returns-clause-totals
 returns-clause-totals g c =

@@ -1,0 +1,123 @@
+//! Functions of the rows, the columns and the ends of a table, and of cells in brackets.
+
+ghost use Rattle.std.specs.Prelude.{◌≡◌, ◌↔◌, ◌<◌, ◌-◌, ◌∷◌, [], Some, FitsSigned, IfSome, IsSome, IsTrue, MatchOption, length, slice_get, slice_index};
+ghost use Rattle.std.specs.Int.{w64};
+ghost use Rattle.ndarray.specs.Broadcast.{BroadcastTogether, BroadcastsTo, broadcast_lengths};
+ghost use Rattle.ndarray.specs.Grid.{cell};
+ghost use Rattle.ndarray.specs.Index.{InBox, size};
+ghost use Rattle.ndarray.specs.Integers.{int_sums};
+ghost use Rattle.ndarray.specs.Sums.{IsSummable, total};
+ghost use Rattle.ndarray.specs.Views.{axis_item};
+
+use ndarray::{ArrayBase, Data, DataMut, DimMax, FoldWhile, Ix2, Lengths, Zip};
+
+/// The sum of a row of a table, or `None` where there is no such row, or some of its numbers add up to no `i64`.
+pub fn sum_of_row<S: Data<Elem = i64>>(table: &ArrayBase<S, Ix2>, row: usize) -> Option<i64>
+    ensures when { IsSome result ↔ ((row < slice_index table.now.lengths 0) × IsSummable int_sums (FitsSigned w64) (axis_item table.now 0 row).cells) }
+    ensures sum { IfSome result (λ s. s ≡ total int_sums (axis_item table.now 0 row).cells) }
+{
+    if row >= table.nrows() {
+        return None;
+    }
+    table.row(row).checked_sum()
+}
+
+/// The sum of a column of a table, or `None` where there is no such column, or some of its numbers add up to no `i64`.
+pub fn sum_of_column<S: Data<Elem = i64>>(table: &ArrayBase<S, Ix2>, column: usize) -> Option<i64>
+    ensures when { IsSome result ↔ ((column < slice_index table.now.lengths 1) × IsSummable int_sums (FitsSigned w64) (axis_item table.now 1 column).cells) }
+    ensures sum { IfSome result (λ s. s ≡ total int_sums (axis_item table.now 1 column).cells) }
+{
+    if column >= table.ncols() {
+        return None;
+    }
+    table.column(column).checked_sum()
+}
+
+/// Clears a row of a table, if there is one of that index.
+pub fn clear_row<S: DataMut<Elem = i64>>(table: &mut ArrayBase<S, Ix2>, row: usize) {
+    if row < table.nrows() {
+        table.row_mut(row).fill(0);
+    }
+}
+
+/// Clears a column of a table, if there is one of that index.
+pub fn clear_column<S: DataMut<Elem = i64>>(table: &mut ArrayBase<S, Ix2>, column: usize) {
+    if column < table.ncols() {
+        table.column_mut(column).fill(0);
+    }
+}
+
+/// Whether a table has as many rows as columns.
+pub fn is_square<S: Data>(table: &ArrayBase<S, Ix2>) -> bool
+    ensures { IsTrue result ↔ (slice_index table.now.lengths 0 ≡ slice_index table.now.lengths 1) }
+{
+    let (rows, columns) = table.dim();
+    rows == columns
+}
+
+/// The first and the last cell, or `None` where there is none.
+pub fn ends<S: Data<Elem = u64>, D: Lengths>(array: &ArrayBase<S, D>) -> Option<(u64, u64)>
+    ensures first { IfSome result (λ e. slice_get array.now.cells 0 ≡ Some e.0) }
+    ensures last { IfSome result (λ e. slice_get array.now.cells (length array.now.cells - 1) ≡ Some e.1) }
+{
+    let first = array.first()?;
+    let last = array.last()?;
+    Some((*first, *last))
+}
+
+/// Whether each cell is at most its limit. The limits are broadcast, as one for each column; `None` where they do not broadcast.
+pub fn are_within<S: Data<Elem = u64>, T: Data<Elem = u64>, D: Lengths, E: Lengths>(
+    array: &ArrayBase<S, D>,
+    limits: &ArrayBase<T, E>,
+) -> Option<bool>
+    ensures { IsSome result ↔ BroadcastsTo limits.now.lengths array.now.lengths }
+{
+    let cells = Zip::from(array);
+    if !cells.broadcasts(&limits.view()) {
+        return None;
+    }
+    Some(cells.and_broadcast(limits).all(|x, limit| x <= limit))
+}
+
+/// How many cells the sum of two arrays has, or `None` where they do not broadcast together.
+pub fn size_of_sum<S: Data, T: Data, D: DimMax<E>, E: Lengths>(
+    left: &ArrayBase<S, D>,
+    right: &ArrayBase<T, E>,
+) -> Option<usize>
+    ensures { MatchOption result (BroadcastTogether left.now.lengths right.now.lengths → ⊥) (λ n. n ≡ size (broadcast_lengths left.now.lengths right.now.lengths)) }
+{
+    let dim = left.broadcast_dim(right)?;
+    Some(dim.size())
+}
+
+/// Whether a cell is zero, looked for up to the first one.
+pub fn has_zero<S: Data<Elem = u64>, D: Lengths>(array: &ArrayBase<S, D>) -> bool {
+    let found = Zip::from(array).fold_while((), |_none, x| {
+        if *x == 0 {
+            FoldWhile::Done(())
+        } else {
+            FoldWhile::Continue(())
+        }
+    });
+    found.is_done()
+}
+
+/// The cell of a table at a place. Requires that there is one.
+pub fn cell_at<S: Data<Elem = u64>>(table: &ArrayBase<S, Ix2>, row: usize, column: usize) -> u64
+    requires { InBox table.now.lengths (row ∷ column ∷ []) }
+    ensures { cell table.now (row ∷ column ∷ []) ≡ Some result }
+{
+    table[[row, column]]
+}
+
+/// Adds one to the cell of a table at a place, or to nothing where there is none or the sum is no `u64`.
+pub fn count_at<S: DataMut<Elem = u64>>(table: &mut ArrayBase<S, Ix2>, row: usize, column: usize)
+    ensures lengths { table.new.lengths ≡ table.old.lengths }
+{
+    let Some(old) = table.get((row, column)) else {
+        return;
+    };
+    if let Some(new) = old.checked_add(1) {
+        table[[row, column]] = new;
+    }
+}
