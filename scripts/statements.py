@@ -42,7 +42,7 @@ def header_at(source, at):
     margin = re.match(" *", lines[0])[0]
     for number, line in enumerate(lines):
         is_clause = re.match(r" *(?:requires|ensures|ghost)\b", line)
-        if line == margin + "{" or line.endswith(";") or (line.endswith(" {") and not is_clause):
+        if line in (margin + "{", margin + "{}") or line.endswith(";") or (line.endswith((" {", " {}")) and not is_clause):
             return "\n".join(lines[: number + 1])
     return lines[0]
 
