@@ -4,6 +4,7 @@ pub mod AxisSums
 pub mod Blocks
 pub mod Chains
 pub mod Differences
+pub mod DotChains
 pub mod Dots
 pub mod FoldOrders
 pub mod JoinedParts
@@ -17,6 +18,7 @@ pub mod Orders
 pub mod RangeTotals
 pub mod RangesOfParts
 pub mod RangesOfProducts
+pub mod RunningRanges
 pub mod RunningTotals
 pub mod SeveralKroneckers
 pub mod Stacks

@@ -41,6 +41,7 @@ pub mod Products
 pub mod ReversedProducts
 pub mod RowProducts
 pub mod RowScans
+pub mod RowsByLanes
 pub mod RunProducts
 pub mod RunningProducts
 pub mod SameArrays

@@ -1,4 +1,5 @@
 -- Arrays joined along an axis, and stacked.
+pub mod Appended
 pub mod Blocks
 pub mod Errors
 pub mod Joined

@@ -1,5 +1,5 @@
--- The product of arrays of any number of axes, where they are vectors and matrices.
-use Rattle.std.specs.Prelude.{◌≡◌, ◌⊎◌, ◌↔◌, ℕ, ◌-◌, ◌==◌, if◌then◌else◌, List, [], ◌∷◌, ◌++◌, length, slice_index}
+-- The product of arrays of any number of axes, where they are vectors and matrices, and of three of them.
+use Rattle.std.specs.Prelude.{◌≡◌, ◌⊎◌, ◌↔◌, ◌≤◌, ℕ, ◌-◌, ◌==◌, if◌then◌else◌, List, [], ◌∷◌, ◌++◌, length, slice_index}
 use Rattle.ndarray.specs.Grid.{Grid, IsGrid}
 use Rattle.ndarray.specs.Index.{InBox}
 use Rattle.ndarray.specs.Limits.{IsWithinLimit}
@@ -73,3 +73,24 @@ module _ {A : Type 0} (e : ValuedGhosts A) where
   -- it is so of any two that meet
   abbrev pub DefinitionsOfDotAgree : Type 0
   DefinitionsOfDotAgree = (a b : Grid A) → MeetAsMatrices a b → DotAgrees a b
+
+  -- The left meets the one in the middle, and this the right one. The right one has two axes, and the one in the middle two or more; or the right one has one, and the one in the middle two.
+  pub record MeetInTurn (a b c : Grid A) : Type 0 where
+    pub left_whole : IsGrid a
+    pub middle_whole : IsGrid b
+    pub right_whole : IsGrid c
+    pub some : 1 ≤ length a.lengths
+    pub axes : ((2 ≤ length b.lengths) × (length c.lengths ≡ 2)) ⊎ ((length b.lengths ≡ 2) × (length c.lengths ≡ 1))
+    pub left_inner : slice_index a.lengths (length a.lengths - 1) ≡ slice_index b.lengths (length b.lengths - 2)
+    pub right_inner : slice_index b.lengths (length b.lengths - 1) ≡ slice_index c.lengths 0
+
+  -- the products of p and c, and of a and q, have the same lengths, and at each index list the same entry
+  pub record DotAssociates (a c p q : Grid A) : Type 0 where
+    pub lengths : product_lengths p.lengths c.lengths ≡ product_lengths a.lengths q.lengths
+    pub entries : (is : List ℕ) → InBox (product_lengths p.lengths c.lengths) is → dot_entries e p c is ≡ dot_entries e a q is
+
+  -- it is so where p has the product of a and b, and q that of b and c
+  abbrev pub DotsAssociate : Type 0
+  DotsAssociate = (a b c p q : Grid A) → MeetInTurn a b c
+      → HasValues e (product_lengths a.lengths b.lengths) (dot_entries e a b) p → HasValues e (product_lengths b.lengths c.lengths) (dot_entries e b c) q
+      → DotAssociates a c p q

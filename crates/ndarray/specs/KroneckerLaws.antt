@@ -18,7 +18,7 @@ module _ {C : Type 0} (plus times : CommutativeMonoid C) where
   abbrev pub OneIsKroneckerNeutral : Type 0
   OneIsKroneckerNeutral = (a : Matrix C) → IsSameMatrix (kronecker_product times (identity_matrix plus times 1) a) a × IsSameMatrix (kronecker_product times a (identity_matrix plus times 1)) a
 
-  -- The product of the Kronecker products of any number of matrices is that of their products, where the inner lengths of each two are equal.
+  -- The product of the Kronecker products of any number of matrices is that of their products, where the inner lengths of each two behind the first are equal.
   abbrev pub KroneckersOfAllMultiply : Type 0
-  KroneckersOfAllMultiply = (a c : Matrix C) (ps : List (Matrix C × Matrix C)) → a.columns ≡ c.rows → All (λ p. p.0.columns ≡ p.1.rows) ps
+  KroneckersOfAllMultiply = (a c : Matrix C) (ps : List (Matrix C × Matrix C)) → All (λ p. p.0.columns ≡ p.1.rows) ps
       → IsSameMatrix (matrix_product plus times (kronecker_of_all times a (map (λ p. p.0) ps)) (kronecker_of_all times c (map (λ p. p.1) ps))) (kronecker_of_all times (matrix_product plus times a c) (map (λ p. matrix_product plus times p.0 p.1) ps))

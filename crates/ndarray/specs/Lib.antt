@@ -38,6 +38,7 @@ pub mod Matrices
 pub mod MatrixLaws
 pub mod MatrixPowers
 pub mod MatrixSums
+pub mod NamedSums
 pub mod OrderLaws
 pub mod Orders
 pub mod PartialFolds

@@ -2,6 +2,7 @@
 use Rattle.std.specs.Prelude.{◌≡◌, ◌⊎◌, ℕ, List, [], ◌∷◌, ◌++◌, Bool, Result, Ok, Err}
 use Rattle.std.specs.List.{FoldsTo}
 use Rattle.ndarray.specs.Grid.{Grid}
+use Rattle.ndarray.specs.Index.{InBox}
 use Rattle.ndarray.specs.Orders.{box_in, cells_in, HasInOrder}
 use Rattle.ndarray.specs.declared.base.shape.Order.{Order}
 use Rattle.ndarray.specs.declared.zip.fold_while.FoldWhile.{FoldWhile}
@@ -106,3 +107,12 @@ pub record Collects {F A R : Type 0} (yields_at : List ℕ → A → Type 0) (ca
   pub cells : HasInOrder order g answers
   pub list : cells_in order g ≡ answers
   pub gathered : Gathers yields_at call_gives (box_in order ns) f answers
+
+-- No call of f at an item of an index list in the box changes f, and each returns what h gives at the index list.
+abbrev pub Computes : {F A R : Type 0} → (List ℕ → A → Type 0) → (F → A → R → F → Type 0) → F → List ℕ → (List ℕ → R) → Type 0
+Computes {F} {A} {R} yields_at call_gives f ns h = (i : List ℕ) (x : A) (r : R) (k : F) → InBox ns i → yields_at i x → call_gives f x r k → (k ≡ f) × (r ≡ h i)
+
+-- The same of calls that take a total too: each returns what h gives at the total and the index list. Two of them may be exchanged.
+pub record ComputesTotals {F A B : Type 0} (yields_at : List ℕ → A → Type 0) (call_gives : F → B → A → B → F → Type 0) (f : F) (ns : List ℕ) (h : B → List ℕ → B) : Type 0 where
+  pub returns : (b : B) (i : List ℕ) (x : A) (r : B) (k : F) → InBox ns i → yields_at i x → call_gives f b x r k → (k ≡ f) × (r ≡ h b i)
+  pub commutes : (b : B) (i j : List ℕ) → h (h b i) j ≡ h (h b j) i

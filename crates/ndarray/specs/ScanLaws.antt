@@ -1,7 +1,7 @@
--- Laws of running totals: what they come to, sums of rectangles, what leaves them, and what gives the array back.
+-- Laws of running totals: what they come to, sums of rectangles, ranges, what leaves them, and what gives the array back.
 use Rattle.std.specs.Prelude.{◌≡◌, ℕ, ◌+◌, ◌-◌, ◌<◌, ◌≤◌, List, [], ◌∷◌, length, remove, slice_index, take, Some}
 use Rattle.ndarray.specs.Algebra.{CommutativeMonoid}
-use Rattle.ndarray.specs.AlongAxis.{Cumulates, IsDifference, IsTotalOf}
+use Rattle.ndarray.specs.AlongAxis.{Cumulates, IsDifference, IsSummableArray, IsTotalOf}
 use Rattle.ndarray.specs.Elementwise.{Maps}
 use Rattle.ndarray.specs.Grid.{Grid, IsGrid, cell}
 use Rattle.ndarray.specs.Subviews.{lane, lanes_of}
@@ -43,6 +43,11 @@ module _ {A C : Type 0} (plus : CommutativeMonoid C) (value : A → C) where
   RectanglesAdd = (g : Grid A) → IsGrid g → length g.lengths ≡ 2 → (a b c d : ℕ) → a ≤ b → b ≤ slice_index g.lengths 0 → c ≤ d → d ≤ slice_index g.lengths 1
       → plus.op (plus.op (total_by plus value (rectangle g a b c d).cells) (total_by plus value (rectangle g 0 a 0 d).cells)) (total_by plus value (rectangle g 0 b 0 c).cells)
       ≡ plus.op (total_by plus value (rectangle g 0 b 0 d).cells) (total_by plus value (rectangle g 0 a 0 c).cells)
+
+  -- Where every selection of the array's cells has its total in range, every selection of the cells of each item of the running totals has.
+  abbrev pub RunningTotalsStayInRange : (C → Type 0) → Type 0
+  RunningTotalsStayInRange in_range = (axis i : ℕ) (g r : Grid A) → IsGrid g → axis < length g.lengths → i < slice_index g.lengths axis → HasRunningTotals axis g r
+      → IsSummableArray plus in_range value g → IsSummableArray plus in_range value (axis_item r axis i)
 
   module _ (gives : A → A → A → Type 0) where
     -- `cumprod` leaves running totals, where multiplication of elements is the operation on their values

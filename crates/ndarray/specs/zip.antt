@@ -1,2 +1,3 @@
 -- What only `zip` speaks of.
 pub mod RowCells
+pub mod RowItems

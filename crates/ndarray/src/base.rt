@@ -18,6 +18,7 @@ pub mod into_dimension;
 pub(crate) mod layout;
 pub mod permuted_axes;
 pub(crate) mod place_map;
+pub(crate) mod put_axis;
 pub(crate) mod reborrow;
 pub mod region;
 pub mod shape;

@@ -10,6 +10,7 @@ pub mod comparing;
 pub mod display;
 pub mod extremes;
 pub mod folding;
+pub mod growing;
 pub mod indexing;
 pub mod mapping;
 pub mod pairs;

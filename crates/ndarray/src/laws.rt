@@ -14,7 +14,7 @@
 ghost use Rattle.std.specs.Prelude.{◌≡◌};
 ghost use Rattle.ndarray.specs.BlockLaws.{BlocksMultiply, ColumnsMultiply, RowsMultiply, RowsOfProducts};
 ghost use Rattle.ndarray.specs.ConvolutionLaws.{ArrayFiltersCompose, ConvolutionsAssociate, ConvolutionsCommute, FiltersCompose, HaveFullLength, ValidIsPartOfFull};
-ghost use Rattle.ndarray.specs.DotLaws.{DefinitionsOfDotAgree, DotIsMatrixProduct, LaneSumsAreMatrixSums, ShapesMultiplyAsMatrices};
+ghost use Rattle.ndarray.specs.DotLaws.{DefinitionsOfDotAgree, DotIsMatrixProduct, DotsAssociate, LaneSumsAreMatrixSums, ShapesMultiplyAsMatrices};
 ghost use Rattle.ndarray.specs.FilterLaws.{FiltersByMultiples, FiltersByOneCell, FiltersBySums, FiltersOfMultiples, FiltersOfSums, FiltersOnAxesCompose, FiltersSeparate};
 ghost use Rattle.ndarray.specs.JoiningLaws.{ItemsOfStackAreParts, PartsCanBeJoined, PartsJoin, TotalsJoin};
 ghost use Rattle.ndarray.specs.KroneckerLaws.{KroneckerOfIdentities, KroneckersOfAllMultiply, OneIsKroneckerNeutral};
@@ -22,9 +22,9 @@ ghost use Rattle.ndarray.specs.Laws.{AxisSumArraysAddUp, AxisSumsAddUp, AxisSums
 ghost use Rattle.ndarray.specs.MatrixLaws.{KroneckersAssociate, KroneckersMultiply, KroneckersTranspose, ProductsAssociate, ProductsTranspose};
 ghost use Rattle.ndarray.specs.MatrixPowers.{IdentityIsNeutral, PowersAdd};
 ghost use Rattle.ndarray.specs.MatrixSums.{MultiplesTimesMatrix, ProductsOfMultiples, ProductsOfSums, SumsTimesMatrix};
-ghost use Rattle.ndarray.specs.OrderLaws.{FoldsOverBoxesAgree, FoldsOverCellsAgree};
+ghost use Rattle.ndarray.specs.OrderLaws.{BestsAlongAgree, FoldsAlongAgree, FoldsOverBoxesAgree, FoldsOverCellsAgree};
 ghost use Rattle.ndarray.specs.RangeLaws.{ChunksStayInRange, ItemsStayInRange, LanesStayInRange, MagnitudesBySidesStayInRange, MagnitudesOfBlocksStayInRange, MagnitudesOfRowsStayInRange, PartsStayInRange, SlicesStayInRange, SumsBySidesStayInRange, SumsOfBlocksStayInRange, SumsOfRowsStayInRange, WindowsStayInRange};
-ghost use Rattle.ndarray.specs.ScanLaws.{AreasAreTotals, CumulatesLeaveRunningTotals, DifferencesGiveBack, LastItemHasTotals, RectanglesAdd};
+ghost use Rattle.ndarray.specs.ScanLaws.{AreasAreTotals, CumulatesLeaveRunningTotals, DifferencesGiveBack, LastItemHasTotals, RectanglesAdd, RunningTotalsStayInRange};
 ghost use Rattle.ndarray.specs.SumLaws.{LaneTotalsAdd, LaneTotalsMultiply, TotalsAdd, TotalsMultiply};
 ghost use Rattle.ndarray.specs.TriangleLaws.{LowerMatricesMultiply, LowerTrianglesMeet, LowerTrianglesTranspose, TrianglesCommute, UpperTrianglesMeet, UpperTrianglesTranspose};
 ghost use Rattle.ndarray.specs.VectorLaws.{InnerProductsCommute, MatricesChangeSides};
@@ -45,7 +45,8 @@ pub fn column_order<A: Valued>()
 {}
 
 /// A fold whose steps commute has the same value in row order and in column order, over the index lists of a box and over the cells of an
-/// array.
+/// array, and over the cells along any two lists of the same index lists. Along these the least cells are the same too, and the greatest:
+/// those that no other one beats.
 ///
 /// ```
 /// fold_orders::<i64, i64>(); // from here on the proof of the caller has the law for totals and cells that are `i64`
@@ -53,6 +54,8 @@ pub fn column_order<A: Valued>()
 pub fn fold_orders<A, B>()
     ensures boxes { FoldsOverBoxesAgree B }
     ensures cells { FoldsOverCellsAgree A B }
+    ensures along { FoldsAlongAgree A B }
+    ensures bests { BestsAlongAgree A }
 {}
 
 /// (AB)C is A(BC), if the inner lengths are equal.
@@ -123,7 +126,7 @@ pub fn kron_mixed<A: LinalgScalar>()
 {}
 
 /// The product of two Kronecker products, of equally many matrices, is the Kronecker product of the products of the first matrices, of the
-/// second ones, and so on, if the inner lengths of each two are equal.
+/// second ones, and so on, if the inner lengths of each two behind the first are equal.
 ///
 /// ```
 /// kron_mixed_all::<i64>(); // from here on the proof of the caller has the law for `i64`
@@ -168,6 +171,16 @@ pub fn dot_agrees<A: LinalgScalar>()
     ensures ranges { LaneSumsAreMatrixSums A.Valued }
     ensures products { DotIsMatrixProduct A.Valued }
     ensures definitions { DefinitionsOfDotAgree A.Valued }
+{}
+
+/// For arrays a, b and c of any number of axes, (a · b) · c is a · (b · c), where `·` is `dot` of `IxDyn`, c has two axes and b two or more;
+/// or c has one axis and b two. The inner lengths have to be equal.
+///
+/// ```
+/// dot_assoc::<i64>(); // from here on the proof of the caller has the law for `i64`
+/// ```
+pub fn dot_assoc<A: LinalgScalar>()
+    ensures { DotsAssociate A.Valued }
 {}
 
 /// The sum of all cells is the sum of the sums of the lanes along an axis, for each axis of the array. If every selection of the cells has
@@ -244,7 +257,9 @@ pub fn product_ranges_pass<A: IntegerScalar>()
 /// The last item of running totals along an axis that is not empty has the totals of the lanes, as `sum_axis` computes them, or
 /// `product_axis` for running products. On two axes, running totals along one axis of running totals along the other have at each index
 /// list the total of the rectangle up to there, and the total of any rectangle is given by those of four rectangles that begin at the first
-/// row and column: a summed-area table.
+/// row and column: a summed-area table. If every selection of the array's cells has its sum in range, as `sums_fit` tests, so has every
+/// selection of the cells of each item of the running totals along the axis; the same holds for products. So one test of a table is enough
+/// for both scans.
 ///
 /// `proofs/callers/RunningTotals.antt` has the lemma that `scan_lanes` leaves running totals.
 ///
@@ -256,6 +271,8 @@ pub fn running_totals<A: Valued>()
     ensures last_products { LastItemHasTotals A.multiplication A.meaning }
     ensures areas { AreasAreTotals A.addition A.meaning }
     ensures rectangles { RectanglesAdd A.addition A.meaning }
+    ensures ranges { RunningTotalsStayInRange A.addition A.meaning A.InRange }
+    ensures product_ranges { RunningTotalsStayInRange A.multiplication A.meaning A.InRange }
 {}
 
 /// `cumprod` computes running products, if `*` on elements does what the multiplication of their values does.

@@ -12,7 +12,7 @@ ghost use Rattle.ndarray.specs.declared.stacking.error.StackError.TheVariants.{S
 pub(crate) mod blocks;
 mod error;
 mod macros;
-mod shapes;
+pub(crate) mod shapes;
 
 use crate::base::array::{Array, ArrayView};
 use crate::base::axis::Axis;

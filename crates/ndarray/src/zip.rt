@@ -17,6 +17,7 @@ mod layout_places;
 pub mod pair;
 mod part_counts;
 pub mod producer;
+pub mod row_items;
 mod subviews;
 mod turns;
 pub(crate) mod units;
@@ -32,6 +33,7 @@ pub use crate::zip::fold_while::FoldWhile;
 use crate::zip::pair::Pair;
 pub use crate::zip::part_counts::{Five, Four, JoinOne, One, Six, Three, Two};
 pub use crate::zip::producer::{IntoBroadcast, IntoNdProducer, KeepsLengths, NdProducer, Shaped};
+pub use crate::zip::row_items::{RowItems, Run};
 use std::alloc::AllocError;
 use std::marker::{Model, PhantomData};
 
@@ -134,6 +136,8 @@ impl Zip<(), ()> {
         I::Dim: Dimension,
         ensures part { I.converts_to part result.nested.second }
         ensures lists { result.nested.first ≡ array_by (I.Output.lengths result.nested.second) (λ is. is) }
+        ensures lengths { result.nested.first.lengths ≡ I.Output.lengths result.nested.second }
+        ensures patterns { (is : List ℕ) (x : I.Dim.Pattern) → cell result.nested.first is ≡ Some (I.Dim.pattern_numbers x) → I.Dim.pattern_numbers x ≡ is }
         ensures items { (is : List ℕ) → InBox (I.Output.lengths result.nested.second) is → (x : I.Dim.Pattern) → (cell result.nested.first is ≡ Some (I.Dim.pattern_numbers x)) ↔ (I.Dim.pattern_numbers x ≡ is) }
     {
         let second = part.into_producer();

@@ -16,7 +16,7 @@ use Rattle.ndarray.proofs.boxes.ProductShapes.{lengths-one_one, lengths-one_two,
 use Rattle.ndarray.proofs.callers.SameMatrices.{two-indices}
 use Rattle.ndarray.proofs.cells.Cells.{cell-inside, tabulate-cell}
 use Rattle.ndarray.proofs.boxes.JoinedBoxes.{InBox-cut}
-use Rattle.ndarray.proofs.cells.LaneSums.{length-of_lane}
+use Rattle.ndarray.proofs.cells.LaneSums.{lane-values}
 use Rattle.ndarray.proofs.cells.Matrices.{below-same, one-length, two-lengths, vector-values}
 use Rattle.ndarray.proofs.sums.InnerSums.{lists-meet}
 
@@ -38,15 +38,6 @@ shapes-as_matrices ns ms left right = (
   λ s. matrix-shapes ns ms (some-axes ns left) (few-axes ns left) (some-axes ms right) (few-axes ms right) s.inner s.limit,
 )
 
--- the values of a lane
-lane-values : {A C : Type 0} (v : A → C) (d : C) (g : Grid A) → IsGrid g → (k : ℕ) → k < length g.lengths → (js : List ℕ) → InBox (remove g.lengths k) js
-    → map v (lane g k js).cells ≡ values_below (get_or g.lengths k 0) (λ q. value_or v d (cell g (insert js k q)))
-lane-values v d g whole k lt js b =
-    let long = length-of_lane g whole k lt js b in
-    let own : IsGrid (lane g k js) = omega (arith, long) in
-    vector-values v d (lane g k js) own refl
-    ∙ below-same (get_or g.lengths k 0) _ _ (λ q below. ap (value_or v d) (tabulate-cell (get_or g.lengths k 0 ∷ []) (λ is. cell g (insert js k (get_or is 0 0))) (q ∷ []) own (below, tt)))
-
 single : (n : ℕ) (js : List ℕ) → InBox (n ∷ []) js → (js ≡ get_or js 0 0 ∷ []) × (get_or js 0 0 < n)
 single n [] b = absurd b
 single n (j ∷ []) b = (refl, b.0)
@@ -65,16 +56,16 @@ take-one (i ∷ is) n b = refl
 
 module _ {A : Type 0} (e : ValuedGhosts A) (a b : Grid A) where
   -- by the numbers of axes
-  abbrev left-by : ℕ → Matrix e.Carrier
+  abbrev pub left-by : ℕ → Matrix e.Carrier
   left-by n = if n == 1 then row_of e a else matrix_of e a
 
-  abbrev right-by : ℕ → Matrix e.Carrier
+  abbrev pub right-by : ℕ → Matrix e.Carrier
   right-by m = if m == 1 then column_of e b else matrix_of e b
 
-  abbrev row-by : ℕ → List ℕ → ℕ
+  abbrev pub row-by : ℕ → List ℕ → ℕ
   row-by n is = if n == 1 then 0 else get_or is 0 0
 
-  abbrev column-by : ℕ → ℕ → List ℕ → ℕ
+  abbrev pub column-by : ℕ → ℕ → List ℕ → ℕ
   column-by n m is = if m == 1 then 0 else get_or is (n - 1) 0
 
   -- a row of the left, and its cells
@@ -180,7 +171,7 @@ module _ {A : Type 0} (e : ValuedGhosts A) (a b : Grid A) where
   }
 
   -- the lengths, by the numbers of axes
-  abbrev lengths-by : ℕ → ℕ → List ℕ
+  abbrev pub lengths-by : ℕ → ℕ → List ℕ
   lengths-by n m = (if n == 1 then [] else get_or a.lengths 0 0 ∷ []) ++ (if m == 1 then [] else get_or b.lengths 1 0 ∷ [])
 
   lengths-as : (n m : ℕ) → (n ≡ 1) ⊎ (n ≡ 2) → (m ≡ 1) ⊎ (m ≡ 2) → length a.lengths ≡ n → length b.lengths ≡ m → product_lengths a.lengths b.lengths ≡ lengths-by n m
@@ -247,27 +238,35 @@ dot-is e a b r both has =
     let agrees = dot-agrees e a b (meets e a b both) in
     subst (λ ns. HasValues e ns (product_entries e a b) r) (sym agrees.lengths) ((agrees.arrays r).0 has)
 
--- of two matrices
-module _ {A : Type 0} (e : ValuedGhosts A) (a b : Grid A) (two_a : length a.lengths ≡ 2) (two_b : length b.lengths ≡ 2) (whole_a : IsGrid a) (whole_b : IsGrid b) (shapes : ShapesMultiply a.lengths b.lengths) where
-  matrices : MeetAsMatrices e a b
-  matrices = meets e a b record { left = inr two_a; right = inr two_b; left_whole = whole_a; right_whole = whole_b; shapes = shapes }
+-- of arrays of n and m axes
+module _ {A : Type 0} (e : ValuedGhosts A) (a b : Grid A) (n m : ℕ) (left_axes : length a.lengths ≡ n) (right_axes : length b.lengths ≡ m) (few_left : (n ≡ 1) ⊎ (n ≡ 2)) (few_right : (m ≡ 1) ⊎ (m ≡ 2))
+    (whole_a : IsGrid a) (whole_b : IsGrid b) (shapes : ShapesMultiply a.lengths b.lengths) where
+  both : MeetAsMatrices e a b
+  both = meets e a b record {
+    left = subst (λ k. (k ≡ 1) ⊎ (k ≡ 2)) (sym left_axes) few_left;
+    right = subst (λ k. (k ≡ 1) ⊎ (k ≡ 2)) (sym right_axes) few_right;
+    left_whole = whole_a;
+    right_whole = whole_b;
+    shapes = shapes;
+  }
 
-  pub matrix-sums : HasLaneSumsInRange e a b → HasSumsInRange e (matrix_of e a) (matrix_of e b)
-  matrix-sums sums =
-      subst (λ n. HasSumsInRange e (left-by e a b n) (matrix_of e b)) two_a
-      (subst (λ m. HasSumsInRange e (left_matrix e a) (right-by e a b m)) two_b ((lane_sums-agree e a b matrices).0 sums))
+  pub lane_sums-by : HasLaneSumsInRange e a b → HasSumsInRange e (left-by e a b n) (right-by e a b m)
+  lane_sums-by sums =
+      subst (λ k. HasSumsInRange e (left-by e a b k) (right-by e a b m)) left_axes
+      (subst (λ k. HasSumsInRange e (left_matrix e a) (right-by e a b k)) right_axes ((lane_sums-agree e a b both).0 sums))
 
   -- what has the values of the product of the matrices has the sums of their lanes
-  pub matrix-dot : (r : Grid A) → HasMatrix e (product_of e (matrix_of e a) (matrix_of e b)) r → HasValues e (product_lengths a.lengths b.lengths) (dot_entries e a b) r
-  matrix-dot r made =
-      let lengths : r.lengths ≡ product_lengths a.lengths b.lengths = made.lengths ∙ sym (lengths-two_two a.lengths b.lengths two_a two_b) in
+  pub dot-by : (r : Grid A) → HasValues e (lengths-by e a b n m) (λ is. (product_of e (left-by e a b n) (right-by e a b m)).cell (row-by e a b n is) (column-by e a b n m is)) r
+      → HasValues e (product_lengths a.lengths b.lengths) (dot_entries e a b) r
+  dot-by r made =
+      let lengths : r.lengths ≡ product_lengths a.lengths b.lengths = made.lengths ∙ sym (lengths-as e a b n m few_left few_right left_axes right_axes) in
       record {
         lengths = lengths;
         whole = made.whole;
         cells = λ is z at.
             let inside : InBox (product_lengths a.lengths b.lengths) is = subst (λ ns. InBox ns is) lengths (cell-inside r is z at) in
-            let entry : product_entries e a b is ≡ matrix_entries (product_of e (matrix_of e a) (matrix_of e b)) is =
-            ap (λ n. (product_of e (left-by e a b n) (right_matrix e b)).cell (row-by e a b n is) (column-by e a b n (length b.lengths) is)) two_a
-            ∙ ap (λ m. (product_of e (matrix_of e a) (right-by e a b m)).cell (get_or is 0 0) (column-by e a b 2 m is)) two_b in
-            made.cells is z at ∙ sym (entries-agree e a b matrices is inside ∙ entry);
+            made.cells is z at
+            ∙ sym (entries-agree e a b both is inside
+            ∙ (ap (λ k. (product_of e (left-by e a b k) (right_matrix e b)).cell (row-by e a b k is) (column-by e a b k (length b.lengths) is)) left_axes
+            ∙ ap (λ k. (product_of e (left-by e a b n) (right-by e a b k)).cell (row-by e a b n is) (column-by e a b n k is)) right_axes));
       }

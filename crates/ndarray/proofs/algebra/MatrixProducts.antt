@@ -3,7 +3,7 @@ use Rattle.std.proofs.Common.{◌≡◌, ℕ, zero, suc, ◌+◌, ◌*◌, ◌/�
 use Rattle.std.proofs.Math.Nat.{zero-mul}
 use Rattle.std.proofs.lemmas.Nat.{div-mul-add, mod-mul-add}
 use Rattle.ndarray.specs.Algebra.{CommutativeMonoid}
-use Rattle.ndarray.specs.Matrices.{Matrix, kronecker_product, values_below}
+use Rattle.ndarray.specs.Matrices.{IsSameMatrix, Matrix, kronecker_product, matrix_product, values_below}
 use Rattle.ndarray.specs.Sums.{total}
 use Rattle.ndarray.proofs.algebra.Totals.{exchange}
 use Rattle.ndarray.specs.MatrixLaws.{KroneckersMultiply, ProductsAssociate, ProductsTranspose}
@@ -93,8 +93,10 @@ module _ {C : Type 0} (plus : CommutativeMonoid C) where
     pub sums_multiply : (n m : ℕ) (f h : ℕ → C) → times.op (sum_below n f) (sum_below m h) ≡ sum_below n (λ i. sum_below m (λ k. times.op (f i) (h k)))
     sums_multiply n m f h = times_sum n (sum_below m h) f ∙ sum_same n _ _ (λ i l. sum_times m (f i) h)
 
-    pub mixed_products : KroneckersMultiply plus times
-    mixed_products a b c d p q = record {
+    -- the second inner lengths alone have to be equal
+    pub mixed-second : (a b c d : Matrix C) → b.columns ≡ d.rows
+        → IsSameMatrix (matrix_product plus times (kronecker_product times a b) (kronecker_product times c d)) (kronecker_product times (matrix_product plus times a c) (matrix_product plus times b d))
+    mixed-second a b c d q = record {
       rows = refl;
       columns = refl;
       cell = λ i j l m.
@@ -107,3 +109,6 @@ module _ {C : Type 0} (plus : CommutativeMonoid C) where
             ≡ times.op (times.op (a.cell (i / b.rows) x) (c.cell x (j / d.columns))) (times.op (b.cell (i % b.rows) y) (d.cell y (j % d.columns)))
         at_place a b c d i j x y q k =
             rw (← q, div-mul-add x b.columns y k, mod-mul-add x b.columns y k) (exchange times (a.cell (i / b.rows) x) (b.cell (i % b.rows) y) (c.cell x (j / d.columns)) (d.cell y (j % d.columns)))
+
+    pub mixed_products : KroneckersMultiply plus times
+    mixed_products a b c d p q = mixed-second a b c d q

@@ -1,11 +1,12 @@
 -- Totals of rectangles of an array of two axes, and its running totals along both.
-use Rattle.std.proofs.Common.{◌≡◌, ◌∙◌, ℕ, ◌+◌, ◌-◌, ◌<◌, ◌≤◌, List, [], ◌∷◌, length, map, set, get_or, Some, ap, sym, refl, arith, subst}
+use Rattle.std.proofs.Common.{◌≡◌, ◌∙◌, ℕ, ◌+◌, ◌-◌, ◌*◌, ◌<◌, ◌≤◌, List, [], ◌∷◌, length, map, set, get_or, Some, ap, sym, refl, arith, subst}
 use Rattle.std.specs.List.{range_with_len}
 use Rattle.std.proofs.lemmas.Simd.{map-map}
 use Rattle.ndarray.specs.Algebra.{CommutativeMonoid}
 use Rattle.ndarray.specs.Grid.{Grid, IsGrid, cell, cells_by}
 use Rattle.ndarray.specs.Index.{InBox, row_order}
 use Rattle.ndarray.specs.ScanLaws.{AreasAreTotals, HasRunningTotals, RectanglesAdd, rectangle}
+use Rattle.ndarray.specs.Subviews.{window, window_index}
 use Rattle.ndarray.specs.Sums.{total, total_by}
 use Rattle.ndarray.specs.Views.{axis_part}
 use Rattle.ndarray.proofs.algebra.AxisSums.{box-cons}
@@ -14,26 +15,53 @@ use Rattle.ndarray.proofs.algebra.RunningTotals.{at, running-at}
 use Rattle.ndarray.proofs.algebra.Stacks.{tabulate-whole}
 use Rattle.ndarray.proofs.algebra.Totals.{total-plus, total-same, total-swap, total_by-filter_map, value_of}
 use Rattle.ndarray.proofs.boxes.Orders.{row_order-one}
-use Rattle.ndarray.proofs.cells.Cells.{cell-Some, cell-inside, tabulate-cell}
+use Rattle.ndarray.proofs.cells.Cells.{cell-Some, cell-inside, tabulate-cell, tabulate-same}
+
+module _ {A : Type 0} (g : Grid A) (whole : IsGrid g) (rows columns : ℕ) (lengths : g.lengths ≡ rows ∷ columns ∷ []) where
+  rows-cell : (a b i j : ℕ) → b ≤ rows → i < b - a → j < columns → cell (axis_part g 0 a b) (i ∷ j ∷ []) ≡ cell g ((a + i) ∷ j ∷ [])
+  rows-cell a b i j most below within =
+      let seen : set g.lengths 0 (b - a) ≡ (b - a) ∷ columns ∷ [] = ap (λ ns. set ns 0 (b - a)) lengths in
+      tabulate-cell (set g.lengths 0 (b - a)) (λ is. cell g (set is 0 (a + get_or is 0 0))) (i ∷ j ∷ [])
+      (tabulate-whole (set g.lengths 0 (b - a)) (λ is. cell g (set is 0 (a + get_or is 0 0))) (λ is inside. there is (subst (λ ns. InBox ns is) seen inside)))
+      (subst (λ ns. InBox ns (i ∷ j ∷ [])) (sym seen) (below, (within, tt)))
+    where
+      there : (is : List ℕ) → InBox ((b - a) ∷ columns ∷ []) is → (x : A) × (cell g (set is 0 (a + get_or is 0 0)) ≡ Some x)
+      there [] inside = absurd inside
+      there (k ∷ []) inside = absurd inside.1
+      there (k ∷ l ∷ []) inside = let lt = inside.0 in cell-Some g whole ((a + k) ∷ l ∷ []) (subst (λ ns. InBox ns ((a + k) ∷ l ∷ [])) (sym lengths) (omega (arith, lt, most), (inside.1.0, tt)))
+      there (k ∷ l ∷ q ∷ is) inside = absurd inside.1.1
+
+  -- a window of k rows and l columns is a rectangle
+  window-is : (i j k l : ℕ) → i + k ≤ rows → j + l ≤ columns → window g (k ∷ l ∷ []) (1 ∷ 1 ∷ []) (i ∷ j ∷ []) ≡ rectangle g i (i + k) j (j + l)
+  window-is i j k l most wide =
+      tabulate-same (k ∷ l ∷ []) (set (set g.lengths 0 (i + k - i)) 1 (j + l - j)) (λ js. cell g (window_index (1 ∷ 1 ∷ []) (i ∷ j ∷ []) js)) (λ js. cell part (set js 1 (j + get_or js 1 0))) same each
+    where
+      part : Grid A
+      part = axis_part g 0 i (i + k)
+
+      same : k ∷ l ∷ [] ≡ set (set g.lengths 0 (i + k - i)) 1 (j + l - j)
+      same =
+          let high : i + k - i ≡ k = omega arith in
+          let long : j + l - j ≡ l = omega arith in
+          sym (ap (λ ns. set (set ns 0 (i + k - i)) 1 (j + l - j)) lengths ∙ (ap (λ n. n ∷ (j + l - j) ∷ []) high ∙ ap (λ n. k ∷ n ∷ []) long))
+
+      each : (js : List ℕ) → InBox (k ∷ l ∷ []) js → cell g (window_index (1 ∷ 1 ∷ []) (i ∷ j ∷ []) js) ≡ cell part (set js 1 (j + get_or js 1 0))
+      each [] inside = absurd inside
+      each (r ∷ []) inside = absurd inside.1
+      each (r ∷ c ∷ []) inside =
+          let low = inside.0 in
+          let near = inside.1.0 in
+          let row : i * 1 + r ≡ i + r = omega arith in
+          let column : j * 1 + c ≡ j + c = omega arith in
+          ap (λ n. cell g (n ∷ (j * 1 + c) ∷ [])) row
+          ∙ (ap (λ n. cell g ((i + r) ∷ n ∷ [])) column ∙ sym (rows-cell i (i + k) r (j + c) most (omega (arith, low)) (omega (arith, near, wide))))
+      each (r ∷ c ∷ q ∷ js) inside = absurd inside.1.1
 
 module _ {A C : Type 0} (plus : CommutativeMonoid C) (value : A → C) where
   module _ (g : Grid A) (whole : IsGrid g) (rows columns : ℕ) (lengths : g.lengths ≡ rows ∷ columns ∷ []) where
     -- n rows from one on, and of these m columns from one on
     abbrev area : ℕ → ℕ → ℕ → ℕ → C
     area a n c m = over plus (λ i. over plus (λ j. at plus value g (i ∷ j ∷ [])) c m) a n
-
-    rows-cell : (a b i j : ℕ) → b ≤ rows → i < b - a → j < columns → cell (axis_part g 0 a b) (i ∷ j ∷ []) ≡ cell g ((a + i) ∷ j ∷ [])
-    rows-cell a b i j most below within =
-        let seen : set g.lengths 0 (b - a) ≡ (b - a) ∷ columns ∷ [] = ap (λ ns. set ns 0 (b - a)) lengths in
-        tabulate-cell (set g.lengths 0 (b - a)) (λ is. cell g (set is 0 (a + get_or is 0 0))) (i ∷ j ∷ [])
-        (tabulate-whole (set g.lengths 0 (b - a)) (λ is. cell g (set is 0 (a + get_or is 0 0))) (λ is inside. there is (subst (λ ns. InBox ns is) seen inside)))
-        (subst (λ ns. InBox ns (i ∷ j ∷ [])) (sym seen) (below, (within, tt)))
-      where
-        there : (is : List ℕ) → InBox ((b - a) ∷ columns ∷ []) is → (x : A) × (cell g (set is 0 (a + get_or is 0 0)) ≡ Some x)
-        there [] inside = absurd inside
-        there (k ∷ []) inside = absurd inside.1
-        there (k ∷ l ∷ []) inside = let lt = inside.0 in cell-Some g whole ((a + k) ∷ l ∷ []) (subst (λ ns. InBox ns ((a + k) ∷ l ∷ [])) (sym lengths) (omega (arith, lt, most), (inside.1.0, tt)))
-        there (k ∷ l ∷ q ∷ is) inside = absurd inside.1.1
 
     pub rectangle-total : (a b c d : ℕ) → b ≤ rows → d ≤ columns → c ≤ d → total_by plus value (rectangle g a b c d).cells ≡ area a (b - a) c (d - c)
     unfolding cells_by
@@ -44,7 +72,7 @@ module _ {A C : Type 0} (plus : CommutativeMonoid C) (value : A → C) where
         ∙ (total-same plus (λ i. total plus (map (λ is. seen (i ∷ is)) (row_order ((d - c) ∷ [])))) (λ i. over plus (λ j. seen (i ∷ j ∷ [])) 0 (d - c)) (range_with_len 0 (b - a))
         (λ i. ap (λ l. total plus (map (λ is. seen (i ∷ is)) l)) (row_order-one (d - c)) ∙ ap (total plus) (map-map (λ is. seen (i ∷ is)) (λ j. j ∷ []) (range_with_len 0 (d - c))))
         ∙ (over-same plus (λ i. over plus (λ j. seen (i ∷ j ∷ [])) 0 (d - c)) (λ i. over plus (λ j. at plus value g ((a + i) ∷ j ∷ [])) c (d - c)) (b - a)
-        (λ i below. over-same plus (λ j. seen (i ∷ j ∷ [])) (λ j. at plus value g ((a + i) ∷ (c + j) ∷ [])) (d - c) (λ j within. ap (value_of plus value) (rows-cell a b i (c + j) most below (omega (arith, within, wide, up))))
+        (λ i below. over-same plus (λ j. seen (i ∷ j ∷ [])) (λ j. at plus value g ((a + i) ∷ (c + j) ∷ [])) (d - c) (λ j within. ap (value_of plus value) (rows-cell g whole rows columns lengths a b i (c + j) most below (omega (arith, within, wide, up))))
         ∙ sym (over-later plus (λ j. at plus value g ((a + i) ∷ j ∷ [])) c (d - c)))
         ∙ sym (over-later plus (λ i. over plus (λ j. at plus value g (i ∷ j ∷ [])) c (d - c)) a (b - a))))))
       where
@@ -166,6 +194,10 @@ rows-and_columns [] two = absurd (omega (arith, two))
 rows-and_columns (n ∷ []) two = absurd (omega (arith, two))
 rows-and_columns (n ∷ m ∷ []) two = refl
 rows-and_columns (n ∷ m ∷ k ∷ ns) two = absurd (omega (arith, two))
+
+pub window-rectangle : {A : Type 0} (g : Grid A) → IsGrid g → length g.lengths ≡ 2 → (i j k l : ℕ) → i + k ≤ get_or g.lengths 0 0 → j + l ≤ get_or g.lengths 1 0
+    → window g (k ∷ l ∷ []) (1 ∷ 1 ∷ []) (i ∷ j ∷ []) ≡ rectangle g i (i + k) j (j + l)
+window-rectangle g whole two i j k l most wide = window-is g whole (get_or g.lengths 0 0) (get_or g.lengths 1 0) (rows-and_columns g.lengths two) i j k l most wide
 
 pub areas-are_totals : {A C : Type 0} (plus : CommutativeMonoid C) (value : A → C) → AreasAreTotals plus value
 areas-are_totals plus value g h r whole two down across i j z here =

@@ -18,6 +18,8 @@ pub use Rattle.ndarray.proofs.cells.Matrices.{below-same, one-length, two-length
 -- What `dot` requires of the shapes of vectors and matrices; where one side is a vector, no limit.
 pub use Rattle.ndarray.proofs.boxes.ProductShapes.{matrix-shapes, vector-shapes}
 pub use Rattle.ndarray.proofs.algebra.Chains.{matrix-by_vector}
+-- The last length of a product, where the right side has two axes or more.
+pub use Rattle.ndarray.proofs.algebra.DotChains.{product-last}
 
 -- A matrix and a vector, whose inner lengths are equal.
 module _ {A : Type 0} (e : ValuedGhosts A) (g h : Grid A) (two : length g.lengths ≡ 2) (one : length h.lengths ≡ 1) (whole : IsGrid h) (inner : get_or g.lengths 1 0 ≡ get_or h.lengths 0 0) where

@@ -5,7 +5,7 @@ use Rattle.std.specs.List.{AllZip}
 use Rattle.std.proofs.lemmas.List.Elements.{All-head, All-tail}
 use Rattle.std.proofs.lemmas.List.{reverse-reverse}
 use Rattle.ndarray.specs.Index.{InBox, size, row_order}
-use Rattle.ndarray.specs.Grid.{Grid, IsGrid, grid, cell}
+use Rattle.ndarray.specs.Grid.{Grid, IsGrid, cell}
 use Rattle.ndarray.specs.Orders.{box_in, cells_in, IsListOfCells}
 use Rattle.ndarray.specs.Views.{transpose_of}
 use Rattle.ndarray.specs.declared.base.shape.Order.{Order}
@@ -32,16 +32,6 @@ transpose_of-whole g whole = ap length (transpose_of-cells g) ∙ (length-cells_
 
 pub length-transpose_of : {A : Type 0} (g : Grid A) → IsGrid g → length (transpose_of g).cells ≡ length g.cells
 length-transpose_of g whole = ap length (transpose_of-cells g) ∙ (length-cells_in ColumnMajor g whole ∙ sym whole)
-
-same : {A : Type 0} (g h : Grid A) → g.lengths ≡ h.lengths → g.cells ≡ h.cells → g ≡ h
-same g h e c = ap (λ ns. grid ns g.cells) e ∙ ap (grid h.lengths) c
-
--- no other array has these lengths and these cells in an order
-pub cells_in-known : {A : Type 0} (o : Order) (g h : Grid A) → IsGrid g → IsGrid h → g.lengths ≡ h.lengths → cells_in o g ≡ cells_in o h → g ≡ h
-cells_in-known RowMajor g h wg wh e c = same g h e (sym (row-cells g wg) ∙ (c ∙ row-cells h wh))
-cells_in-known ColumnMajor g h wg wh e c =
-    sym (transpose_of-transpose_of g wg (transpose_of-whole g wg))
-    ∙ (ap transpose_of (same (transpose_of g) (transpose_of h) (ap reverse e) (transpose_of-cells g ∙ (c ∙ sym (transpose_of-cells h)))) ∙ transpose_of-transpose_of h wh (transpose_of-whole h wh))
 
 -- the cells in an order are the cells, each index list once
 pub cells_in-list : {A : Type 0} (o : Order) (g : Grid A) (xs : List A) → IsGrid g → xs ≡ cells_in o g → IsListOfCells g xs

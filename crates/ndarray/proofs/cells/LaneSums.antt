@@ -1,17 +1,20 @@
 -- The inner sums of the rows of one array and the columns of another are the cells of their product.
-use Rattle.std.proofs.Common.{◌≡◌, ◌∙◌, ◌-◌, ◌<◌, ◌+◌, ℕ, List, All, ap, arith, drop, get_or, inl, inr, insert, length, map, remove, sym, take}
+use Rattle.std.proofs.Common.{◌≡◌, ◌∙◌, ◌-◌, ◌<◌, ◌+◌, ℕ, List, [], ◌∷◌, All, ap, arith, drop, get_or, inl, inr, insert, length, map, refl, remove, sym, take}
 use Rattle.std.specs.Prelude.{flat_map}
 use Rattle.std.proofs.lemmas.Bool.{cases_eq}
 use Rattle.std.proofs.lemmas.List.Edits.{length-remove}
-use Rattle.ndarray.specs.Grid.{Grid, IsGrid}
+use Rattle.ndarray.specs.Grid.{Grid, IsGrid, cell}
 use Rattle.ndarray.specs.Index.{InBox, row_order}
+use Rattle.ndarray.specs.Matrices.{values_below}
 use Rattle.ndarray.specs.linalg.LaneSums.{CanSumLanes, lane_sum}
-use Rattle.ndarray.specs.Products.{HasLaneSumsInRange, ShapesMultiply, dot_entries, product_lengths}
+use Rattle.ndarray.specs.Products.{HasLaneSumsInRange, ShapesMultiply, dot_entries, product_lengths, value_or}
 use Rattle.ndarray.specs.Subviews.{lane}
 use Rattle.ndarray.specs.declared.elements.Valued.{Ghosts as ValuedGhosts}
 use Rattle.ndarray.proofs.boxes.Boxes.{InBox-length}
+use Rattle.ndarray.proofs.cells.Cells.{tabulate-cell}
 use Rattle.ndarray.proofs.cells.LaneCells.{lane-length, no-lane}
 use Rattle.ndarray.proofs.cells.LanePairs.{EachColumn, columns_of, in-row_order, inner, last, of-rows_and_columns, parts, rows_of}
+use Rattle.ndarray.proofs.cells.Matrices.{below-same, vector-values}
 use Rattle.ndarray.proofs.lists.Elements.{remove-inserted}
 use Rattle.ndarray.proofs.views.Items.{InBox-insert}
 
@@ -25,6 +28,15 @@ length-of_lane g whole k lt js b = elim (cases_eq (get_or g.lengths k 0) 0) [
       let back : remove is k ≡ js = remove-inserted js k 0 (let n = InBox-length (remove g.lengths k) js b in let r : length (remove g.lengths k) + 1 ≡ length g.lengths = length-remove g.lengths k lt in omega (arith, n, r, lt)) in
       ap (λ ls. length (lane g k ls).cells) (sym back) ∙ lane-length g whole k lt is c)
 ]
+
+-- the values of a lane
+pub lane-values : {A C : Type 0} (v : A → C) (d : C) (g : Grid A) → IsGrid g → (k : ℕ) → k < length g.lengths → (js : List ℕ) → InBox (remove g.lengths k) js
+    → map v (lane g k js).cells ≡ values_below (get_or g.lengths k 0) (λ q. value_or v d (cell g (insert js k q)))
+lane-values v d g whole k lt js b =
+    let long = length-of_lane g whole k lt js b in
+    let own : IsGrid (lane g k js) = omega (arith, long) in
+    vector-values v d (lane g k js) own refl
+    ∙ below-same (get_or g.lengths k 0) _ _ (λ q below. ap (value_or v d) (tabulate-cell (get_or g.lengths k 0 ∷ []) (λ is. cell g (insert js k (get_or is 0 0))) (q ∷ []) own (below, tt)))
 
 module _ {A : Type 0} (e : ValuedGhosts A) (a b : Grid A) (shapes : ShapesMultiply a.lengths b.lengths) where
   -- each row and each column may be summed

@@ -1,8 +1,8 @@
 -- Lists of blocks, and what stands at each place of them.
 use Rattle.std.proofs.Common.{◌≡◌, ℕ, ◌+◌, ◌*◌, ◌<◌, ◌≤◌, suc, zero, List, [], ◌∷◌, ◌++◌, length, take, drop, get_or, Some, refl, sym, ◌∙◌, ap, arith, append_assoc}
 use Rattle.std.specs.Prelude.{flat_map, slice_get, sum_by, All}
-use Rattle.std.proofs.Math.Seq.{drop-cons, take-length}
-use Rattle.std.proofs.lemmas.List.{length-append, length-drop, length-take-le}
+use Rattle.std.proofs.Math.Seq.{drop-cons, take-append_seam, take-length}
+use Rattle.std.proofs.lemmas.List.{length-append, length-drop, length-take-le, take-append-le, take-take}
 use Rattle.std.proofs.lemmas.List.Elements.{All-head, All-tail}
 use Rattle.std.proofs.lemmas.List.Sums.{sum_by-cons}
 use Rattle.ndarray.specs.Grid.{Grid, IsGrid, cell}
@@ -108,3 +108,11 @@ module _ {A : Type 0} where
   -- of two that end alike, as many cells are to come
   pub pushed-length : (p q : BuilderState A) (xs ys : List A) → pushed_all p xs ≡ pushed_all q ys → length p.cells + length xs ≡ length q.cells + length ys
   pushed-length p q xs ys e = sym (length-append p.cells xs) ∙ (ap (λ s. length s.cells) e ∙ length-append q.cells ys)
+
+  -- the cells that were there come first
+  pub pushed-front : (p q : BuilderState A) (xs ys : List A) → pushed_all p xs ≡ pushed_all q ys → length q.cells ≤ length p.cells → take (length q.cells) p.cells ≡ q.cells
+  pushed-front p q xs ys e le = sym (take-append-le (length q.cells) p.cells xs le) ∙ (ap (λ s. take (length q.cells) s.cells) e ∙ take-append_seam q.cells ys)
+
+  -- also behind more
+  pub front-stays : (xs ys zs : List A) → take (length ys) zs ≡ ys → take (length xs) ys ≡ xs → length xs ≤ length ys → take (length xs) zs ≡ xs
+  front-stays xs ys zs e f le = sym (take-take (length xs) (length ys) zs le) ∙ (ap (take (length xs)) e ∙ f)

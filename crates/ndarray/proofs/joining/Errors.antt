@@ -128,7 +128,7 @@ module _ {A : Type 0} where
           ∙ if-false (not (list_all (is_same_but_along a g.lengths) (shapes_of gs))) (Some IncompatibleShape) (if not (is_within_limit sums) then Some Overflow else None)
           (not_from_true (list_all (is_same_but_along a g.lengths) (shapes_of gs)) same)
 
-      concatenate-none : IsWithinLimit sums → concatenate_error a (shapes_of (g ∷ gs)) ≡ None
+      pub concatenate-none : IsWithinLimit sums → concatenate_error a (shapes_of (g ∷ gs)) ≡ None
       concatenate-none limit = concatenate-size ∙ if-false (not (is_within_limit sums)) (Some Overflow) None (not_from_true (is_within_limit sums) (lt-ltb (nonzero_size sums) (2 ^ 63) limit))
 
       concatenate-over : (IsWithinLimit sums → ⊥) → concatenate_error a (shapes_of (g ∷ gs)) ≡ Some Overflow

@@ -9,7 +9,7 @@ use Rattle.ndarray.specs.Index.{InBox, IsBefore, row_order}
 use Rattle.ndarray.specs.Grid.{Grid, cell, IsGrid}
 use Rattle.ndarray.specs.base.PlaceMap.{LiesApart}
 use Rattle.ndarray.specs.base.CellLayouts.{CellLayout, place_in}
-use Rattle.ndarray.specs.places.CellPlaces.{stepping, HasPassed, StepsStand}
+use Rattle.ndarray.specs.places.CellPlaces.{stepping, HasPassed, AreOnceInBox}
 use Rattle.ndarray.proofs.boxes.Boxes.{InBox-some}
 use Rattle.ndarray.proofs.cells.Cells.{along-row_order, cell-Some}
 use Rattle.ndarray.proofs.lists.Elements.{filter_map-same}
@@ -33,8 +33,8 @@ map-contains f (y ∷ ys) p (zero, lt, e) = (y, (Contains-first y ys, e))
 map-contains f (y ∷ ys) p (suc k, lt, e) = let r = map-contains f ys p (k, omega (arith, lt), e) in (r.0, (Contains-later y ys r.0 r.1.0, r.1.1))
 
 -- at first each index list of the box is to come
-pub stands-first : (ns : List ℕ) → StepsStand ns (row_order ns)
-stands-first ns = record {
+pub once-first : (ns : List ℕ) → AreOnceInBox ns (row_order ns)
+once-first ns = record {
   within = (row_order-is ns).within;
   once = λ i j d lt h e. IsBefore-not_itself _ (subst (λ is. IsBefore is (get_or (row_order ns) j d)) e ((row_order-is ns).rising i j d lt h));
 }
@@ -44,12 +44,12 @@ pub none-passed : (m : CellLayout) (p : ℕ) → HasPassed (stepping m (row_orde
 none-passed m p h = h.1.2 ((row_order-is m.lengths).whole h.0 h.1.0)
 
 -- the first index list is passed
-module _ (m : CellLayout) (ys rest : List (List ℕ)) (is : List ℕ) (p : ℕ) (e : ys ≡ is ∷ rest) (h : StepsStand m.lengths ys) (at : p ≡ place_in m is) (alone : (js : List ℕ) → InBox m.lengths js → place_in m js ≡ p → js ≡ is) where
-  now : StepsStand m.lengths (is ∷ rest)
-  now = subst (StepsStand m.lengths) e h
+module _ (m : CellLayout) (ys rest : List (List ℕ)) (is : List ℕ) (p : ℕ) (e : ys ≡ is ∷ rest) (h : AreOnceInBox m.lengths ys) (at : p ≡ place_in m is) (alone : (js : List ℕ) → InBox m.lengths js → place_in m js ≡ p → js ≡ is) where
+  now : AreOnceInBox m.lengths (is ∷ rest)
+  now = subst (AreOnceInBox m.lengths) e h
 
-  pub stands-rest : StepsStand m.lengths rest
-  stands-rest = record {
+  pub once-rest : AreOnceInBox m.lengths rest
+  once-rest = record {
     within = All-tail (InBox m.lengths) is rest now.within;
     once = AllPairs-tail (λ is js. is ≢ js) is rest now.once;
   }
@@ -61,7 +61,7 @@ module _ (m : CellLayout) (ys rest : List (List ℕ)) (is : List ℕ) (p : ℕ) 
   pub place-once : Contains (map (place_in m) rest) p → ⊥
   place-once c =
       let r = map-contains (place_in m) rest p c in
-      not_again (subst (Contains rest) (alone r.0 (All-contains (InBox m.lengths) rest r.0 stands-rest.within r.1.0) r.1.1) r.1.0)
+      not_again (subst (Contains rest) (alone r.0 (All-contains (InBox m.lengths) rest r.0 once-rest.within r.1.0) r.1.1) r.1.0)
 
   -- the places that were passed are those before and its own
   pub passed-more : (q : ℕ) → HasPassed (stepping m rest) q ↔ (HasPassed (stepping m ys) q ⊎ (◌≡◌ {A = Option ℕ} (Some p) (Some q)))

@@ -1,5 +1,5 @@
 -- The places of rows of cells, taken one row after another.
-use Rattle.std.proofs.Common.{◌≡◌, ℕ, ◌+◌, ◌<◌, suc, zero, List, [], ◌∷◌, ◌++◌, length, map, get_or, Option, refl, sym, ◌∙◌, ap, arith, subst}
+use Rattle.std.proofs.Common.{◌≡◌, ℕ, ◌+◌, ◌<◌, suc, zero, List, [], ◌∷◌, ◌++◌, length, map, Option, refl, sym, ◌∙◌, ap, arith, subst}
 use Rattle.std.specs.Prelude.{All, filter_map, ⊤}
 use Rattle.std.proofs.lemmas.List.{map-append, get_or_append_left, get_or-append-add, length-append}
 use Rattle.std.proofs.lemmas.List.Elements.{All-head, All-tail}
@@ -8,7 +8,6 @@ use Rattle.ndarray.specs.Index.{InBox}
 use Rattle.ndarray.specs.order.Rows.{rows_in, joined}
 use Rattle.ndarray.specs.base.Places.{place, Reaches, grid_at}
 use Rattle.ndarray.specs.base.Ranks.{row_from}
-use Rattle.ndarray.specs.base.Strided.{places_from}
 use Rattle.ndarray.specs.places.ElementPlaces.{places_along, AreDistinctPlaces, HaveRows}
 use Rattle.ndarray.specs.declared.base.shape.Order.{Order}
 use Rattle.ndarray.proofs.boxes.Boxes.{InBox-length}
@@ -18,7 +17,7 @@ use Rattle.ndarray.proofs.moving.BorrowedCells.{AreDistinctPlaces-all}
 use Rattle.ndarray.proofs.moving.SomePlaces.{found-moved}
 use Rattle.ndarray.proofs.strides.ContiguousCells.{filter_map-map}
 use Rattle.ndarray.proofs.strides.Reach.{cell-at}
-use Rattle.ndarray.proofs.strides.Rows.{row-first, row-places}
+use Rattle.ndarray.proofs.strides.Rows.{row-first}
 
 -- the index lists of all rows of a box have as many indices as it has axes
 pub rows-as_many : (ns bs : List ℕ) (o : Order) → length bs ≡ length ns → All (λ row. (0 < length row) × All (λ is. length bs ≡ length is) row) (rows_in o ns)
@@ -52,12 +51,6 @@ module _ (start : ℕ) (bs : List ℕ) (rows rest : List (List (List ℕ))) (is 
 
   pub rest-each : All (λ row. (0 < length row) × All (λ js. length bs ≡ length js) row) rest
   rest-each = All-tail (λ row. (0 < length row) × All (λ js. length bs ≡ length js) row) (row_from is axis n) rest (subst (All (λ row. (0 < length row) × All (λ js. length bs ≡ length js) row)) e each)
-
-  pub first-places : places_along start bs (row_from is axis n) ≡ places_from (place start bs is) (get_or bs axis 0) n
-  first-places = row-places start bs axis n is first-as_many
-
-  pub all-places : places_along start bs (joined rows) ≡ places_from (place start bs is) (get_or bs axis 0) n ++ places_along start bs (joined rest)
-  all-places = ap (λ l. places_along start bs (joined l)) e ∙ (map-append (place start bs) (row_from is axis n) (joined rest) ∙ ap (λ l. l ++ places_along start bs (joined rest)) first-places)
 
 -- rows whose places have the same elements in another storage have the same cells there
 module _ {A : Type 0} (at after : ℕ → Option A) (start : ℕ) (bs : List ℕ) where

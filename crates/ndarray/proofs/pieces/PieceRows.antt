@@ -9,7 +9,7 @@ use Rattle.ndarray.specs.Grid.{array_by, cell}
 use Rattle.ndarray.specs.base.Places.{place, Reaches, grid_at}
 use Rattle.ndarray.specs.order.Rows.{rows_in, joined}
 use Rattle.ndarray.specs.base.Pieces.{ReachPieces, SharePieces, ShareRows, piece_layout, piece_layouts, pieces_at}
-use Rattle.ndarray.specs.base.CellLayouts.{CellLayout, cell_layout}
+use Rattle.ndarray.specs.base.CellLayouts.{CellLayout}
 use Rattle.ndarray.specs.base.Masks.{Shares, SharesBoth, grids_at}
 use Rattle.ndarray.specs.base.Ranks.{row_from}
 use Rattle.ndarray.specs.base.Strided.{places_from}
@@ -30,10 +30,6 @@ pieces-along at ps start steps ns bs qs within =
     (map-same (cell (array_by ps piece)) (λ p. Some (piece p)) (InBox ps) qs (λ p b. array_by-cell ps piece p b) within ∙ sym (map-map Some piece qs))
 
 module _ (start : ℕ) (steps ns bs : List ℕ) (axis n : ℕ) (is : List ℕ) (as_many : length steps ≡ length is) where
-  -- where those of a row lie
-  pub row-layouts : map (λ p. cell_layout ns p bs) (places_from (place start steps is) (get_or steps axis 0) n) ≡ piece_layouts start steps ns bs (row_from is axis n)
-  row-layouts = ap (map (λ p. cell_layout ns p bs)) (sym (row-places start steps axis n is as_many)) ∙ map-map (λ p. cell_layout ns p bs) (place start steps) (row_from is axis n)
-
   module _ {A : Type 0} (at : ℕ → Option A) (ps : List ℕ) (within : All (InBox ps) (row_from is axis n)) where
     -- and which arrays they are
     pub row-pieces : map (λ p. grid_at at ns p bs) (places_from (place start steps is) (get_or steps axis 0) n) ≡ filter_map (cell (pieces_at at ps start steps ns bs)) (row_from is axis n)
@@ -104,7 +100,5 @@ module _ (start : ℕ) (steps ns bs : List ℕ) where
       pub rest-rows : All (λ row. (0 < length row) × All (InBox ps) row) rest
       rest-rows = All-tail (λ row. (0 < length row) × All (InBox ps) row) (row_from is axis n) rest moved.each
 
-      pub first-shares : SharesBoth at (map (λ p. cell_layout ns p bs) (places_from (place start steps is) (get_or steps axis 0) n)) (piece_layouts start steps ns bs (joined rest))
-      first-shares =
-          subst (λ l. SharesBoth at l (piece_layouts start steps ns bs (joined rest))) (sym (row-layouts start steps ns bs axis n is piece-as_many))
-          (SharesBoth-parts at (piece_layouts start steps ns bs (row_from is axis n)) (piece_layouts start steps ns bs (joined rest)) (subst (Shares at) (layouts-joined (row_from is axis n) rest) moved.shares))
+      pub first-shares : SharesBoth at (piece_layouts start steps ns bs (row_from is axis n)) (piece_layouts start steps ns bs (joined rest))
+      first-shares = SharesBoth-parts at (piece_layouts start steps ns bs (row_from is axis n)) (piece_layouts start steps ns bs (joined rest)) (subst (Shares at) (layouts-joined (row_from is axis n) rest) moved.shares)

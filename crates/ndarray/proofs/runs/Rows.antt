@@ -120,21 +120,21 @@ module _ {B : Type 0} (g : Grid B) where
   pub HasRows-rows_in : (o : Order) → IsGrid g → HasRows g (rows_in o g.lengths)
   HasRows-rows_in o whole = λ k d lt. let w = rows-within o g.lengths k d lt in (w.0, record { whole = whole; within = w.1 })
 
-  module _ {R : Type 0} (view : R → List B) where
-    rows-given : (iss : List (List (List ℕ))) → HasRows g iss → (s : List (List B)) → s ≡ map (filter_map (cell g)) iss
-        → RowsInTurnFrom {S = List (List B)} {R = R} (YieldsFirstBy view (λ rest. rest)) (λ is r. (view r ≡ filter_map (cell g) is) × HasCells g is) s iss
-    rows-given [] h s e = λ r t st. let k : [] ≡ view r ∷ t = sym e ∙ st in cc
+  module _ {S R : Type 0} (view : R → List B) (rest : S → List (List B)) where
+    rows-given : (iss : List (List (List ℕ))) → HasRows g iss → (s : S) → rest s ≡ map (filter_map (cell g)) iss
+        → RowsInTurnFrom {S = S} {R = R} (YieldsFirstBy view rest) (λ is r. (view r ≡ filter_map (cell g) is) × HasCells g is) s iss
+    rows-given [] h s e = λ r t st. let k : [] ≡ view r ∷ rest t = sym e ∙ st in cc
     rows-given (is ∷ iss) h s e = (
       (λ t n. let k : filter_map (cell g) is ∷ map (filter_map (cell g)) iss ≡ [] = sym e ∙ n.0 in cc),
       (λ r t st.
-          let k : filter_map (cell g) is ∷ map (filter_map (cell g)) iss ≡ view r ∷ t = sym e ∙ st in
+          let k : filter_map (cell g) is ∷ map (filter_map (cell g)) iss ≡ view r ∷ rest t = sym e ∙ st in
           let here : view r ≡ filter_map (cell g) is = cc in
-          let there : t ≡ map (filter_map (cell g)) iss = cc in
+          let there : rest t ≡ map (filter_map (cell g)) iss = cc in
           ((here, (All-head (λ row. (0 < length row) × HasCells g row) is iss h).1), rows-given iss (All-tail (λ row. (0 < length row) × HasCells g row) is iss h) t there)),
     )
 
-    pub RowsInTurn-cells : (o : Order) → IsGrid g → (s : List (List B)) → s ≡ map (filter_map (cell g)) (rows_in o g.lengths)
-        → RowsInTurn {S = List (List B)} {R = R} (YieldsFirstBy view (λ rest. rest)) (λ is r. (view r ≡ filter_map (cell g) is) × HasCells g is) s (rows_in o g.lengths)
+    pub RowsInTurn-cells : (o : Order) → IsGrid g → (s : S) → rest s ≡ map (filter_map (cell g)) (rows_in o g.lengths)
+        → RowsInTurn {S = S} {R = R} (YieldsFirstBy view rest) (λ is r. (view r ≡ filter_map (cell g) is) × HasCells g is) s (rows_in o g.lengths)
     RowsInTurn-cells o whole s e = record { from = rows-given (rows_in o g.lengths) (HasRows-rows_in o whole) s e }
 
   -- what is given of a row of cells
@@ -202,19 +202,19 @@ RowsInTurn-one is_row o zero t r form e = record { from = subst (RowsInTurnFrom 
 RowsInTurn-one is_row o (suc n) t r form e = subst (RowsInTurn once_steps is_row t) (sym (rows_in-one o n)) (RowsInTurn-once is_row (box_in o (suc n ∷ [])) t r form e)
 
 -- rows that are given as something of each list of index lists
-module _ {R V : Type 0} (view : R → V) (h : List (List ℕ) → V) where
-  mapped-rows : (iss : List (List (List ℕ))) (s : List V) → s ≡ map h iss → RowsInTurnFrom {S = List V} {R = R} (YieldsFirstBy view (λ rest. rest)) (λ is r. view r ≡ h is) s iss
-  mapped-rows [] s e = λ r t st. let k : [] ≡ view r ∷ t = sym e ∙ st in cc
+module _ {S R V : Type 0} (view : R → V) (rest : S → List V) (h : List (List ℕ) → V) where
+  mapped-rows : (iss : List (List (List ℕ))) (s : S) → rest s ≡ map h iss → RowsInTurnFrom {S = S} {R = R} (YieldsFirstBy view rest) (λ is r. view r ≡ h is) s iss
+  mapped-rows [] s e = λ r t st. let k : [] ≡ view r ∷ rest t = sym e ∙ st in cc
   mapped-rows (is ∷ iss) s e = (
     (λ t n. let k : h is ∷ map h iss ≡ [] = sym e ∙ n.0 in cc),
     (λ r t st.
-        let k : h is ∷ map h iss ≡ view r ∷ t = sym e ∙ st in
+        let k : h is ∷ map h iss ≡ view r ∷ rest t = sym e ∙ st in
         let here : view r ≡ h is = cc in
-        let there : t ≡ map h iss = cc in
+        let there : rest t ≡ map h iss = cc in
         (here, mapped-rows iss t there)),
   )
 
-  pub RowsInTurn-map : {iss : List (List (List ℕ))} (s : List V) → s ≡ map h iss → RowsInTurn {S = List V} {R = R} (YieldsFirstBy view (λ rest. rest)) (λ is r. view r ≡ h is) s iss
+  pub RowsInTurn-map : {iss : List (List (List ℕ))} (s : S) → rest s ≡ map h iss → RowsInTurn {S = S} {R = R} (YieldsFirstBy view rest) (λ is r. view r ≡ h is) s iss
   RowsInTurn-map {iss} s e = record { from = mapped-rows iss s e }
 
 -- places are given beside the index lists whose places they are

@@ -185,11 +185,8 @@ module _ (start : ℕ) (bs : List ℕ) where
     pub rest-as_many : All (λ js. length bs ≡ length js) zs
     rest-as_many = subst (All (λ js. length bs ≡ length js)) (sym t.rest) (All-drop (λ js. length bs ≡ length js) count ys m)
 
-    pub places-split : places_along start bs ys ≡ places_from (place start bs is) (get_or bs axis 0) count ++ places_along start bs zs
-    places-split =
-        ap (places_along start bs) (taken-parts ys zs is axis count t)
-        ∙ (map-append (place start bs) (row_from is axis count) zs
-        ∙ ap (λ l. l ++ places_along start bs zs) (row-places axis count is row-as_many))
+    pub places-split : places_along start bs ys ≡ places_along start bs (row_from is axis count) ++ places_along start bs zs
+    places-split = ap (places_along start bs) (taken-parts ys zs is axis count t) ∙ map-append (place start bs) (row_from is axis count) zs
 
     pub places-count : count + length zs ≡ length ys
     places-count =

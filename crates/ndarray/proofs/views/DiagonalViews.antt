@@ -38,12 +38,12 @@ shortest-fits (n ∷ ns) limit = let a = shortest-each (n ∷ ns) 0 (omega arith
 
 -- ---- index lists of one index
 
-get_or-alike : (n i k : ℕ) → k < n → get_or (replicate n i) k 0 ≡ i
+pub get_or-alike : (n i k : ℕ) → k < n → get_or (replicate n i) k 0 ≡ i
 get_or-alike zero i k lt = absurd (omega arith)
 get_or-alike (suc n) i zero lt = refl
 get_or-alike (suc n) i (suc k) lt = get_or-alike n i k (omega arith)
 
-InBox-alike : (ns : List ℕ) (i : ℕ) → i < shortest ns → InBox ns (replicate (length ns) i)
+pub InBox-alike : (ns : List ℕ) (i : ℕ) → i < shortest ns → InBox ns (replicate (length ns) i)
 InBox-alike ns i lt =
     InBox-from_each ns (replicate (length ns) i) (length-replicate (length ns) i)
     (λ k below.

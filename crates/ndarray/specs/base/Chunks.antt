@@ -11,7 +11,7 @@ abbrev pub chunks_along : {A : Type 0} → Grid A → ℕ → ℕ → List (List
 chunks_along g axis size ps = map (λ p. axis_chunk g axis size (slice_index p 0)) ps
 
 -- each position is that of a chunk
-pub record ChunksStand {A : Type 0} (g : Grid A) (axis size : ℕ) (ps : List (List ℕ)) : Type 0 where
+pub record AreChunkPositions {A : Type 0} (g : Grid A) (axis size : ℕ) (ps : List (List ℕ)) : Type 0 where
   pub bound : axis < length g.lengths
   pub positive : 1 ≤ size
   pub within : All (InBox (div_ceil (slice_index g.lengths axis) size ∷ [])) ps

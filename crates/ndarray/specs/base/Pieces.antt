@@ -43,7 +43,7 @@ pub record SharePieces {A : Type 0} (at : ℕ → Option A) (ps : List ℕ) (sta
   pub shares : Shares at (piece_layouts start steps ns bs (row_order ps))
 
 -- the positions that are left are of the box
-pub record PiecePositionsStand (ps steps : List ℕ) (left : List (List ℕ)) : Type 0 where
+pub record ArePiecePositions (ps steps : List ℕ) (left : List (List ℕ)) : Type 0 where
   pub as_many : length steps ≡ length ps
   pub within : All (InBox ps) left
 

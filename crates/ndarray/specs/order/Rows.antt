@@ -1,5 +1,5 @@
 -- The rows of a box, and producers that give their items row by row.
-use Rattle.std.specs.Prelude.{ℕ, zero, suc, ◌<◌, List, [], ◌∷◌, All, map, length, Option, Some, None, slice_index, slice_set}
+use Rattle.std.specs.Prelude.{◌≡◌, ℕ, zero, suc, ◌<◌, List, [], ◌∷◌, All, map, length, Option, Some, None, IfSome, slice_index, slice_set}
 use Rattle.std.specs.List.{flat_map}
 use Rattle.ndarray.specs.Grid.{Grid, HasCells}
 use Rattle.ndarray.specs.Orders.{box_in}
@@ -37,6 +37,15 @@ rows_in o ns = map (λ is. row_from is (fast_axis o ns) (row_size o ns)) (box_in
 -- the index lists of all rows, one row after another
 abbrev pub joined : {X : Type 0} → List (List X) → List X
 joined xss = flat_map (λ xs. xs) xss
+
+-- what is known of rows, one after another, and of all of them as one row where they are known to be one
+pub record RowsAndOne (X : Type 0) : Type 0 where
+  pub one : Option X
+  pub rows : List X
+
+-- that is what `f` gives of the rows of a box in an order, and of the box
+abbrev pub AreRowsIn : {X : Type 0} → (List (List ℕ) → X) → Order → List ℕ → RowsAndOne X → Type 0
+AreRowsIn f o ns r = (r.rows ≡ map f (rows_in o ns)) × IfSome r.one (λ x. x ≡ f (box_in o ns))
 
 -- each row has some index lists, and the array has a cell at each of them
 abbrev pub HasRows : {A : Type 0} → Grid A → List (List (List ℕ)) → Type 0

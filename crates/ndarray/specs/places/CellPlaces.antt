@@ -20,6 +20,6 @@ abbrev pub HasPassed : Stepping → ℕ → Type 0
 HasPassed s p = (is : List ℕ) × (InBox s.layout.lengths is × (place_in s.layout is ≡ p) × (Contains s.ahead is → ⊥))
 
 -- the index lists to come are in the box, and none comes twice
-pub record StepsStand (ns : List ℕ) (ys : List (List ℕ)) : Type 0 where
+pub record AreOnceInBox (ns : List ℕ) (ys : List (List ℕ)) : Type 0 where
   pub within : All (InBox ns) ys
   pub once : AllPairs (λ is js. is ≢ js) ys

@@ -50,7 +50,7 @@ use std::marker::Model;
 /// - `ArrayView::from_shape`, `ArrayView::from`: views of slices and arrays.
 /// - [`to_owned`](Self::to_owned), [`into_owned`](Self::into_owned): copies. [`map_collect`](crate::Zip) of a [`Zip`](crate::Zip): computed
 ///   cells.
-/// - [`concatenate`](crate::concatenate), [`stack`](crate::stack): joined arrays. `triu`, `tril`: triangles.
+/// - [`concatenate`](crate::concatenate), [`stack`](crate::stack): joined arrays; `append`, `push`: arrays that grow. `triu`, `tril`: triangles.
 ///
 /// # Lengths and cells
 ///

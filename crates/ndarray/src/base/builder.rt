@@ -1,6 +1,6 @@
 //! Arrays that are filled one cell after another.
 
-ghost use Rattle.std.specs.Prelude.{◌≡◌, ◌<◌, ◌≤◌, ◌+◌, ◌-◌, ◌++◌, ◌∷◌, [], length, replicate, slice_index_or, IfOk, IsOk};
+ghost use Rattle.std.specs.Prelude.{◌≡◌, ◌<◌, ◌≤◌, ◌+◌, ◌-◌, ◌++◌, ◌∷◌, [], length, replicate, slice_index_or, take, IfErr, IfOk, IsOk};
 ghost use Rattle.ndarray.specs.base.Builder.{pushed_all, pushed_to};
 ghost use Rattle.ndarray.specs.Elementwise.{ClonesAreEqual};
 ghost use Rattle.ndarray.specs.Grid.{IsGrid};
@@ -50,6 +50,40 @@ impl<A: Drop, D: Lengths> ArrayBuilder<A, D> {
         Ok(ArrayBuilder { items, dim, order })
     }
 
+    /// The same with the elements of a vector as the first cells; the vector grows. If it cannot, it comes back with the error. Nothing is
+    /// allocated if there are no cells.
+    pub(crate) fn extending(
+        items: Vec<A>,
+        dim: D,
+        order: Order,
+    ) -> Result<Self, (Vec<A>, AllocError)>
+        requires limit { IsWithinLimit (D.numbers dim) }
+        requires fewer { length items.items ≤ size (D.numbers dim) }
+        ensures room { IfOk result (λ f. f ≡ record { lengths = D.numbers dim; order = order; cells = items.items }) }
+        ensures back { IfErr result (λ e. e.0.items ≡ items.items) }
+        ensures empty { size (D.numbers dim) ≡ 0 → IsOk result }
+    {
+        let mut items = items;
+        let more = dim.size() - items.len();
+        match items.reserve(more) {
+            Ok(()) => Ok(ArrayBuilder { items, dim, order }),
+            Err(refused) => Err((items, refused)),
+        }
+    }
+
+    /// The first cells that were pushed.
+    pub(crate) fn into_first(self, count: usize) -> Vec<A>
+        ensures { result.items ≡ take count self.cells }
+    {
+        let ArrayBuilder {
+            mut items,
+            dim: _dim,
+            order: _order,
+        } = self;
+        items.truncate(count);
+        items
+    }
+
     /// The cell at the next index list of the order.
     pub(crate) fn push(&mut self, cell: A)
         requires { length self.old.cells < size self.old.lengths }
@@ -97,11 +131,12 @@ impl<A: Zero + Drop, D: Lengths> ArrayBuilder<A, D> {
 }
 
 impl<A: Clone, D: Lengths> ArrayBuilder<A, D> {
-    /// Pushes clones of cells, up to the first error.
+    /// Pushes clones of cells, up to the first error. The cells that were there stay.
     pub(crate) fn push_clones(&mut self, cells: Strided<'_, A>) -> Result<(), AllocError>
         requires clones { ClonesAreEqual A.is_clone }
         requires room { length self.old.cells + length cells ≤ size self.old.lengths }
         ensures pushed { IfOk result (λ _. self.new ≡ pushed_all self.old cells.entry) }
+        ensures front { take (length self.old.cells) self.new.cells ≡ self.old.cells }
         ensures none { length cells.entry ≡ 0 → IsOk result }
     {
         match cells.side_by_side() {
@@ -115,6 +150,7 @@ impl<A: Clone, D: Lengths> ArrayBuilder<A, D> {
         requires clones { ClonesAreEqual A.is_clone }
         requires room { length self.old.cells + length cells.now ≤ size self.old.lengths }
         ensures pushed { IfOk result (λ _. self.new ≡ pushed_all self.old cells.now) }
+        ensures front { take (length self.old.cells) self.new.cells ≡ self.old.cells }
         ensures none { length cells.now ≡ 0 → IsOk result }
     {
         for cell in cells {
@@ -128,6 +164,7 @@ impl<A: Clone, D: Lengths> ArrayBuilder<A, D> {
         requires clones { ClonesAreEqual A.is_clone }
         requires room { length self.old.cells + length cells ≤ size self.old.lengths }
         ensures pushed { IfOk result (λ _. self.new ≡ pushed_all self.old cells.entry) }
+        ensures front { take (length self.old.cells) self.new.cells ≡ self.old.cells }
         ensures none { length cells.entry ≡ 0 → IsOk result }
     {
         for cell in cells {

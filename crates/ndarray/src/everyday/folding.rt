@@ -1,6 +1,6 @@
-//! Folds of the lanes of an array by a closure.
+//! What a closure makes of the lanes of an array.
 
-ghost use Rattle.std.specs.Prelude.{◌≡◌, ◌<◌, All, IfOk, IsOk, length, remove};
+ghost use Rattle.std.specs.Prelude.{◌≡◌, ◌<◌, List, All, IfOk, IsOk, length, remove};
 ghost use Rattle.std.specs.List.{FoldsTo, fold};
 ghost use Rattle.ndarray.specs.Elementwise.{CanMap, Maps};
 ghost use Rattle.ndarray.specs.Everyday.{ReturnsAtBoth, TakesAtBoth};
@@ -12,6 +12,7 @@ use crate::base::array::{Array, ArrayBase, ArrayView};
 use crate::base::axis::Axis;
 use crate::base::dimension::{Dimension, Ix1};
 use crate::base::storage::Data;
+use crate::iter::Iter;
 use crate::zip::closures::ItemCall;
 use crate::zip::collecting::collect_in_either_order;
 use std::alloc::{AllocError, Global};
@@ -44,6 +45,51 @@ impl<A, S: Data<Elem = A>, D: Dimension> ArrayBase<S, D> {
     {
         let _whole = self.raw_dim();
         collect_in_either_order(alloc, self.lanes(axis), FoldLane { init, f })
+    }
+
+    /// The array of what `f` returns for each lane along an axis. The result lacks this axis. `f` takes an iterator over the cells of the
+    /// lane, in the order of their indices.
+    ///
+    /// Requires an axis below the number of axes, which `axis_ok` tests, and that `f` may be called at each lane. The error is an
+    /// allocation failure, before the first call of `f`, and is never reported if there is no lane.
+    ///
+    /// ```
+    /// let a = ArrayView::from_shape((2, 3), &[1, 5, 3, 4, 2, 6])?;
+    /// a.map_axis(alloc, Axis(1), |lane| lane.copied().max())?; // [Some(5), Some(6)]
+    /// ```
+    pub fn map_axis<'a, R: Drop, F: Fn(Iter<'a, A, Ix1>) -> R>(
+        &'a self,
+        alloc: Global,
+        axis: Axis,
+        f: F,
+    ) -> Result<Array<R, D::Smaller>, AllocError>
+    where
+        A: 'a,
+        requires axis { axis.0 < length self.now.lengths }
+        requires callable { CanMap (λ l. F.pre f l.cells) (lanes_of self.now axis.0) }
+        ensures values { (h : List A → R) → ((l : List A) (r : R) → F.post f l r → r ≡ h l) → IfOk result (λ c. c ≡ array_by (remove self.now.lengths axis.0) (λ js. h (lane self.now axis.0 js).cells)) }
+        ensures cells { IfOk result (Maps (λ l r. F.post f l.cells r) (lanes_of self.now axis.0)) }
+        ensures axes { IfOk result (λ c. D.Smaller.has_axes (length c.lengths)) }
+        ensures empty { size (remove self.now.lengths axis.0) ≡ 0 → IsOk result }
+    {
+        let _whole = self.raw_dim();
+        collect_in_either_order(alloc, self.lanes(axis), OnLane(f))
+    }
+}
+
+/// A closure of the cells of a lane, as a call.
+#[derive(Drop)]
+struct OnLane<F>(F);
+
+impl<'a, A: 'a, R, F: Fn(Iter<'a, A, Ix1>) -> R> ItemCall<ArrayView<'a, A, Ix1>> for OnLane<F> {
+    type Out = R;
+
+    ghost can_call = { λ c l. F.pre c.0 l.cells };
+
+    ghost call_gives = { λ c l r d. F.post c.0 l.cells r × (d ≡ c) };
+
+    fn call(&mut self, lane: ArrayView<'a, A, Ix1>) -> R {
+        (self.0)(Iter::new(lane))
     }
 }
 

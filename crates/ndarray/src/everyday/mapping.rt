@@ -88,6 +88,7 @@ impl<A: Drop, D: Dimension> Array<A, D> {
         requires limit { IsWithinLimit (Sh.shape_lengths shape) }
         requires callable { (x : D.Pattern) → InBox (Sh.shape_lengths shape) (D.pattern_numbers x) → F.pre f x }
         ensures values { (h : List ℕ → A) → ((x : D.Pattern) (r : A) → F.post f x r → r ≡ h (D.pattern_numbers x)) → IfOk result (λ a. a ≡ array_by (Sh.shape_lengths shape) h) }
+        ensures inside { (h : List ℕ → A) → ((x : D.Pattern) (r : A) → InBox (Sh.shape_lengths shape) (D.pattern_numbers x) → F.post f x r → r ≡ h (D.pattern_numbers x)) → IfOk result (λ a. a ≡ array_by (Sh.shape_lengths shape) h) }
         ensures cells { IfOk result (λ a. (is : List ℕ) (z : A) → cell a is ≡ Some z → (x : D.Pattern) × (D.pattern_numbers x ≡ is) × F.post f x z) }
         ensures axes { IfOk result (λ a. D.has_axes (length a.lengths)) }
         ensures empty { size (Sh.shape_lengths shape) ≡ 0 → IsOk result }

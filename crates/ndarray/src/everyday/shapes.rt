@@ -104,6 +104,7 @@ impl<S: Data> ArrayBase<S, Ix2> {
     pub fn row(&self, index: usize) -> ArrayView1<'_, S::Elem>
         requires { index < slice_index self.now.lengths 0 }
         ensures value { result ≡ axis_item self.now 0 index }
+        ensures axes { length result.lengths ≡ 1 }
         ensures whole { IsGrid result }
     {
         let _axes = self.ndim();
@@ -121,6 +122,7 @@ impl<S: Data> ArrayBase<S, Ix2> {
     pub fn column(&self, index: usize) -> ArrayView1<'_, S::Elem>
         requires { index < slice_index self.now.lengths 1 }
         ensures value { result ≡ axis_item self.now 1 index }
+        ensures axes { length result.lengths ≡ 1 }
         ensures whole { IsGrid result }
     {
         let _axes = self.ndim();
@@ -140,6 +142,7 @@ impl<S: DataMut> ArrayBase<S, Ix2> {
     pub fn row_mut(&mut self, index: usize) -> ArrayViewMut1<'_, S::Elem>
         requires { index < slice_index self.old.lengths 0 }
         ensures value { result ≡ axis_item self.old 0 index }
+        ensures axes { length result.lengths ≡ 1 }
         ensures whole { IsGrid result }
     {
         let _axes = self.ndim();
@@ -157,6 +160,7 @@ impl<S: DataMut> ArrayBase<S, Ix2> {
     pub fn column_mut(&mut self, index: usize) -> ArrayViewMut1<'_, S::Elem>
         requires { index < slice_index self.old.lengths 1 }
         ensures value { result ≡ axis_item self.old 1 index }
+        ensures axes { length result.lengths ≡ 1 }
         ensures whole { IsGrid result }
     {
         let _axes = self.ndim();

@@ -1,12 +1,13 @@
 //! Updates of the cells of an array in place, each by a closure of its index list and its old value.
 
 ghost use Rattle.ndarray.specs.Calls.{can_call2, call_gives2};
-ghost use Rattle.ndarray.specs.Grid.{IsGrid};
+ghost use Rattle.ndarray.specs.Grid.{IsGrid, array_by, cell};
+ghost use Rattle.ndarray.specs.Index.{InBox};
 ghost use Rattle.ndarray.specs.Orders.{box_in};
 ghost use Rattle.ndarray.specs.Runs.{MayGather, Collects};
 ghost use Rattle.ndarray.specs.IndexedUpdates.{is_pattern_and_cell};
 ghost use Rattle.ndarray.specs.declared.base.shape.Order.{Order};
-ghost use Rattle.std.specs.Prelude.{MatchResult};
+ghost use Rattle.std.specs.Prelude.{◌≡◌, ℕ, List, MatchResult, Some};
 
 use crate::base::array::ArrayBase;
 use crate::base::dimension::Dimension;
@@ -28,6 +29,7 @@ impl<A: Copy, S: DataMut<Elem = A>, D: Dimension> ArrayBase<S, D> {
     pub fn update<F: FnMut(D::Pattern, A) -> A>(&mut self, f: F)
         requires callable { (o : Order) → MayGather (is_pattern_and_cell D.pattern_numbers self.old) (call_gives2 F.FnMut) (can_call2 F.FnMut) (box_in o self.old.lengths) f }
         ensures ran { (o : Order) × Collects (is_pattern_and_cell D.pattern_numbers self.old) (call_gives2 F.FnMut) o self.old.lengths f self.new }
+        ensures follows { (h : List ℕ → A) → ((i : D.Pattern) (x r : A) (k : F) → InBox self.old.lengths (D.pattern_numbers i) → cell self.old (D.pattern_numbers i) ≡ Some x → call_gives2 F.FnMut f (i, x) r k → (k ≡ f) × (r ≡ h (D.pattern_numbers i))) → self.new ≡ array_by self.old.lengths h }
         ensures whole { IsGrid self.new }
     {
         let lists = Indices::of(self.raw_dim());

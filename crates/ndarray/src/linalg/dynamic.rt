@@ -15,6 +15,7 @@ use crate::elements::LinalgScalar;
 use crate::linalg::inner::inner;
 use crate::linalg::matrix_products::matrix_product;
 use crate::linalg::products::{Dot, product_dim};
+use crate::linalg::row_sums::push_row;
 use crate::order::Order;
 use crate::subviews::lanes::Lanes;
 use std::alloc::{AllocError, Global};
@@ -33,9 +34,15 @@ impl<A: LinalgScalar, S: Data<Elem = A>, S2: Data<Elem = A>> Dot<ArrayBase<S2, I
         rhs: &ArrayBase<S2, IxDyn>,
     ) -> Result<Array<A, IxDyn>, AllocError> {
         let (left, right) = (self.view(), rhs.view());
-        if let Ok(a) = left.again().into_dimensionality() {
-            if let Ok(b) = right.again().into_dimensionality() {
+        if let Ok(b) = right.again().into_dimensionality() {
+            if let Ok(a) = left.again().into_dimensionality() {
                 return product_of_matrices(alloc, &a, &b);
+            }
+            return product_by_matrix(alloc, &left, &b);
+        }
+        if let Ok(x) = right.again().into_dimensionality() {
+            if let Ok(a) = left.again().into_dimensionality() {
+                return product_by_vector(alloc, &a, &x);
             }
         }
         product(alloc, &left, &right)
@@ -58,6 +65,48 @@ fn product_of_matrices<A: LinalgScalar>(
         unreachable!()
     };
     Ok(product)
+}
+
+/// The product of a two-dimensional view and a vector.
+fn product_by_vector<A: LinalgScalar>(
+    alloc: Global,
+    a: &ArrayView<'_, A, Ix2>,
+    x: &ArrayView<'_, A, Ix1>,
+) -> Result<Array<A, IxDyn>, AllocError>
+    requires shapes { ShapesMultiply a.now.lengths x.now.lengths }
+    requires sums { HasLaneSumsInRange A.Valued a.now x.now }
+    ensures { MakesValues A.Valued (product_lengths a.now.lengths x.now.lengths) (dot_entries A.Valued a.now x.now) result }
+{
+    let _lengths = (a.raw_dim(), x.raw_dim());
+    let product = a.dot(alloc, x)?;
+    let Ok(product) = product.into_dimensionality() else {
+        unreachable!()
+    };
+    Ok(product)
+}
+
+/// The product of a view and a matrix: of each row of the left, its sums with the columns.
+fn product_by_matrix<A: LinalgScalar>(
+    alloc: Global,
+    x: &ArrayView<'_, A, IxDyn>,
+    y: &ArrayView<'_, A, Ix2>,
+) -> Result<Array<A, IxDyn>, AllocError>
+    requires shapes { ShapesMultiply x.now.lengths y.now.lengths }
+    requires sums { HasLaneSumsInRange A.Valued x.now y.now }
+    ensures { MakesValues A.Valued (product_lengths x.now.lengths y.now.lengths) (dot_entries A.Valued x.now y.now) result }
+{
+    let (left, right) = (x.raw_dim(), y.raw_dim());
+    let dim = product_dim(left.slice(), right.slice());
+    let size = dim.size();
+    let mut sums = Vec::with_capacity(alloc, size)?;
+    if size == 0 {
+        // However many rows there are.
+        return Ok(ArrayBase::from_elements(dim, Order::RowMajor, sums));
+    }
+    for row in x.rows() {
+        push_row(&mut sums, &row, y);
+    }
+    Ok(ArrayBase::from_elements(dim, Order::RowMajor, sums))
 }
 
 /// The product of two views: the sum of the products of each row of the left and each column of the right.

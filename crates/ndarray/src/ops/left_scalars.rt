@@ -2,6 +2,7 @@
 
 ghost use Rattle.std.specs.Prelude.{◌≡◌, IfOk, IsOk, length};
 ghost use Rattle.ndarray.specs.Calls.{can_call_by_ref2, call_gives_by_ref2};
+ghost use Rattle.ndarray.specs.Everyday.{mapped};
 ghost use Rattle.ndarray.specs.Grid.{IsGrid};
 ghost use Rattle.ndarray.specs.Index.{size};
 ghost use Rattle.ndarray.specs.Orders.{box_in};
@@ -34,6 +35,7 @@ pub fn scalar_left<X: Drop, A, R: Drop, S: Data<Elem = A>, D: Lengths, F: FnMut(
 ) -> Result<Array<R, D>, AllocError>
     requires callable { (o : Order) → MayGather (is_cell array.now) (λ g cell r h. call_gives_by_ref2 F.FnMut g (scalar, cell) r h) (λ g cell. can_call_by_ref2 F.FnMut g (scalar, cell)) (box_in o array.now.lengths) f }
     ensures ran { IfOk result (λ r. (o : Order) × Collects (is_cell array.now) (λ g cell r h. call_gives_by_ref2 F.FnMut g (scalar, cell) r h) o array.now.lengths f r) }
+    ensures follows { (h : A → R) → ((x : A) (r : R) (k : F) → call_gives_by_ref2 F.FnMut f (scalar, x) r k → (k ≡ f) × (r ≡ h x)) → IfOk result (λ r. r ≡ mapped h array.now) }
     ensures axes { IfOk result (λ r. D.has_axes (length r.lengths)) }
     ensures whole { IfOk result IsGrid }
     ensures empty { size array.now.lengths ≡ 0 → IsOk result }

@@ -37,6 +37,7 @@ pub(crate) fn one_if_some(n: usize) -> usize
 
 impl<D: Lengths> BoxRows<D> {
     /// All rows of the box of the lengths, in the order: each along the axis that varies fastest.
+    #[inline(always)]
     pub(crate) fn new(dim: D, order: Order) -> Self
         requires { IsWithinLimit (D.numbers dim) }
         ensures { result ≡ rows_in order (D.numbers dim) }

@@ -19,13 +19,13 @@ pub struct CellPlaces<D: Lengths> {
 }
 
 impl<D: Lengths> Model for CellPlaces<D> {
-    ghost use Rattle.ndarray.specs.places.CellPlaces.{Stepping, stepping, StepsStand};
+    ghost use Rattle.ndarray.specs.places.CellPlaces.{Stepping, stepping, AreOnceInBox};
 
     ghost Value = { Stepping };
 
     ghost view = { λ s. stepping s.map s.walk };
 
-    ghost invariant = { λ s. StepsStand s.map.lengths s.walk };
+    ghost invariant = { λ s. AreOnceInBox s.map.lengths s.walk };
 }
 
 impl<D: Lengths> CellPlaces<D> {

@@ -4,12 +4,13 @@ ghost use Rattle.std.specs.Prelude.{◌≡◌, ◌+◌, ◌<◌, ◌^◌, length
 ghost use Rattle.std.specs.Iterator.{YieldsFirst, YieldsLast, item_count};
 ghost use Rattle.ndarray.specs.Limits.{IsWithinLimit};
 ghost use Rattle.ndarray.specs.Orders.{box_in};
+ghost use Rattle.ndarray.specs.base.Ranks.{row_from};
 ghost use Rattle.ndarray.specs.base.Strided.{places_from};
 ghost use Rattle.ndarray.specs.places.ElementPlaces.{places_along};
 
 use crate::base::dimension::{Ix1, Lengths};
 use crate::base::layout::Layout;
-use crate::order::{Order, Walk};
+use crate::order::{Order, Row, Walk};
 use std::marker::Model;
 
 /// The places of one row that are still to come: `left` of them, each a stride after the one before.
@@ -30,6 +31,36 @@ impl Model for PlaceRow {
 }
 
 impl PlaceRow {
+    /// The places of all cells, if they are known to follow one another in an order.
+    #[inline(always)]
+    pub(crate) fn in_order<D: Lengths>(layout: &Layout<D>, order: Order) -> Option<Self>
+        requires as_many { length (D.numbers layout.now.strides) ≡ length (D.numbers layout.now.dim) }
+        requires limit { IsWithinLimit (D.numbers layout.now.dim) }
+        ensures { IfSome result (λ ps. ps ≡ places_along layout.now.start (D.numbers layout.now.strides) (box_in order (D.numbers layout.now.dim))) }
+    {
+        if !layout.is_contiguous_in(order) {
+            return None;
+        }
+        Some(PlaceRow {
+            place: layout.start,
+            stride: 1,
+            left: layout.dim.size(),
+        })
+    }
+
+    /// The places of a row of index lists.
+    #[inline(always)]
+    pub(crate) fn along<D: Lengths>(layout: &Layout<D>, row: &Row<D>) -> Self
+        requires { length (D.numbers layout.now.strides) ≡ length (D.numbers row.now.first) }
+        ensures { result ≡ places_along layout.now.start (D.numbers layout.now.strides) (row_from (D.numbers row.now.first) row.now.axis row.now.count) }
+    {
+        PlaceRow {
+            place: layout.place(&row.first),
+            stride: layout.stride(row.axis),
+            left: row.count,
+        }
+    }
+
     /// How many are still to come.
     pub(crate) fn len(&self) -> usize
         ensures { result ≡ length self.now }
@@ -288,11 +319,7 @@ impl<D: Lengths> RowPlaces<D> {
         let Some(row) = self.walk.next_row() else {
             return None;
         };
-        self.row = PlaceRow {
-            place: self.layout.place(&row.first),
-            stride: self.layout.stride(row.axis),
-            left: row.count,
-        };
+        self.row = PlaceRow::along(&self.layout, &row);
         let Some(place) = self.row.next() else {
             unreachable!()
         };

@@ -1,6 +1,6 @@
 //! The cells of several arrays, block by block.
 
-ghost use Rattle.std.specs.Prelude.{◌≡◌, ◌+◌, ◌<◌, ◌≤◌, ◌∷◌, [], ℕ, List, length, drop, All, IfOk, IsOk};
+ghost use Rattle.std.specs.Prelude.{◌≡◌, ◌+◌, ◌<◌, ◌≤◌, ◌∷◌, [], ℕ, List, length, drop, take, All, IfOk, IsOk};
 ghost use Rattle.ndarray.specs.Elementwise.{ClonesAreEqual};
 ghost use Rattle.ndarray.specs.Grid.{IsGrid};
 ghost use Rattle.ndarray.specs.Index.{InBox, size};
@@ -231,6 +231,7 @@ pub(crate) fn push_clones<A: Clone, D: Lengths, E: Lengths>(
     requires clones { ClonesAreEqual A.is_clone }
     requires room { length builder.old.cells + length cells ≤ size builder.old.lengths }
     ensures pushed { IfOk result (λ _. builder.new ≡ pushed_all builder.old cells.entry) }
+    ensures front { take (length builder.old.cells) builder.new.cells ≡ builder.old.cells }
     ensures none { length cells.entry ≡ 0 → IsOk result }
 {
     while let Some(row) = cells.take_row() {

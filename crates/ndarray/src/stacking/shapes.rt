@@ -92,7 +92,7 @@ fn are_same_but_along<A, D: Lengths>(axis: usize, first: &D, others: &[ArrayView
 }
 
 /// Whether the lengths are those of `first` but along one axis.
-fn is_same_but_along<D: Lengths>(axis: usize, first: &D, mut other: D) -> bool
+pub(crate) fn is_same_but_along<D: Lengths>(axis: usize, first: &D, mut other: D) -> bool
     requires { axis < length (D.numbers first.now) }
     ensures { result ≡ is_same_but_along axis (D.numbers first.now) (D.numbers other) }
 {

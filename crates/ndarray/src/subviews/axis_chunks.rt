@@ -32,11 +32,11 @@ impl<'a, A, D: Lengths> Model for AxisChunksIter<'a, A, D> {
 
     ghost Value = { List (Grid A) };
 
-    ghost use Rattle.ndarray.specs.base.Chunks.{ChunksStand, chunks_along};
+    ghost use Rattle.ndarray.specs.base.Chunks.{AreChunkPositions, chunks_along};
 
     ghost view = { λ s. chunks_along s.view s.axis s.size s.walk };
 
-    ghost invariant = { λ s. ChunksStand s.view s.axis s.size s.walk };
+    ghost invariant = { λ s. AreChunkPositions s.view s.axis s.size s.walk };
 }
 
 impl<S: Data, D: Lengths> ArrayBase<S, D> {

@@ -183,11 +183,7 @@ impl<'a, A, P: Lengths, D: Lengths> Iterator for PieceRowsMut<'a, A, P, D> {
             return None;
         };
         let layouts = PieceRowLayouts {
-            places: PlaceRow {
-                place: self.positions.place(&row.first),
-                stride: self.positions.stride(row.axis),
-                left: row.count,
-            },
+            places: PlaceRow::along(&self.positions, &row),
             dim: self.dim.copied(),
             strides: self.strides.copied(),
         };

@@ -7,7 +7,6 @@ ghost use Rattle.std.specs.Iterator.SizeHint.{IsExactHint, IsWithinCount};
 ghost use Rattle.ndarray.specs.Index.{InBox};
 ghost use Rattle.ndarray.specs.Grid.{IsGrid, cell};
 ghost use Rattle.ndarray.specs.Limits.{IsWithinLimit};
-ghost use Rattle.ndarray.specs.Orders.{cells_in};
 ghost use Rattle.ndarray.specs.base.Splits.{IsPartAlong, IsSplit};
 
 use crate::base::array::{ArrayBase, ArrayView};
@@ -102,16 +101,6 @@ impl<'a, A, P: Lengths, D: Lengths> Pieces<'a, A, P, D> {
         part.positions.cut(axis, from, len, 1);
         part
     }
-
-    /// The pieces in an order of their positions.
-    pub(crate) fn run(self, order: Order) -> PiecesIter<'a, A, P, D>
-        ensures items { result ≡ cells_in order self.entry }
-        ensures fits { length result < 2 ^ 63 }
-        ensures whole { IsGrid self.entry }
-    {
-        let walk = Walk::new(self.raw_dim(), order);
-        PiecesIter { pieces: self, walk }
-    }
 }
 
 impl<'a, A, P: Lengths, D: Lengths> Clone for Pieces<'a, A, P, D> {
@@ -132,7 +121,8 @@ impl<'a, A, P: Lengths, D: Lengths> IntoIterator for Pieces<'a, A, P, D> {
     ghost into_iter_gives = { λ s it. (it ≡ s.cells) × (length it < 2 ^ 63) };
 
     fn into_iter(self) -> PiecesIter<'a, A, P, D> {
-        self.run(Order::RowMajor)
+        let walk = Walk::new(self.raw_dim(), Order::RowMajor);
+        PiecesIter { pieces: self, walk }
     }
 }
 

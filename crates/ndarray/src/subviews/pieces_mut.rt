@@ -1,9 +1,7 @@
 //! Equal pieces of an array to write in, one at each position of a box: lanes, exact chunks, and the items along an axis.
 
 ghost use Rattle.std.specs.Prelude.{◌≡◌, ◌^◌, ◌<◌, ◌≤◌, length, slice_index};
-ghost use Rattle.ndarray.specs.Grid.{IsGrid};
 ghost use Rattle.ndarray.specs.Limits.{IsWithinLimit};
-ghost use Rattle.ndarray.specs.Orders.{cells_in};
 ghost use Rattle.ndarray.specs.base.Splits.{IsSplit};
 
 use crate::base::array::ArrayViewMut;
@@ -64,11 +62,11 @@ impl<P: Lengths, D: Lengths> Model for EqualPieceLayouts<P, D> {
 
     ghost Value = { List CellLayout };
 
-    ghost use Rattle.ndarray.specs.base.Pieces.{PiecePositionsStand, piece_layouts};
+    ghost use Rattle.ndarray.specs.base.Pieces.{ArePiecePositions, piece_layouts};
 
     ghost view = { λ s. piece_layouts s.positions.start (P.numbers s.positions.strides) (D.numbers s.dim) (D.numbers s.strides) s.walk };
 
-    ghost invariant = { λ s. PiecePositionsStand (P.numbers s.positions.dim) (P.numbers s.positions.strides) s.walk };
+    ghost invariant = { λ s. ArePiecePositions (P.numbers s.positions.dim) (P.numbers s.positions.strides) s.walk };
 }
 
 impl<'a, A, P: Lengths, D: Lengths> PiecesMut<'a, A, P, D> {
@@ -121,32 +119,6 @@ impl<'a, A, P: Lengths, D: Lengths> PiecesMut<'a, A, P, D> {
             },
         )
     }
-
-    /// The pieces in an order of their positions.
-    pub(crate) fn run(self, order: Order) -> EqualPiecesIterMut<'a, A, P, D>
-        ensures items { result ≡ cells_in order self.entry }
-        ensures fits { length result < 2 ^ 63 }
-        ensures whole { IsGrid self.entry }
-    {
-        let PiecesMut {
-            region,
-            positions,
-            dim,
-            strides,
-            lifetime,
-        } = self;
-        let walk = Walk::new(positions.dim.copied(), order);
-        PiecesIterMut {
-            region,
-            layouts: EqualPieceLayouts {
-                positions,
-                dim,
-                strides,
-                walk,
-            },
-            lifetime,
-        }
-    }
 }
 
 /// Equal pieces to write in that are still to come.
@@ -160,7 +132,24 @@ impl<'a, A, P: Lengths, D: Lengths> IntoIterator for PiecesMut<'a, A, P, D> {
     ghost into_iter_gives = { λ s it. (it ≡ s.cells) × (length it < 2 ^ 63) };
 
     fn into_iter(self) -> Self::IntoIter {
-        self.run(Order::RowMajor)
+        let PiecesMut {
+            region,
+            positions,
+            dim,
+            strides,
+            lifetime,
+        } = self;
+        let walk = Walk::new(positions.dim.copied(), Order::RowMajor);
+        PiecesIterMut {
+            region,
+            layouts: EqualPieceLayouts {
+                positions,
+                dim,
+                strides,
+                walk,
+            },
+            lifetime,
+        }
     }
 }
 

@@ -1,10 +1,11 @@
 //! The calls at all items of a `Zip`, in the order that suits its producers, for any number of them.
 
-ghost use Rattle.std.specs.Prelude.{◌≡◌, true, false, length, IfOk, IsOk};
-ghost use Rattle.ndarray.specs.Grid.{IsGrid};
-ghost use Rattle.ndarray.specs.Index.{size};
+ghost use Rattle.std.specs.Prelude.{◌≡◌, ℕ, Bool, List, true, false, length, IfOk, IsOk};
+ghost use Rattle.std.specs.List.{fold, list_all, list_any};
+ghost use Rattle.ndarray.specs.Grid.{IsGrid, array_by};
+ghost use Rattle.ndarray.specs.Index.{row_order, size};
 ghost use Rattle.ndarray.specs.Orders.{box_in};
-ghost use Rattle.ndarray.specs.Runs.{MayFold, Folds, MayVisit, Visits, MayTest, TestsUntil, MayFoldWhile, FoldsWhile, MayGather, Collects};
+ghost use Rattle.ndarray.specs.Runs.{MayFold, Folds, MayVisit, Visits, MayTest, TestsUntil, MayFoldWhile, FoldsWhile, MayGather, Collects, Computes, ComputesTotals};
 ghost use Rattle.ndarray.specs.declared.base.shape.Order.{Order};
 ghost use Rattle.ndarray.specs.declared.base.shape.Order.TheVariants.{RowMajor, ColumnMajor};
 
@@ -49,6 +50,7 @@ impl<N: NdProducer<Dim = D>, D: Lengths, K> Zip<Parts<N, K>, D> {
     pub(crate) fn fold_items<B, C: FoldCall<B, N::Item, Out = B>>(self, init: B, f: C) -> B
         requires callable { (o : Order) → MayFold (N.yields_at self.nested) C.call_gives C.can_call (box_in o (N.lengths self.nested)) f init }
         ensures ran { (o : Order) × Folds (N.yields_at self.nested) C.call_gives (box_in o (N.lengths self.nested)) f init result }
+        ensures follows { (ns : List ℕ) (h : B → List ℕ → B) → N.lengths self.nested ≡ ns → ComputesTotals (N.yields_at self.nested) C.call_gives f ns h → result ≡ fold h init (row_order ns) }
     {
         let nested = self.parts.nested;
         let order = preferred_order(&nested);
@@ -73,6 +75,7 @@ impl<N: NdProducer<Dim = D>, D: Lengths, K> Zip<Parts<N, K>, D> {
     pub(crate) fn all_items<C: ItemCall<N::Item, Out = bool>>(self, f: C) -> bool
         requires callable { (o : Order) → MayTest (N.yields_at self.nested) C.call_gives C.can_call (box_in o (N.lengths self.nested)) f true }
         ensures ran { (o : Order) × TestsUntil (N.yields_at self.nested) C.call_gives (box_in o (N.lengths self.nested)) f true false result }
+        ensures follows { (ns : List ℕ) (h : List ℕ → Bool) → N.lengths self.nested ≡ ns → Computes (N.yields_at self.nested) C.call_gives f ns h → result ≡ list_all h (row_order ns) }
     {
         all_in_either_order(self.parts.nested, f)
     }
@@ -81,6 +84,7 @@ impl<N: NdProducer<Dim = D>, D: Lengths, K> Zip<Parts<N, K>, D> {
     pub(crate) fn any_items<C: ItemCall<N::Item, Out = bool>>(self, f: C) -> bool
         requires callable { (o : Order) → MayTest (N.yields_at self.nested) C.call_gives C.can_call (box_in o (N.lengths self.nested)) f false }
         ensures ran { (o : Order) × TestsUntil (N.yields_at self.nested) C.call_gives (box_in o (N.lengths self.nested)) f false true result }
+        ensures follows { (ns : List ℕ) (h : List ℕ → Bool) → N.lengths self.nested ≡ ns → Computes (N.yields_at self.nested) C.call_gives f ns h → result ≡ list_any h (row_order ns) }
     {
         let nested = self.parts.nested;
         let order = preferred_order(&nested);
@@ -95,6 +99,7 @@ impl<N: NdProducer<Dim = D>, D: Lengths, K> Zip<Parts<N, K>, D> {
     ) -> Result<Array<R, D>, AllocError>
         requires callable { (o : Order) → MayGather (N.yields_at self.nested) C.call_gives C.can_call (box_in o (N.lengths self.nested)) f }
         ensures ran { IfOk result (λ g. (o : Order) × Collects (N.yields_at self.nested) C.call_gives o (N.lengths self.nested) f g) }
+        ensures follows { (ns : List ℕ) (h : List ℕ → R) → N.lengths self.nested ≡ ns → Computes (N.yields_at self.nested) C.call_gives f ns h → IfOk result (λ g. g ≡ array_by ns h) }
         ensures axes { IfOk result (λ g. D.has_axes (length g.lengths)) }
         ensures whole { IfOk result IsGrid }
         ensures empty { size (N.lengths self.nested) ≡ 0 → IsOk result }
@@ -113,6 +118,7 @@ impl<N: NdProducer<Dim = D>, D: Lengths, K> Zip<Parts<N, K>, D> {
         requires same { N.lengths self.nested ≡ into.old.lengths }
         requires callable { (o : Order) → MayGather (N.yields_at self.nested) C.call_gives C.can_call (box_in o (N.lengths self.nested)) f }
         ensures ran { (o : Order) × Collects (N.yields_at self.nested) C.call_gives o (N.lengths self.nested) f into.new }
+        ensures follows { (ns : List ℕ) (h : List ℕ → R) → N.lengths self.nested ≡ ns → Computes (N.yields_at self.nested) C.call_gives f ns h → into.new ≡ array_by ns h }
         ensures whole { IsGrid into.new }
     {
         let nested = self.parts.nested;

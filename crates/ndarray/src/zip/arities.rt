@@ -1,11 +1,12 @@
 //! The calls of `Zip`, for each number of producers.
 
-ghost use Rattle.std.specs.Prelude.{◌≡◌, true, false, length, IfOk, IsOk};
+ghost use Rattle.std.specs.Prelude.{◌≡◌, ℕ, Bool, List, true, false, length, IfOk, IsOk};
+ghost use Rattle.std.specs.List.{fold, list_all, list_any};
 ghost use Rattle.ndarray.specs.Calls.{can_call1, call_gives1, can_call_fold1, call_gives_fold1, can_call2, call_gives2, can_call_fold2, call_gives_fold2, can_call3, call_gives3, can_call_fold3, call_gives_fold3, can_call4, call_gives4, can_call_fold4, call_gives_fold4, can_call5, call_gives5, can_call_fold5, call_gives_fold5, can_call6, call_gives6, can_call_fold6, call_gives_fold6};
-ghost use Rattle.ndarray.specs.Grid.{IsGrid};
-ghost use Rattle.ndarray.specs.Index.{size};
+ghost use Rattle.ndarray.specs.Grid.{IsGrid, array_by};
+ghost use Rattle.ndarray.specs.Index.{row_order, size};
 ghost use Rattle.ndarray.specs.Orders.{box_in};
-ghost use Rattle.ndarray.specs.Runs.{MayFold, Folds, MayVisit, Visits, MayTest, TestsUntil, MayFoldWhile, FoldsWhile, MayGather, Collects};
+ghost use Rattle.ndarray.specs.Runs.{MayFold, Folds, MayVisit, Visits, MayTest, TestsUntil, MayFoldWhile, FoldsWhile, MayGather, Collects, Computes, ComputesTotals};
 ghost use Rattle.ndarray.specs.declared.base.shape.Order.{Order};
 
 use crate::base::array::{Array, ArrayBase};
@@ -40,6 +41,7 @@ impl<N: NdProducer<Dim = D>, D: Lengths> Zip<Parts<N, One>, D> {
     pub fn fold<B, F: FnMut(B, N::Item) -> B>(self, acc: B, f: F) -> B
         requires callable { (o : Order) → MayFold (N.yields_at self.nested) (call_gives_fold1 F.FnMut) (can_call_fold1 F.FnMut) (box_in o (N.lengths self.nested)) f acc }
         ensures ran { (o : Order) × Folds (N.yields_at self.nested) (call_gives_fold1 F.FnMut) (box_in o (N.lengths self.nested)) f acc result }
+        ensures follows { (ns : List ℕ) (h : B → List ℕ → B) → N.lengths self.nested ≡ ns → ComputesTotals (N.yields_at self.nested) (call_gives_fold1 F.FnMut) f ns h → result ≡ fold h acc (row_order ns) }
     {
         self.fold_items(acc, On1(f))
     }
@@ -69,6 +71,7 @@ impl<N: NdProducer<Dim = D>, D: Lengths> Zip<Parts<N, One>, D> {
     pub fn all<F: FnMut(N::Item) -> bool>(self, f: F) -> bool
         requires callable { (o : Order) → MayTest (N.yields_at self.nested) (call_gives1 F.FnMut) (can_call1 F.FnMut) (box_in o (N.lengths self.nested)) f true }
         ensures ran { (o : Order) × TestsUntil (N.yields_at self.nested) (call_gives1 F.FnMut) (box_in o (N.lengths self.nested)) f true false result }
+        ensures follows { (ns : List ℕ) (h : List ℕ → Bool) → N.lengths self.nested ≡ ns → Computes (N.yields_at self.nested) (call_gives1 F.FnMut) f ns h → result ≡ list_all h (row_order ns) }
     {
         self.all_items(On1(f))
     }
@@ -82,6 +85,7 @@ impl<N: NdProducer<Dim = D>, D: Lengths> Zip<Parts<N, One>, D> {
     pub fn any<F: FnMut(N::Item) -> bool>(self, f: F) -> bool
         requires callable { (o : Order) → MayTest (N.yields_at self.nested) (call_gives1 F.FnMut) (can_call1 F.FnMut) (box_in o (N.lengths self.nested)) f false }
         ensures ran { (o : Order) × TestsUntil (N.yields_at self.nested) (call_gives1 F.FnMut) (box_in o (N.lengths self.nested)) f false true result }
+        ensures follows { (ns : List ℕ) (h : List ℕ → Bool) → N.lengths self.nested ≡ ns → Computes (N.yields_at self.nested) (call_gives1 F.FnMut) f ns h → result ≡ list_any h (row_order ns) }
     {
         self.any_items(On1(f))
     }
@@ -101,6 +105,7 @@ impl<N: NdProducer<Dim = D>, D: Lengths> Zip<Parts<N, One>, D> {
     ) -> Result<Array<R, D>, AllocError>
         requires callable { (o : Order) → MayGather (N.yields_at self.nested) (call_gives1 F.FnMut) (can_call1 F.FnMut) (box_in o (N.lengths self.nested)) f }
         ensures ran { IfOk result (λ g. (o : Order) × Collects (N.yields_at self.nested) (call_gives1 F.FnMut) o (N.lengths self.nested) f g) }
+        ensures follows { (ns : List ℕ) (h : List ℕ → R) → N.lengths self.nested ≡ ns → Computes (N.yields_at self.nested) (call_gives1 F.FnMut) f ns h → IfOk result (λ g. g ≡ array_by ns h) }
         ensures axes { IfOk result (λ g. D.has_axes (length g.lengths)) }
         ensures whole { IfOk result IsGrid }
         ensures empty { size (N.lengths self.nested) ≡ 0 → IsOk result }
@@ -124,6 +129,7 @@ impl<N: NdProducer<Dim = D>, D: Lengths> Zip<Parts<N, One>, D> {
         requires same { N.lengths self.nested ≡ into.old.lengths }
         requires callable { (o : Order) → MayGather (N.yields_at self.nested) (call_gives1 F.FnMut) (can_call1 F.FnMut) (box_in o (N.lengths self.nested)) f }
         ensures ran { (o : Order) × Collects (N.yields_at self.nested) (call_gives1 F.FnMut) o (N.lengths self.nested) f into.new }
+        ensures follows { (ns : List ℕ) (h : List ℕ → R) → N.lengths self.nested ≡ ns → Computes (N.yields_at self.nested) (call_gives1 F.FnMut) f ns h → into.new ≡ array_by ns h }
         ensures whole { IsGrid into.new }
     {
         self.assign_items(into, On1(f))
@@ -152,6 +158,7 @@ impl<X, Y, N: NdProducer<Item = (X, Y), Dim = D>, D: Lengths> Zip<Parts<N, Two>,
     pub fn fold<B, F: FnMut(B, X, Y) -> B>(self, acc: B, f: F) -> B
         requires callable { (o : Order) → MayFold (N.yields_at self.nested) (call_gives_fold2 F.FnMut) (can_call_fold2 F.FnMut) (box_in o (N.lengths self.nested)) f acc }
         ensures ran { (o : Order) × Folds (N.yields_at self.nested) (call_gives_fold2 F.FnMut) (box_in o (N.lengths self.nested)) f acc result }
+        ensures follows { (ns : List ℕ) (h : B → List ℕ → B) → N.lengths self.nested ≡ ns → ComputesTotals (N.yields_at self.nested) (call_gives_fold2 F.FnMut) f ns h → result ≡ fold h acc (row_order ns) }
     {
         self.fold_items(acc, On2(f))
     }
@@ -181,6 +188,7 @@ impl<X, Y, N: NdProducer<Item = (X, Y), Dim = D>, D: Lengths> Zip<Parts<N, Two>,
     pub fn all<F: FnMut(X, Y) -> bool>(self, f: F) -> bool
         requires callable { (o : Order) → MayTest (N.yields_at self.nested) (call_gives2 F.FnMut) (can_call2 F.FnMut) (box_in o (N.lengths self.nested)) f true }
         ensures ran { (o : Order) × TestsUntil (N.yields_at self.nested) (call_gives2 F.FnMut) (box_in o (N.lengths self.nested)) f true false result }
+        ensures follows { (ns : List ℕ) (h : List ℕ → Bool) → N.lengths self.nested ≡ ns → Computes (N.yields_at self.nested) (call_gives2 F.FnMut) f ns h → result ≡ list_all h (row_order ns) }
     {
         self.all_items(On2(f))
     }
@@ -194,6 +202,7 @@ impl<X, Y, N: NdProducer<Item = (X, Y), Dim = D>, D: Lengths> Zip<Parts<N, Two>,
     pub fn any<F: FnMut(X, Y) -> bool>(self, f: F) -> bool
         requires callable { (o : Order) → MayTest (N.yields_at self.nested) (call_gives2 F.FnMut) (can_call2 F.FnMut) (box_in o (N.lengths self.nested)) f false }
         ensures ran { (o : Order) × TestsUntil (N.yields_at self.nested) (call_gives2 F.FnMut) (box_in o (N.lengths self.nested)) f false true result }
+        ensures follows { (ns : List ℕ) (h : List ℕ → Bool) → N.lengths self.nested ≡ ns → Computes (N.yields_at self.nested) (call_gives2 F.FnMut) f ns h → result ≡ list_any h (row_order ns) }
     {
         self.any_items(On2(f))
     }
@@ -213,6 +222,7 @@ impl<X, Y, N: NdProducer<Item = (X, Y), Dim = D>, D: Lengths> Zip<Parts<N, Two>,
     ) -> Result<Array<R, D>, AllocError>
         requires callable { (o : Order) → MayGather (N.yields_at self.nested) (call_gives2 F.FnMut) (can_call2 F.FnMut) (box_in o (N.lengths self.nested)) f }
         ensures ran { IfOk result (λ g. (o : Order) × Collects (N.yields_at self.nested) (call_gives2 F.FnMut) o (N.lengths self.nested) f g) }
+        ensures follows { (ns : List ℕ) (h : List ℕ → R) → N.lengths self.nested ≡ ns → Computes (N.yields_at self.nested) (call_gives2 F.FnMut) f ns h → IfOk result (λ g. g ≡ array_by ns h) }
         ensures axes { IfOk result (λ g. D.has_axes (length g.lengths)) }
         ensures whole { IfOk result IsGrid }
         ensures empty { size (N.lengths self.nested) ≡ 0 → IsOk result }
@@ -236,6 +246,7 @@ impl<X, Y, N: NdProducer<Item = (X, Y), Dim = D>, D: Lengths> Zip<Parts<N, Two>,
         requires same { N.lengths self.nested ≡ into.old.lengths }
         requires callable { (o : Order) → MayGather (N.yields_at self.nested) (call_gives2 F.FnMut) (can_call2 F.FnMut) (box_in o (N.lengths self.nested)) f }
         ensures ran { (o : Order) × Collects (N.yields_at self.nested) (call_gives2 F.FnMut) o (N.lengths self.nested) f into.new }
+        ensures follows { (ns : List ℕ) (h : List ℕ → R) → N.lengths self.nested ≡ ns → Computes (N.yields_at self.nested) (call_gives2 F.FnMut) f ns h → into.new ≡ array_by ns h }
         ensures whole { IsGrid into.new }
     {
         self.assign_items(into, On2(f))
@@ -264,6 +275,7 @@ impl<X, Y, Z, N: NdProducer<Item = ((X, Y), Z), Dim = D>, D: Lengths> Zip<Parts<
     pub fn fold<B, F: FnMut(B, X, Y, Z) -> B>(self, acc: B, f: F) -> B
         requires callable { (o : Order) → MayFold (N.yields_at self.nested) (call_gives_fold3 F.FnMut) (can_call_fold3 F.FnMut) (box_in o (N.lengths self.nested)) f acc }
         ensures ran { (o : Order) × Folds (N.yields_at self.nested) (call_gives_fold3 F.FnMut) (box_in o (N.lengths self.nested)) f acc result }
+        ensures follows { (ns : List ℕ) (h : B → List ℕ → B) → N.lengths self.nested ≡ ns → ComputesTotals (N.yields_at self.nested) (call_gives_fold3 F.FnMut) f ns h → result ≡ fold h acc (row_order ns) }
     {
         self.fold_items(acc, On3(f))
     }
@@ -293,6 +305,7 @@ impl<X, Y, Z, N: NdProducer<Item = ((X, Y), Z), Dim = D>, D: Lengths> Zip<Parts<
     pub fn all<F: FnMut(X, Y, Z) -> bool>(self, f: F) -> bool
         requires callable { (o : Order) → MayTest (N.yields_at self.nested) (call_gives3 F.FnMut) (can_call3 F.FnMut) (box_in o (N.lengths self.nested)) f true }
         ensures ran { (o : Order) × TestsUntil (N.yields_at self.nested) (call_gives3 F.FnMut) (box_in o (N.lengths self.nested)) f true false result }
+        ensures follows { (ns : List ℕ) (h : List ℕ → Bool) → N.lengths self.nested ≡ ns → Computes (N.yields_at self.nested) (call_gives3 F.FnMut) f ns h → result ≡ list_all h (row_order ns) }
     {
         self.all_items(On3(f))
     }
@@ -306,6 +319,7 @@ impl<X, Y, Z, N: NdProducer<Item = ((X, Y), Z), Dim = D>, D: Lengths> Zip<Parts<
     pub fn any<F: FnMut(X, Y, Z) -> bool>(self, f: F) -> bool
         requires callable { (o : Order) → MayTest (N.yields_at self.nested) (call_gives3 F.FnMut) (can_call3 F.FnMut) (box_in o (N.lengths self.nested)) f false }
         ensures ran { (o : Order) × TestsUntil (N.yields_at self.nested) (call_gives3 F.FnMut) (box_in o (N.lengths self.nested)) f false true result }
+        ensures follows { (ns : List ℕ) (h : List ℕ → Bool) → N.lengths self.nested ≡ ns → Computes (N.yields_at self.nested) (call_gives3 F.FnMut) f ns h → result ≡ list_any h (row_order ns) }
     {
         self.any_items(On3(f))
     }
@@ -325,6 +339,7 @@ impl<X, Y, Z, N: NdProducer<Item = ((X, Y), Z), Dim = D>, D: Lengths> Zip<Parts<
     ) -> Result<Array<R, D>, AllocError>
         requires callable { (o : Order) → MayGather (N.yields_at self.nested) (call_gives3 F.FnMut) (can_call3 F.FnMut) (box_in o (N.lengths self.nested)) f }
         ensures ran { IfOk result (λ g. (o : Order) × Collects (N.yields_at self.nested) (call_gives3 F.FnMut) o (N.lengths self.nested) f g) }
+        ensures follows { (ns : List ℕ) (h : List ℕ → R) → N.lengths self.nested ≡ ns → Computes (N.yields_at self.nested) (call_gives3 F.FnMut) f ns h → IfOk result (λ g. g ≡ array_by ns h) }
         ensures axes { IfOk result (λ g. D.has_axes (length g.lengths)) }
         ensures whole { IfOk result IsGrid }
         ensures empty { size (N.lengths self.nested) ≡ 0 → IsOk result }
@@ -348,6 +363,7 @@ impl<X, Y, Z, N: NdProducer<Item = ((X, Y), Z), Dim = D>, D: Lengths> Zip<Parts<
         requires same { N.lengths self.nested ≡ into.old.lengths }
         requires callable { (o : Order) → MayGather (N.yields_at self.nested) (call_gives3 F.FnMut) (can_call3 F.FnMut) (box_in o (N.lengths self.nested)) f }
         ensures ran { (o : Order) × Collects (N.yields_at self.nested) (call_gives3 F.FnMut) o (N.lengths self.nested) f into.new }
+        ensures follows { (ns : List ℕ) (h : List ℕ → R) → N.lengths self.nested ≡ ns → Computes (N.yields_at self.nested) (call_gives3 F.FnMut) f ns h → into.new ≡ array_by ns h }
         ensures whole { IsGrid into.new }
     {
         self.assign_items(into, On3(f))
@@ -379,6 +395,7 @@ impl<X, Y, Z, U, N: NdProducer<Item = (((X, Y), Z), U), Dim = D>, D: Lengths> Zi
     pub fn fold<B, F: FnMut(B, X, Y, Z, U) -> B>(self, acc: B, f: F) -> B
         requires callable { (o : Order) → MayFold (N.yields_at self.nested) (call_gives_fold4 F.FnMut) (can_call_fold4 F.FnMut) (box_in o (N.lengths self.nested)) f acc }
         ensures ran { (o : Order) × Folds (N.yields_at self.nested) (call_gives_fold4 F.FnMut) (box_in o (N.lengths self.nested)) f acc result }
+        ensures follows { (ns : List ℕ) (h : B → List ℕ → B) → N.lengths self.nested ≡ ns → ComputesTotals (N.yields_at self.nested) (call_gives_fold4 F.FnMut) f ns h → result ≡ fold h acc (row_order ns) }
     {
         self.fold_items(acc, On4(f))
     }
@@ -412,6 +429,7 @@ impl<X, Y, Z, U, N: NdProducer<Item = (((X, Y), Z), U), Dim = D>, D: Lengths> Zi
     pub fn all<F: FnMut(X, Y, Z, U) -> bool>(self, f: F) -> bool
         requires callable { (o : Order) → MayTest (N.yields_at self.nested) (call_gives4 F.FnMut) (can_call4 F.FnMut) (box_in o (N.lengths self.nested)) f true }
         ensures ran { (o : Order) × TestsUntil (N.yields_at self.nested) (call_gives4 F.FnMut) (box_in o (N.lengths self.nested)) f true false result }
+        ensures follows { (ns : List ℕ) (h : List ℕ → Bool) → N.lengths self.nested ≡ ns → Computes (N.yields_at self.nested) (call_gives4 F.FnMut) f ns h → result ≡ list_all h (row_order ns) }
     {
         self.all_items(On4(f))
     }
@@ -425,6 +443,7 @@ impl<X, Y, Z, U, N: NdProducer<Item = (((X, Y), Z), U), Dim = D>, D: Lengths> Zi
     pub fn any<F: FnMut(X, Y, Z, U) -> bool>(self, f: F) -> bool
         requires callable { (o : Order) → MayTest (N.yields_at self.nested) (call_gives4 F.FnMut) (can_call4 F.FnMut) (box_in o (N.lengths self.nested)) f false }
         ensures ran { (o : Order) × TestsUntil (N.yields_at self.nested) (call_gives4 F.FnMut) (box_in o (N.lengths self.nested)) f false true result }
+        ensures follows { (ns : List ℕ) (h : List ℕ → Bool) → N.lengths self.nested ≡ ns → Computes (N.yields_at self.nested) (call_gives4 F.FnMut) f ns h → result ≡ list_any h (row_order ns) }
     {
         self.any_items(On4(f))
     }
@@ -444,6 +463,7 @@ impl<X, Y, Z, U, N: NdProducer<Item = (((X, Y), Z), U), Dim = D>, D: Lengths> Zi
     ) -> Result<Array<R, D>, AllocError>
         requires callable { (o : Order) → MayGather (N.yields_at self.nested) (call_gives4 F.FnMut) (can_call4 F.FnMut) (box_in o (N.lengths self.nested)) f }
         ensures ran { IfOk result (λ g. (o : Order) × Collects (N.yields_at self.nested) (call_gives4 F.FnMut) o (N.lengths self.nested) f g) }
+        ensures follows { (ns : List ℕ) (h : List ℕ → R) → N.lengths self.nested ≡ ns → Computes (N.yields_at self.nested) (call_gives4 F.FnMut) f ns h → IfOk result (λ g. g ≡ array_by ns h) }
         ensures axes { IfOk result (λ g. D.has_axes (length g.lengths)) }
         ensures whole { IfOk result IsGrid }
         ensures empty { size (N.lengths self.nested) ≡ 0 → IsOk result }
@@ -467,6 +487,7 @@ impl<X, Y, Z, U, N: NdProducer<Item = (((X, Y), Z), U), Dim = D>, D: Lengths> Zi
         requires same { N.lengths self.nested ≡ into.old.lengths }
         requires callable { (o : Order) → MayGather (N.yields_at self.nested) (call_gives4 F.FnMut) (can_call4 F.FnMut) (box_in o (N.lengths self.nested)) f }
         ensures ran { (o : Order) × Collects (N.yields_at self.nested) (call_gives4 F.FnMut) o (N.lengths self.nested) f into.new }
+        ensures follows { (ns : List ℕ) (h : List ℕ → R) → N.lengths self.nested ≡ ns → Computes (N.yields_at self.nested) (call_gives4 F.FnMut) f ns h → into.new ≡ array_by ns h }
         ensures whole { IsGrid into.new }
     {
         self.assign_items(into, On4(f))
@@ -498,6 +519,7 @@ impl<X, Y, Z, U, V, N: NdProducer<Item = ((((X, Y), Z), U), V), Dim = D>, D: Len
     pub fn fold<B, F: FnMut(B, X, Y, Z, U, V) -> B>(self, acc: B, f: F) -> B
         requires callable { (o : Order) → MayFold (N.yields_at self.nested) (call_gives_fold5 F.FnMut) (can_call_fold5 F.FnMut) (box_in o (N.lengths self.nested)) f acc }
         ensures ran { (o : Order) × Folds (N.yields_at self.nested) (call_gives_fold5 F.FnMut) (box_in o (N.lengths self.nested)) f acc result }
+        ensures follows { (ns : List ℕ) (h : B → List ℕ → B) → N.lengths self.nested ≡ ns → ComputesTotals (N.yields_at self.nested) (call_gives_fold5 F.FnMut) f ns h → result ≡ fold h acc (row_order ns) }
     {
         self.fold_items(acc, On5(f))
     }
@@ -531,6 +553,7 @@ impl<X, Y, Z, U, V, N: NdProducer<Item = ((((X, Y), Z), U), V), Dim = D>, D: Len
     pub fn all<F: FnMut(X, Y, Z, U, V) -> bool>(self, f: F) -> bool
         requires callable { (o : Order) → MayTest (N.yields_at self.nested) (call_gives5 F.FnMut) (can_call5 F.FnMut) (box_in o (N.lengths self.nested)) f true }
         ensures ran { (o : Order) × TestsUntil (N.yields_at self.nested) (call_gives5 F.FnMut) (box_in o (N.lengths self.nested)) f true false result }
+        ensures follows { (ns : List ℕ) (h : List ℕ → Bool) → N.lengths self.nested ≡ ns → Computes (N.yields_at self.nested) (call_gives5 F.FnMut) f ns h → result ≡ list_all h (row_order ns) }
     {
         self.all_items(On5(f))
     }
@@ -544,6 +567,7 @@ impl<X, Y, Z, U, V, N: NdProducer<Item = ((((X, Y), Z), U), V), Dim = D>, D: Len
     pub fn any<F: FnMut(X, Y, Z, U, V) -> bool>(self, f: F) -> bool
         requires callable { (o : Order) → MayTest (N.yields_at self.nested) (call_gives5 F.FnMut) (can_call5 F.FnMut) (box_in o (N.lengths self.nested)) f false }
         ensures ran { (o : Order) × TestsUntil (N.yields_at self.nested) (call_gives5 F.FnMut) (box_in o (N.lengths self.nested)) f false true result }
+        ensures follows { (ns : List ℕ) (h : List ℕ → Bool) → N.lengths self.nested ≡ ns → Computes (N.yields_at self.nested) (call_gives5 F.FnMut) f ns h → result ≡ list_any h (row_order ns) }
     {
         self.any_items(On5(f))
     }
@@ -563,6 +587,7 @@ impl<X, Y, Z, U, V, N: NdProducer<Item = ((((X, Y), Z), U), V), Dim = D>, D: Len
     ) -> Result<Array<R, D>, AllocError>
         requires callable { (o : Order) → MayGather (N.yields_at self.nested) (call_gives5 F.FnMut) (can_call5 F.FnMut) (box_in o (N.lengths self.nested)) f }
         ensures ran { IfOk result (λ g. (o : Order) × Collects (N.yields_at self.nested) (call_gives5 F.FnMut) o (N.lengths self.nested) f g) }
+        ensures follows { (ns : List ℕ) (h : List ℕ → R) → N.lengths self.nested ≡ ns → Computes (N.yields_at self.nested) (call_gives5 F.FnMut) f ns h → IfOk result (λ g. g ≡ array_by ns h) }
         ensures axes { IfOk result (λ g. D.has_axes (length g.lengths)) }
         ensures whole { IfOk result IsGrid }
         ensures empty { size (N.lengths self.nested) ≡ 0 → IsOk result }
@@ -586,6 +611,7 @@ impl<X, Y, Z, U, V, N: NdProducer<Item = ((((X, Y), Z), U), V), Dim = D>, D: Len
         requires same { N.lengths self.nested ≡ into.old.lengths }
         requires callable { (o : Order) → MayGather (N.yields_at self.nested) (call_gives5 F.FnMut) (can_call5 F.FnMut) (box_in o (N.lengths self.nested)) f }
         ensures ran { (o : Order) × Collects (N.yields_at self.nested) (call_gives5 F.FnMut) o (N.lengths self.nested) f into.new }
+        ensures follows { (ns : List ℕ) (h : List ℕ → R) → N.lengths self.nested ≡ ns → Computes (N.yields_at self.nested) (call_gives5 F.FnMut) f ns h → into.new ≡ array_by ns h }
         ensures whole { IsGrid into.new }
     {
         self.assign_items(into, On5(f))
@@ -617,6 +643,7 @@ impl<X, Y, Z, U, V, W, N: NdProducer<Item = (((((X, Y), Z), U), V), W), Dim = D>
     pub fn fold<B, F: FnMut(B, X, Y, Z, U, V, W) -> B>(self, acc: B, f: F) -> B
         requires callable { (o : Order) → MayFold (N.yields_at self.nested) (call_gives_fold6 F.FnMut) (can_call_fold6 F.FnMut) (box_in o (N.lengths self.nested)) f acc }
         ensures ran { (o : Order) × Folds (N.yields_at self.nested) (call_gives_fold6 F.FnMut) (box_in o (N.lengths self.nested)) f acc result }
+        ensures follows { (ns : List ℕ) (h : B → List ℕ → B) → N.lengths self.nested ≡ ns → ComputesTotals (N.yields_at self.nested) (call_gives_fold6 F.FnMut) f ns h → result ≡ fold h acc (row_order ns) }
     {
         self.fold_items(acc, On6(f))
     }
@@ -651,6 +678,7 @@ impl<X, Y, Z, U, V, W, N: NdProducer<Item = (((((X, Y), Z), U), V), W), Dim = D>
     pub fn all<F: FnMut(X, Y, Z, U, V, W) -> bool>(self, f: F) -> bool
         requires callable { (o : Order) → MayTest (N.yields_at self.nested) (call_gives6 F.FnMut) (can_call6 F.FnMut) (box_in o (N.lengths self.nested)) f true }
         ensures ran { (o : Order) × TestsUntil (N.yields_at self.nested) (call_gives6 F.FnMut) (box_in o (N.lengths self.nested)) f true false result }
+        ensures follows { (ns : List ℕ) (h : List ℕ → Bool) → N.lengths self.nested ≡ ns → Computes (N.yields_at self.nested) (call_gives6 F.FnMut) f ns h → result ≡ list_all h (row_order ns) }
     {
         self.all_items(On6(f))
     }
@@ -664,6 +692,7 @@ impl<X, Y, Z, U, V, W, N: NdProducer<Item = (((((X, Y), Z), U), V), W), Dim = D>
     pub fn any<F: FnMut(X, Y, Z, U, V, W) -> bool>(self, f: F) -> bool
         requires callable { (o : Order) → MayTest (N.yields_at self.nested) (call_gives6 F.FnMut) (can_call6 F.FnMut) (box_in o (N.lengths self.nested)) f false }
         ensures ran { (o : Order) × TestsUntil (N.yields_at self.nested) (call_gives6 F.FnMut) (box_in o (N.lengths self.nested)) f false true result }
+        ensures follows { (ns : List ℕ) (h : List ℕ → Bool) → N.lengths self.nested ≡ ns → Computes (N.yields_at self.nested) (call_gives6 F.FnMut) f ns h → result ≡ list_any h (row_order ns) }
     {
         self.any_items(On6(f))
     }

@@ -1,53 +1,17 @@
 //! The index lists of a box, as a producer.
 
-ghost use Rattle.std.specs.Prelude.{◌≡◌, Some, map, filter_map, ⊤};
+ghost use Rattle.std.specs.Prelude.{◌≡◌, Some, filter_map, ⊤};
 ghost use Rattle.std.specs.Iterator.{YieldsFirst, YieldsFirstBy, item_count};
 ghost use Rattle.std.proofs.Common.{ap};
-ghost use Rattle.ndarray.specs.Grid.{cell, IsGrid, HasCells};
-ghost use Rattle.ndarray.specs.order.Rows.{rows_in};
+ghost use Rattle.ndarray.specs.Grid.{cell, HasCells};
 
 use crate::base::axis::Axis;
 use crate::base::dimension::{Dimension, Lengths};
 use crate::base::index_lists::{IndexRow, Indices};
+use crate::order::Order;
 use crate::order::rows::BoxRows;
-use crate::order::{Order, Walk};
 use crate::zip::producer::{KeepsLengths, NdProducer, Shaped};
 use std::marker::Model;
-
-/// The iterator over index lists, as patterns. A contract sees it as the list of those still to come.
-///
-/// Neither making an iterator nor any of its steps allocates.
-#[derive(Drop)]
-pub struct Patterns<D: Lengths> {
-    lists: Indices<D>,
-    walk: Walk<D>,
-}
-
-impl<D: Lengths> Model for Patterns<D> {
-    ghost use Rattle.std.specs.Prelude.{List, ℕ, filter_map};
-    ghost use Rattle.ndarray.specs.Grid.{HasCells, cell};
-
-    ghost Value = { List (List ℕ) };
-
-    ghost view = { λ s. filter_map (cell s.lists) s.walk };
-
-    ghost invariant = { λ s. HasCells s.lists s.walk };
-}
-
-impl<D: Dimension> Iterator for Patterns<D> {
-    type Item = D::Pattern;
-
-    ghost next_gives = { YieldsFirstBy D.pattern_numbers (λ rest. rest) };
-
-    ghost remaining = { item_count (λ rest. rest) };
-
-    fn next(&mut self) -> Option<D::Pattern> {
-        let Some(index) = self.walk.next() else {
-            return None;
-        };
-        Some(self.lists.list(&index).into_pattern())
-    }
-}
 
 impl<D: Lengths> Shaped for Indices<D> {
     ghost lengths = { λ s. s.lengths };
@@ -58,8 +22,6 @@ impl<D: Dimension> NdProducer for Indices<D> {
 
     type Dim = D;
 
-    type Run = Patterns<D>;
-
     ghost yields_at = { λ s i x. cell s i ≡ Some (D.pattern_numbers x) };
 
     fn raw_dim(&self) -> D {
@@ -68,11 +30,6 @@ impl<D: Dimension> NdProducer for Indices<D> {
 
     fn split_at(self, axis: Axis, index: usize) -> (Self, Self) {
         self.split_at(axis, index)
-    }
-
-    fn run(self, order: Order) -> Patterns<D> {
-        let walk = Walk::new(self.raw_dim(), order);
-        Patterns { lists: self, walk }
     }
 
     fn tendency(&self) -> i32 {
@@ -91,27 +48,21 @@ impl<D: Dimension> NdProducer for Indices<D> {
 
     ghost is_flat = { λ _. ⊤ };
 
-    type Ordered = PatternRows<D>;
-
-    ghost ordered_form = { λ s o rows. (rows ≡ map (filter_map (cell s)) (rows_in o s.lengths)) × IsGrid s };
+    ghost rows_form = { λ _ _ _. ⊤ };
 
     ghost is_one = { λ _. ⊥ };
 
-    fn in_order(self, order: Order) -> PatternRows<D> {
+    fn into_rows(self, order: Order) -> PatternRows<D> {
         let rows = BoxRows::new(self.raw_dim(), order);
         PatternRows { lists: self, rows }
     }
 
-    fn is_one_row(_ordered: &PatternRows<D>) -> bool {
+    fn is_one_row(_rows: &PatternRows<D>) -> bool {
         false
     }
 
-    fn one_row(_ordered: PatternRows<D>) -> Option<IndexRow<D>> {
+    fn one_row(_rows: PatternRows<D>) -> Option<IndexRow<D>> {
         None
-    }
-
-    fn rows(ordered: PatternRows<D>) -> PatternRows<D> {
-        ordered
     }
 
     fn is_flat_row(_row: &IndexRow<D>) -> bool {

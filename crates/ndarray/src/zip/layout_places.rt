@@ -1,10 +1,11 @@
 //! The places of an array's cells as a producer: what updates an array walks them next to the items that it takes.
 
-ghost use Rattle.std.specs.Prelude.{◌≡◌, ◌<◌, ℕ, length, map};
+ghost use Rattle.std.specs.Prelude.{◌≡◌, ℕ, length, IsSome};
 ghost use Rattle.std.specs.Iterator.{YieldsFirst, item_count};
 ghost use Rattle.ndarray.specs.Limits.{IsWithinLimit};
 ghost use Rattle.ndarray.specs.base.Places.{place};
-ghost use Rattle.ndarray.specs.base.Strided.{LieSideBySide, places_from};
+ghost use Rattle.ndarray.specs.base.Strided.{places_from};
+ghost use Rattle.ndarray.specs.order.Rows.{AreRowsIn};
 ghost use Rattle.ndarray.specs.places.ElementPlaces.{places_along};
 
 use crate::base::axis::Axis;
@@ -12,7 +13,7 @@ use crate::base::dimension::Lengths;
 use crate::base::layout::Layout;
 use crate::order::Order;
 use crate::order::rows::BoxRows;
-use crate::places::place_rows::{PlaceRow, StridedPlaces};
+use crate::places::place_rows::PlaceRow;
 use crate::zip::producer::{NdProducer, Shaped};
 use std::marker::Model;
 
@@ -44,8 +45,6 @@ impl<D: Lengths> NdProducer for LayoutPlaces<D> {
 
     type Dim = D;
 
-    type Run = StridedPlaces<D>;
-
     ghost yields_at = { λ s i p. p ≡ place s.layout.start (D.numbers s.layout.strides) i };
 
     fn raw_dim(&self) -> D {
@@ -59,10 +58,6 @@ impl<D: Lengths> NdProducer for LayoutPlaces<D> {
         let mut high = self.layout;
         high.cut(axis.0, index, len - index, 1);
         (LayoutPlaces::of(low), LayoutPlaces::of(high))
-    }
-
-    fn run(self, order: Order) -> StridedPlaces<D> {
-        StridedPlaces::new(self.layout, order)
     }
 
     fn tendency(&self) -> i32 {
@@ -81,36 +76,28 @@ impl<D: Lengths> NdProducer for LayoutPlaces<D> {
 
     ghost is_flat = { λ r. (p : ℕ) × (r ≡ places_from p 1 (length r)) };
 
-    type Ordered = (Self, Order);
+    ghost rows_form = { λ s o r. AreRowsIn (places_along s.layout.start (D.numbers s.layout.strides)) o (D.numbers s.layout.dim) r };
 
-    ghost ordered_form = { λ s o r. (r.0 ≡ s) × (r.1 ≡ o) };
+    ghost is_one = { λ r. IsSome r.one };
 
-    ghost is_one = { λ r. LieSideBySide r.1 (D.numbers r.0.layout.dim) r.0.layout.start (D.numbers r.0.layout.strides) };
-
-    fn in_order(self, order: Order) -> (Self, Order) {
-        (self, order)
-    }
-
-    fn is_one_row(ordered: &(Self, Order)) -> bool {
-        ordered.0.layout.is_contiguous_in(ordered.1)
-    }
-
-    fn one_row(ordered: (Self, Order)) -> Option<PlaceRow> {
-        let layout = ordered.0.layout;
-        Some(PlaceRow {
-            place: layout.start,
-            stride: 1,
-            left: layout.dim.size(),
-        })
-    }
-
-    fn rows(ordered: (Self, Order)) -> PlaceRows<D> {
-        let (places, order) = ordered;
-        let rows = BoxRows::new(places.raw_dim(), order);
+    #[inline(always)]
+    fn into_rows(self, order: Order) -> PlaceRows<D> {
+        let rows = BoxRows::new(self.raw_dim(), order);
         PlaceRows {
-            layout: places.layout,
+            one: PlaceRow::in_order(&self.layout, order),
+            layout: self.layout,
             rows,
         }
+    }
+
+    #[inline(always)]
+    fn is_one_row(rows: &PlaceRows<D>) -> bool {
+        rows.one.is_some()
+    }
+
+    #[inline(always)]
+    fn one_row(rows: PlaceRows<D>) -> Option<PlaceRow> {
+        rows.one
     }
 
     #[inline(always)]
@@ -134,20 +121,22 @@ impl<D: Lengths> NdProducer for LayoutPlaces<D> {
     }
 }
 
-/// The rows of places that are still to come.
+/// The rows of places that are still to come, and all places as one row if they are known to follow one another.
 #[derive(Drop)]
 pub(crate) struct PlaceRows<D: Lengths> {
+    one: Option<PlaceRow>,
     layout: Layout<D>,
     rows: BoxRows<D>,
 }
 
 impl<D: Lengths> Model for PlaceRows<D> {
     ghost use Rattle.std.specs.Prelude.{List, ℕ, ◌<◌, ◌≡◌, All, length, map};
+    ghost use Rattle.ndarray.specs.order.Rows.{RowsAndOne};
     ghost use Rattle.ndarray.specs.places.ElementPlaces.{places_along};
 
-    ghost Value = { List (List ℕ) };
+    ghost Value = { RowsAndOne (List ℕ) };
 
-    ghost view = { λ s. map (places_along s.layout.start (D.numbers s.layout.strides)) s.rows };
+    ghost view = { λ s. record { one = s.one; rows = map (places_along s.layout.start (D.numbers s.layout.strides)) s.rows } };
 
     ghost invariant = { λ s. All (λ row. (0 < length row) × All (λ is. length (D.numbers s.layout.strides) ≡ length is) row) s.rows };
 }
@@ -155,19 +144,15 @@ impl<D: Lengths> Model for PlaceRows<D> {
 impl<D: Lengths> Iterator for PlaceRows<D> {
     type Item = PlaceRow;
 
-    ghost next_gives = { YieldsFirst (λ rest. rest) };
+    ghost next_gives = { YieldsFirst (λ s. s.rows) };
 
-    ghost remaining = { item_count (λ rest. rest) };
+    ghost remaining = { item_count (λ s. s.rows) };
 
     #[inline(always)]
     fn next(&mut self) -> Option<PlaceRow> {
         let Some(row) = self.rows.next() else {
             return None;
         };
-        Some(PlaceRow {
-            place: self.layout.place(&row.first),
-            stride: self.layout.stride(row.axis),
-            left: row.count,
-        })
+        Some(PlaceRow::along(&self.layout, &row))
     }
 }

@@ -28,8 +28,6 @@ impl<P: NdProducer, Q: NdProducer> NdProducer for Pair<P, Q> {
 
     type Dim = P::Dim;
 
-    type Run = PairRun<P::Run, Q::Run>;
-
     ghost yields_at = { λ s. both (P.yields_at s.first) (Q.yields_at s.second) };
 
     fn raw_dim(&self) -> P::Dim {
@@ -53,14 +51,6 @@ impl<P: NdProducer, Q: NdProducer> NdProducer for Pair<P, Q> {
         )
     }
 
-    fn run(self, order: Order) -> PairRun<P::Run, Q::Run> {
-        let Pair { first, second } = self;
-        PairRun {
-            first: first.run(order),
-            second: second.run(order),
-        }
-    }
-
     fn tendency(&self) -> i32 {
         self.first.tendency().saturating_add(self.second.tendency())
     }
@@ -77,26 +67,27 @@ impl<P: NdProducer, Q: NdProducer> NdProducer for Pair<P, Q> {
 
     ghost is_flat = { λ r. P.is_flat r.0 × Q.is_flat r.1 };
 
-    type Ordered = (P::Ordered, Q::Ordered);
+    ghost rows_form = { λ s o r. P.rows_form s.first o r.first × Q.rows_form s.second o r.second };
 
-    ghost ordered_form = { λ s o r. P.ordered_form s.first o r.0 × Q.ordered_form s.second o r.1 };
-
-    ghost is_one = { λ r. P.is_one r.0 × Q.is_one r.1 };
+    ghost is_one = { λ r. P.is_one r.first × Q.is_one r.second };
 
     #[inline(always)]
-    fn in_order(self, order: Order) -> (P::Ordered, Q::Ordered) {
+    fn into_rows(self, order: Order) -> PairRun<P::Rows, Q::Rows> {
         let Pair { first, second } = self;
-        (first.in_order(order), second.in_order(order))
+        PairRun {
+            first: first.into_rows(order),
+            second: second.into_rows(order),
+        }
     }
 
     #[inline(always)]
-    fn is_one_row(ordered: &(P::Ordered, Q::Ordered)) -> bool {
-        P::is_one_row(&ordered.0) && Q::is_one_row(&ordered.1)
+    fn is_one_row(rows: &PairRun<P::Rows, Q::Rows>) -> bool {
+        P::is_one_row(&rows.first) && Q::is_one_row(&rows.second)
     }
 
     #[inline(always)]
-    fn one_row(ordered: (P::Ordered, Q::Ordered)) -> Option<(P::Row, Q::Row)> {
-        let (first, second) = ordered;
+    fn one_row(rows: PairRun<P::Rows, Q::Rows>) -> Option<(P::Row, Q::Row)> {
+        let PairRun { first, second } = rows;
         let Some(first) = P::one_row(first) else {
             return None;
         };
@@ -104,14 +95,6 @@ impl<P: NdProducer, Q: NdProducer> NdProducer for Pair<P, Q> {
             return None;
         };
         Some((first, second))
-    }
-
-    fn rows(ordered: (P::Ordered, Q::Ordered)) -> PairRun<P::Rows, Q::Rows> {
-        let (first, second) = ordered;
-        PairRun {
-            first: P::rows(first),
-            second: Q::rows(second),
-        }
     }
 
     #[inline(always)]
@@ -138,7 +121,7 @@ impl<P: NdProducer, Q: NdProducer> NdProducer for Pair<P, Q> {
     }
 }
 
-/// The items of two runs, side by side. Its step is inlined, while that of the standard library's `zip` is a call.
+/// The items of two iterators, side by side. Its step is inlined, while that of the standard library's `zip` is a call.
 #[derive(Drop)]
 pub struct PairRun<R, S> {
     pub(crate) first: R,

@@ -29,9 +29,6 @@ pub trait NdProducer: Shaped + Drop + Sized {
     /// The dimension of its lengths.
     type Dim: Lengths;
 
-    /// The items in an order, yielded one after another.
-    type Run: Iterator<Item = Self::Item>;
-
     // Whether an item may be yielded at an index list.
     ghost yields_at: { Self → List ℕ → Self.Item → Type 0 };
 
@@ -49,12 +46,6 @@ pub trait NdProducer: Shaped + Drop + Sized {
         requires index_at_most { index ≤ slice_index (Self.lengths self) axis.0 }
         ensures first { IsPart axis.0 0 index (Self.lengths self) (yields_at self) (Self.lengths result.0) (yields_at result.0) }
         ensures second { IsPart axis.0 index (slice_index (Self.lengths self) axis.0) (Self.lengths self) (yields_at self) (Self.lengths result.1) (yields_at result.1) };
-
-    /// An iterator over the items, one for each index list, in the order.
-    fn run(self, order: Order) -> Self::Run
-        ensures can { Self.Run.can_next result }
-        ensures finite { IsFinite (Self.Run.remaining result) }
-        ensures gives { YieldsInTurn Self.Run.next_gives (yields_at self) result (box_in order (Self.lengths self)) };
 
     /// Which order is faster: row order if it is positive, column order if it is negative, and neither if it is 0. No contract speaks of
     /// it.
@@ -80,36 +71,26 @@ pub trait NdProducer: Shaped + Drop + Sized {
     // Whether the items of a row lie side by side.
     ghost is_flat: { Self.Row → Type 0 };
 
-    /// The producer with an order for its items, and what is known of how they lie in memory.
-    type Ordered: Drop;
+    // Whether these are the rows of a producer in an order.
+    ghost rows_form: { Self → Order → Self.Rows → Type 0 };
 
-    // Whether it is that of a producer and an order.
-    ghost ordered_form: { Self → Order → Self.Ordered → Type 0 };
+    // Whether the items of all rows are known to be one row.
+    ghost is_one: { Self.Rows → Type 0 };
 
-    // Whether all items are one row.
-    ghost is_one: { Self.Ordered → Type 0 };
-
-    /// The producer, with the order for its items.
-    fn in_order(self, order: Order) -> Self::Ordered
-        ensures { ordered_form self order result };
-
-    /// Whether all items are known to be one row.
-    fn is_one_row(_ordered: &Self::Ordered) -> bool
-        ensures { IsTrue result → is_one _ordered.now }
-    {
-        false
-    }
-
-    /// All items as one row, if they are known to be one.
-    fn one_row(ordered: Self::Ordered) -> Option<Self::Row>
-        ensures { is_one ordered → MatchOption result ⊥ (λ row. (p : Self) (o : Order) → ordered_form p o ordered → row_form p (box_in o (Self.lengths p)) row) };
-
-    /// An iterator over the rows. Requires a producer that `in_order` returned.
-    fn rows(ordered: Self::Ordered) -> Self::Rows
-        requires { (p : Self) × ((o : Order) × ordered_form p o ordered) }
+    /// The rows in an order, one after another.
+    fn into_rows(self, order: Order) -> Self::Rows
+        ensures form { rows_form self order result }
         ensures can { Self.Rows.can_next result }
         ensures finite { IsFinite (Self.Rows.remaining result) }
-        ensures gives { (p : Self) (o : Order) → ordered_form p o ordered → RowsInTurn Self.Rows.next_gives (row_form p) result (rows_in o (Self.lengths p)) };
+        ensures gives { RowsInTurn Self.Rows.next_gives (row_form self) result (rows_in order (Self.lengths self)) };
+
+    /// Whether all items are known to be one row.
+    fn is_one_row(rows: &Self::Rows) -> bool
+        ensures { IsTrue result → is_one rows.now };
+
+    /// All items as one row, if they are known to be one. It is for rows of which none was taken.
+    fn one_row(rows: Self::Rows) -> Option<Self::Row>
+        ensures { is_one rows → MatchOption result ⊥ (λ row. (p : Self) (o : Order) → rows_form p o rows → row_form p (box_in o (Self.lengths p)) row) };
 
     /// Whether the items of a row are known to lie side by side.
     fn is_flat_row(row: &Self::Row) -> bool

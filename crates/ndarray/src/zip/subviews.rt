@@ -1,12 +1,10 @@
 //! Subviews as producers.
 
-ghost use Rattle.std.specs.Prelude.{◌≡◌, ◌∷◌, [], length, Some, map, filter_map, ⊤};
+ghost use Rattle.std.specs.Prelude.{◌≡◌, ◌∷◌, [], length, Some, filter_map, ⊤};
 ghost use Rattle.std.specs.Iterator.{YieldsFirst, item_count};
-ghost use Rattle.std.specs.Iterator.Adapters.{once_steps};
 ghost use Rattle.std.proofs.Common.{ap};
-ghost use Rattle.ndarray.specs.Grid.{cell, one_axis, IsGrid, HasCells};
+ghost use Rattle.ndarray.specs.Grid.{cell, one_axis, HasCells};
 ghost use Rattle.ndarray.specs.Producers.{YieldsInTurn};
-ghost use Rattle.ndarray.specs.order.Rows.{rows_in, RowsInTurn};
 
 use crate::base::array::ArrayView;
 use crate::base::axis::Axis;
@@ -15,7 +13,7 @@ use crate::order::Order;
 use crate::order::rows::BoxRows;
 use crate::subviews::axis::AxisIter;
 use crate::subviews::piece_rows::PieceRow;
-use crate::subviews::pieces::{Pieces, PiecesIter};
+use crate::subviews::pieces::Pieces;
 use crate::subviews::windows::{AxisWindows, WindowsIter};
 use crate::zip::producer::{KeepsLengths, NdProducer, Shaped, rows_of_axis};
 use std::iter::Once;
@@ -30,8 +28,6 @@ impl<'a, A, P: Lengths, D: Lengths> NdProducer for Pieces<'a, A, P, D> {
 
     type Dim = P;
 
-    type Run = PiecesIter<'a, A, P, D>;
-
     ghost yields_at = { λ s i x. cell s i ≡ Some x };
 
     fn raw_dim(&self) -> P {
@@ -40,10 +36,6 @@ impl<'a, A, P: Lengths, D: Lengths> NdProducer for Pieces<'a, A, P, D> {
 
     fn split_at(self, axis: Axis, index: usize) -> (Self, Self) {
         self.split_at(axis, index)
-    }
-
-    fn run(self, order: Order) -> PiecesIter<'a, A, P, D> {
-        self.run(order)
     }
 
     fn tendency(&self) -> i32 {
@@ -62,27 +54,21 @@ impl<'a, A, P: Lengths, D: Lengths> NdProducer for Pieces<'a, A, P, D> {
 
     ghost is_flat = { λ _. ⊤ };
 
-    type Ordered = PieceRows<'a, A, P, D>;
-
-    ghost ordered_form = { λ s o rows. (rows ≡ map (filter_map (cell s)) (rows_in o s.lengths)) × IsGrid s };
+    ghost rows_form = { λ _ _ _. ⊤ };
 
     ghost is_one = { λ _. ⊥ };
 
-    fn in_order(self, order: Order) -> PieceRows<'a, A, P, D> {
+    fn into_rows(self, order: Order) -> PieceRows<'a, A, P, D> {
         let rows = BoxRows::new(self.raw_dim(), order);
         PieceRows { pieces: self, rows }
     }
 
-    fn is_one_row(_ordered: &PieceRows<'a, A, P, D>) -> bool {
+    fn is_one_row(_rows: &PieceRows<'a, A, P, D>) -> bool {
         false
     }
 
-    fn one_row(_ordered: PieceRows<'a, A, P, D>) -> Option<PieceRow<'a, A, D>> {
+    fn one_row(_rows: PieceRows<'a, A, P, D>) -> Option<PieceRow<'a, A, D>> {
         None
-    }
-
-    fn rows(ordered: PieceRows<'a, A, P, D>) -> PieceRows<'a, A, P, D> {
-        ordered
     }
 
     fn is_flat_row(_row: &PieceRow<'a, A, D>) -> bool {
@@ -144,8 +130,6 @@ impl<'a, A, D: Lengths> NdProducer for AxisWindows<'a, A, D> {
 
     type Dim = Ix1;
 
-    type Run = WindowsIter<'a, A, D>;
-
     ghost yields_at = { λ s i x. cell s i ≡ Some x };
 
     fn raw_dim(&self) -> Ix1 {
@@ -167,10 +151,6 @@ impl<'a, A, D: Lengths> NdProducer for AxisWindows<'a, A, D> {
         )
     }
 
-    fn run(self, _order: Order) -> WindowsIter<'a, A, D> {
-        self.pieces.into_iter()
-    }
-
     fn tendency(&self) -> i32 {
         0
     }
@@ -187,27 +167,21 @@ impl<'a, A, D: Lengths> NdProducer for AxisWindows<'a, A, D> {
 
     ghost is_flat = { λ _. ⊤ };
 
-    type Ordered = Once<WindowsIter<'a, A, D>>;
-
-    ghost ordered_form = { λ s o rows. RowsInTurn once_steps (λ is r. YieldsInTurn (YieldsFirst (λ rest. rest)) (λ i x. cell s i ≡ Some x) r is) rows (rows_in o s.lengths) };
+    ghost rows_form = { λ _ _ _. ⊤ };
 
     ghost is_one = { λ _. ⊥ };
 
-    fn in_order(self, order: Order) -> Once<WindowsIter<'a, A, D>> {
+    fn into_rows(self, _order: Order) -> Once<WindowsIter<'a, A, D>> {
         let len = self.pieces.raw_dim().size();
-        rows_of_axis(self.run(order), len)
+        rows_of_axis(self.pieces.into_iter(), len)
     }
 
-    fn is_one_row(_ordered: &Once<WindowsIter<'a, A, D>>) -> bool {
+    fn is_one_row(_rows: &Once<WindowsIter<'a, A, D>>) -> bool {
         false
     }
 
-    fn one_row(_ordered: Once<WindowsIter<'a, A, D>>) -> Option<WindowsIter<'a, A, D>> {
+    fn one_row(_rows: Once<WindowsIter<'a, A, D>>) -> Option<WindowsIter<'a, A, D>> {
         None
-    }
-
-    fn rows(ordered: Once<WindowsIter<'a, A, D>>) -> Once<WindowsIter<'a, A, D>> {
-        ordered
     }
 
     fn is_flat_row(_row: &WindowsIter<'a, A, D>) -> bool {
@@ -234,8 +208,6 @@ impl<'a, A, D: Lengths> NdProducer for AxisIter<'a, A, D> {
 
     type Dim = Ix1;
 
-    type Run = AxisIter<'a, A, D>;
-
     ghost yields_at = { λ s i x. cell (one_axis s) i ≡ Some x };
 
     fn raw_dim(&self) -> Ix1 {
@@ -244,10 +216,6 @@ impl<'a, A, D: Lengths> NdProducer for AxisIter<'a, A, D> {
 
     fn split_at(self, _axis: Axis, index: usize) -> (Self, Self) {
         self.split_at(index)
-    }
-
-    fn run(self, _order: Order) -> AxisIter<'a, A, D> {
-        self
     }
 
     fn tendency(&self) -> i32 {
@@ -266,27 +234,21 @@ impl<'a, A, D: Lengths> NdProducer for AxisIter<'a, A, D> {
 
     ghost is_flat = { λ _. ⊤ };
 
-    type Ordered = Once<AxisIter<'a, A, D>>;
-
-    ghost ordered_form = { λ s o rows. RowsInTurn once_steps (λ is r. YieldsInTurn (YieldsFirst (λ rest. rest)) (λ i x. cell (one_axis s) i ≡ Some x) r is) rows (rows_in o (length s ∷ [])) };
+    ghost rows_form = { λ _ _ _. ⊤ };
 
     ghost is_one = { λ _. ⊥ };
 
-    fn in_order(self, order: Order) -> Once<AxisIter<'a, A, D>> {
+    fn into_rows(self, _order: Order) -> Once<AxisIter<'a, A, D>> {
         let len = self.bounded_len();
-        rows_of_axis(self.run(order), len)
+        rows_of_axis(self, len)
     }
 
-    fn is_one_row(_ordered: &Once<AxisIter<'a, A, D>>) -> bool {
+    fn is_one_row(_rows: &Once<AxisIter<'a, A, D>>) -> bool {
         false
     }
 
-    fn one_row(_ordered: Once<AxisIter<'a, A, D>>) -> Option<AxisIter<'a, A, D>> {
+    fn one_row(_rows: Once<AxisIter<'a, A, D>>) -> Option<AxisIter<'a, A, D>> {
         None
-    }
-
-    fn rows(ordered: Once<AxisIter<'a, A, D>>) -> Once<AxisIter<'a, A, D>> {
-        ordered
     }
 
     fn is_flat_row(_row: &AxisIter<'a, A, D>) -> bool {

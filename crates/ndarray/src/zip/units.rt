@@ -4,6 +4,7 @@ ghost use Rattle.std.specs.Prelude.{◌≡◌, ⊤, length};
 ghost use Rattle.std.specs.Iterator.{YieldsFirstBy, item_count};
 ghost use Rattle.std.specs.Iterator.Adapters.{repeat_n_count};
 ghost use Rattle.ndarray.specs.Limits.{IsWithinLimit};
+ghost use Rattle.ndarray.specs.order.Rows.{AreRowsIn};
 
 use crate::base::axis::Axis;
 use crate::base::dimension::Lengths;
@@ -41,8 +42,6 @@ impl<D: Lengths> NdProducer for Units<D> {
 
     type Dim = D;
 
-    type Run = RepeatN<()>;
-
     ghost yields_at = { λ _ _ _. ⊤ };
 
     fn raw_dim(&self) -> D {
@@ -52,10 +51,6 @@ impl<D: Lengths> NdProducer for Units<D> {
     fn split_at(self, axis: Axis, index: usize) -> (Self, Self) {
         let (first, second) = self.lists.split_at(axis, index);
         (Units { lists: first }, Units { lists: second })
-    }
-
-    fn run(self, _order: Order) -> RepeatN<()> {
-        repeat_n((), self.raw_dim().size())
     }
 
     fn tendency(&self) -> i32 {
@@ -74,29 +69,26 @@ impl<D: Lengths> NdProducer for Units<D> {
 
     ghost is_flat = { λ _. ⊤ };
 
-    type Ordered = (Self, Order);
-
-    ghost ordered_form = { λ s o r. (r.0 ≡ s) × (r.1 ≡ o) };
+    ghost rows_form = { λ s o r. AreRowsIn length o s.lists.lengths r };
 
     ghost is_one = { λ _. ⊤ };
 
-    fn in_order(self, order: Order) -> (Self, Order) {
-        (self, order)
+    #[inline(always)]
+    fn into_rows(self, order: Order) -> UnitRows<D> {
+        let dim = self.raw_dim();
+        let size = dim.size();
+        UnitRows {
+            size,
+            rows: BoxRows::new(dim, order),
+        }
     }
 
-    fn is_one_row(_ordered: &(Self, Order)) -> bool {
+    fn is_one_row(_rows: &UnitRows<D>) -> bool {
         true
     }
 
-    fn one_row(ordered: (Self, Order)) -> Option<RepeatN<()>> {
-        Some(repeat_n((), ordered.0.raw_dim().size()))
-    }
-
-    fn rows(ordered: (Self, Order)) -> UnitRows<D> {
-        let (units, order) = ordered;
-        UnitRows {
-            rows: BoxRows::new(units.raw_dim(), order),
-        }
+    fn one_row(rows: UnitRows<D>) -> Option<RepeatN<()>> {
+        Some(repeat_n((), rows.size))
     }
 
     fn is_flat_row(_row: &RepeatN<()>) -> bool {
@@ -114,26 +106,28 @@ impl<D: Lengths> NdProducer for Units<D> {
     }
 }
 
-/// As many `()` as each row of a box has index lists.
+/// As many `()` as each row of a box has index lists, and as many as the box has.
 #[derive(Drop)]
 pub struct UnitRows<D: Lengths> {
+    size: usize,
     rows: BoxRows<D>,
 }
 
 impl<D: Lengths> Model for UnitRows<D> {
-    ghost use Rattle.std.specs.Prelude.{List, ℕ, map, length};
+    ghost use Rattle.std.specs.Prelude.{ℕ, Some, map, length};
+    ghost use Rattle.ndarray.specs.order.Rows.{RowsAndOne};
 
-    ghost Value = { List ℕ };
+    ghost Value = { RowsAndOne ℕ };
 
-    ghost view = { λ s. map length s.rows };
+    ghost view = { λ s. record { one = Some s.size; rows = map length s.rows } };
 }
 
 impl<D: Lengths> Iterator for UnitRows<D> {
     type Item = RepeatN<()>;
 
-    ghost next_gives = { YieldsFirstBy repeat_n_count (λ rest. rest) };
+    ghost next_gives = { YieldsFirstBy repeat_n_count (λ s. s.rows) };
 
-    ghost remaining = { item_count (λ rest. rest) };
+    ghost remaining = { item_count (λ s. s.rows) };
 
     #[inline(always)]
     fn next(&mut self) -> Option<RepeatN<()>> {

@@ -1,10 +1,10 @@
 //! Views and references to arrays as producers of their cells.
 
-ghost use Rattle.std.specs.Prelude.{◌≡◌, Some, filter_map, IfSome, IsSome};
+ghost use Rattle.std.specs.Prelude.{◌≡◌, Some, filter_map, IsSome};
 ghost use Rattle.std.specs.Iterator.{YieldsFirstBy, item_count};
 ghost use Rattle.std.proofs.Common.{ap};
 ghost use Rattle.ndarray.specs.Grid.{cell, IsGrid, HasCells};
-ghost use Rattle.ndarray.specs.Orders.{cells_in};
+ghost use Rattle.ndarray.specs.order.Rows.{AreRowsIn};
 ghost use Rattle.ndarray.specs.zip.RowCells.{row_cells, IsSlice};
 ghost use Rattle.ndarray.specs.Views.{broadcast_to};
 
@@ -13,7 +13,6 @@ use crate::base::axis::Axis;
 use crate::base::dimension::Lengths;
 use crate::base::storage::{Data, ViewRepr};
 use crate::base::strided::Strided;
-use crate::iter::elements::ElementsBase;
 use crate::order::Order;
 use crate::order::rows::BoxRows;
 use crate::zip::producer::{IntoBroadcast, IntoNdProducer, KeepsLengths, NdProducer, Shaped};
@@ -28,8 +27,6 @@ impl<'a, A, D: Lengths> NdProducer for ArrayView<'a, A, D> {
 
     type Dim = D;
 
-    type Run = ElementsBase<'a, A, D>;
-
     ghost yields_at = { λ v i x. cell v i ≡ Some x.now };
 
     fn raw_dim(&self) -> D {
@@ -39,10 +36,6 @@ impl<'a, A, D: Lengths> NdProducer for ArrayView<'a, A, D> {
     #[inline(always)]
     fn split_at(self, axis: Axis, index: usize) -> (Self, Self) {
         self.split_at(axis, index)
-    }
-
-    fn run(self, order: Order) -> ElementsBase<'a, A, D> {
-        ElementsBase::in_order(self, order)
     }
 
     fn tendency(&self) -> i32 {
@@ -61,40 +54,30 @@ impl<'a, A, D: Lengths> NdProducer for ArrayView<'a, A, D> {
 
     ghost is_flat = { IsSlice };
 
-    type Ordered = OrderedView<'a, A, D>;
+    ghost rows_form = { λ v o r. AreRowsIn (filter_map (cell v)) o v.lengths r × IsGrid v };
 
-    ghost ordered_form = { λ v o s. (s.view ≡ v) × (s.order ≡ o) × IsGrid v × IfSome s.slice (λ cells. cells.now ≡ cells_in o v) };
-
-    ghost is_one = { λ s. IsSome s.slice };
+    ghost is_one = { λ r. IsSome r.one };
 
     #[inline(always)]
-    fn in_order(self, order: Order) -> OrderedView<'a, A, D> {
-        let slice = self.slice_in(order);
-        OrderedView {
+    fn into_rows(self, order: Order) -> ViewRows<'a, A, D> {
+        let rows = BoxRows::new(self.raw_dim(), order);
+        ViewRows {
+            one: self.slice_in(order),
             view: self,
-            order,
-            slice,
+            rows,
         }
     }
 
     #[inline(always)]
-    fn is_one_row(ordered: &OrderedView<'a, A, D>) -> bool {
-        ordered.slice.is_some()
+    fn is_one_row(rows: &ViewRows<'a, A, D>) -> bool {
+        rows.one.is_some()
     }
 
     #[inline(always)]
-    fn one_row(ordered: OrderedView<'a, A, D>) -> Option<ViewRow<'a, A>> {
-        let Some(slice) = ordered.slice else {
-            return None;
-        };
-        Some(ViewRow::Slice(slice))
-    }
-
-    fn rows(ordered: OrderedView<'a, A, D>) -> ViewRows<'a, A, D> {
-        let rows = BoxRows::new(ordered.view.raw_dim(), ordered.order);
-        ViewRows {
-            view: ordered.view,
-            rows,
+    fn one_row(rows: ViewRows<'a, A, D>) -> Option<ViewRow<'a, A>> {
+        match rows.one {
+            Some(slice) => Some(ViewRow::Slice(slice)),
+            None => None,
         }
     }
 
@@ -123,14 +106,6 @@ impl<'a, A, D: Lengths> NdProducer for ArrayView<'a, A, D> {
     }
 }
 
-/// A view with an order for its cells, and these as a slice if they lie side by side in it.
-#[derive(Drop)]
-pub struct OrderedView<'a, A, D: Lengths> {
-    view: ArrayView<'a, A, D>,
-    order: Order,
-    slice: Option<&'a [A]>,
-}
-
 /// A row of cells of a view.
 #[derive(Drop)]
 pub enum ViewRow<'a, A> {
@@ -140,21 +115,35 @@ pub enum ViewRow<'a, A> {
     Stepped(Strided<'a, A>),
 }
 
-/// The rows of cells of a view that are still to come.
+impl<'a, A> ViewRow<'a, A> {
+    /// A row of these cells: a slice if they are known to lie side by side.
+    #[inline(always)]
+    fn of(cells: Strided<'a, A>) -> Self
+        ensures { row_cells result ≡ cells.entry }
+    {
+        match cells.side_by_side() {
+            Some(slice) => ViewRow::Slice(slice),
+            None => ViewRow::Stepped(cells),
+        }
+    }
+}
+
+/// The rows of cells of a view that are still to come, and all cells as a slice if they lie side by side in the order.
 #[derive(Drop)]
 pub struct ViewRows<'a, A, D: Lengths> {
+    one: Option<&'a [A]>,
     view: ArrayView<'a, A, D>,
     rows: BoxRows<D>,
 }
 
 impl<'a, A, D: Lengths> Model for ViewRows<'a, A, D> {
-    ghost use Rattle.std.specs.Prelude.{List, map, filter_map};
+    ghost use Rattle.std.specs.Prelude.{List, map, filter_map, option_copied};
     ghost use Rattle.ndarray.specs.Grid.{cell};
-    ghost use Rattle.ndarray.specs.order.Rows.{HasRows};
+    ghost use Rattle.ndarray.specs.order.Rows.{HasRows, RowsAndOne};
 
-    ghost Value = { List (List A) };
+    ghost Value = { RowsAndOne (List A) };
 
-    ghost view = { λ s. map (filter_map (cell s.view)) s.rows };
+    ghost view = { λ s. record { one = option_copied s.one; rows = map (filter_map (cell s.view)) s.rows } };
 
     ghost invariant = { λ s. HasRows s.view s.rows };
 }
@@ -162,9 +151,9 @@ impl<'a, A, D: Lengths> Model for ViewRows<'a, A, D> {
 impl<'a, A, D: Lengths> Iterator for ViewRows<'a, A, D> {
     type Item = ViewRow<'a, A>;
 
-    ghost next_gives = { YieldsFirstBy row_cells (λ rest. rest) };
+    ghost next_gives = { YieldsFirstBy row_cells (λ s. s.rows) };
 
-    ghost remaining = { item_count (λ rest. rest) };
+    ghost remaining = { item_count (λ s. s.rows) };
 
     #[inline(always)]
     fn next(&mut self) -> Option<ViewRow<'a, A>> {
@@ -172,10 +161,7 @@ impl<'a, A, D: Lengths> Iterator for ViewRows<'a, A, D> {
             return None;
         };
         let cells = self.view.cells_along(&row.first, row.axis, row.count);
-        match cells.side_by_side() {
-            Some(slice) => Some(ViewRow::Slice(slice)),
-            None => Some(ViewRow::Stepped(cells)),
-        }
+        Some(ViewRow::of(cells))
     }
 }
 

@@ -1,14 +1,11 @@
 //! Views to write in, and what is yielded to write in, as producers.
 
-ghost use Rattle.std.specs.Prelude.{◌≡◌, [], ◌∷◌, length, Some, map, filter_map, IsOk, MatchResult, ⊤};
+ghost use Rattle.std.specs.Prelude.{◌≡◌, [], ◌∷◌, length, Some, filter_map, IsSome, ⊤};
 ghost use Rattle.std.specs.Iterator.{YieldsFirst, YieldsFirstBy, item_count};
-ghost use Rattle.std.specs.Iterator.Adapters.{once_steps};
 ghost use Rattle.ndarray.specs.Grid.{cell, one_axis, IsGrid, HasCells};
-ghost use Rattle.ndarray.specs.Limits.{IsWithinLimit};
-ghost use Rattle.ndarray.specs.Orders.{cells_in};
 ghost use Rattle.ndarray.specs.Producers.{YieldsInTurn};
+ghost use Rattle.ndarray.specs.order.Rows.{AreRowsIn};
 ghost use Rattle.ndarray.specs.zip.RowCells.{row_cells_mut, IsSliceMut};
-ghost use Rattle.ndarray.specs.order.Rows.{rows_in, RowsInTurn};
 
 use crate::base::array::{ArrayBase, ArrayViewMut};
 use crate::base::axis::Axis;
@@ -16,14 +13,13 @@ use crate::base::dimension::{Ix1, Lengths};
 use crate::base::layout::Layout;
 use crate::base::region::{Life, RegionRepr};
 use crate::base::storage::DataMut;
-use crate::iter::elements_mut::ElementsBaseMut;
 use crate::order::Order;
 use crate::order::rows::BoxRows;
 use crate::places::place_rows::PlaceRow;
 use crate::places::strided_cells::StridedMut;
 use crate::subviews::axis_mut::AxisIterMut;
 use crate::subviews::piece_rows::{PieceRowMut, PieceRowsMut};
-use crate::subviews::pieces_mut::{EqualPiecesIterMut, PiecesMut};
+use crate::subviews::pieces_mut::PiecesMut;
 use crate::zip::producer::{IntoNdProducer, NdProducer, Shaped, rows_of_axis};
 use std::iter::Once;
 use std::marker::{Model, PhantomData};
@@ -34,8 +30,6 @@ impl<'a, A: 'a, D: Lengths> NdProducer for ArrayViewMut<'a, A, D> {
 
     type Dim = D;
 
-    type Run = ElementsBaseMut<'a, A, D>;
-
     ghost yields_at = { λ v i x. cell v i ≡ Some x.now };
 
     fn raw_dim(&self) -> D {
@@ -44,10 +38,6 @@ impl<'a, A: 'a, D: Lengths> NdProducer for ArrayViewMut<'a, A, D> {
 
     fn split_at(self, axis: Axis, index: usize) -> (Self, Self) {
         self.split_at(axis, index)
-    }
-
-    fn run(self, order: Order) -> ElementsBaseMut<'a, A, D> {
-        ElementsBaseMut::in_order(self, order)
     }
 
     fn tendency(&self) -> i32 {
@@ -66,51 +56,43 @@ impl<'a, A: 'a, D: Lengths> NdProducer for ArrayViewMut<'a, A, D> {
 
     ghost is_flat = { IsSliceMut };
 
-    type Ordered = OrderedViewMut<'a, A, D>;
+    ghost rows_form = { λ v o r. AreRowsIn (filter_map (cell v)) o v.lengths r × IsGrid v };
 
-    ghost ordered_form = { λ v o s. (s.order ≡ o) × IsGrid v × MatchResult s.cells (λ flat. (flat.slice.now ≡ cells_in o v) × (D.numbers flat.dim ≡ v.lengths) × IsWithinLimit v.lengths) (λ w. w ≡ v) };
+    ghost is_one = { λ r. IsSome r.one };
 
-    ghost is_one = { λ s. IsOk s.cells };
+    #[inline(always)]
+    fn into_rows(self, order: Order) -> ViewRowsMut<'a, A, D> {
+        let rows = BoxRows::new(self.raw_dim(), order);
+        let ArrayBase { storage, layout } = self;
+        ViewRowsMut {
+            one: PlaceRow::in_order(&layout, order),
+            region: storage,
+            layout,
+            rows,
+            lifetime: PhantomData,
+        }
+    }
 
-    fn in_order(self, order: Order) -> OrderedViewMut<'a, A, D> {
-        let dim = self.raw_dim();
-        let cells = match self.try_into_slice_in(order) {
-            Ok(slice) => Ok(FlatCells { slice, dim }),
-            Err(view) => Err(view),
+    #[inline(always)]
+    fn is_one_row(rows: &ViewRowsMut<'a, A, D>) -> bool {
+        rows.one.is_some()
+    }
+
+    #[inline(always)]
+    fn one_row(rows: ViewRowsMut<'a, A, D>) -> Option<ViewRowMut<'a, A>> {
+        let ViewRowsMut {
+            one,
+            region,
+            layout: _layout,
+            rows: _rows,
+            lifetime: _lifetime,
+        } = rows;
+        let Some(places) = one else {
+            return None;
         };
-        OrderedViewMut { cells, order }
-    }
-
-    #[inline(always)]
-    fn is_one_row(ordered: &OrderedViewMut<'a, A, D>) -> bool {
-        ordered.cells.is_ok()
-    }
-
-    #[inline(always)]
-    fn one_row(ordered: OrderedViewMut<'a, A, D>) -> Option<ViewRowMut<'a, A>> {
-        let OrderedViewMut {
-            cells,
-            order: _order,
-        } = ordered;
-        match cells {
-            Ok(flat) => {
-                let FlatCells { slice, dim: _dim } = flat;
-                let row = ViewRowMut::Slice(slice);
-                Some(row)
-            }
-            Err(_view) => None,
-        }
-    }
-
-    fn rows(ordered: OrderedViewMut<'a, A, D>) -> ViewRowsMut<'a, A, D> {
-        let OrderedViewMut { cells, order } = ordered;
-        match cells {
-            Ok(flat) => {
-                let FlatCells { slice, dim } = flat;
-                ArrayBase::from_slice(slice, dim, order).into_rows(order)
-            }
-            Err(view) => view.into_rows(order),
-        }
+        let mut region = region;
+        let cells = StridedMut::taken_from(&mut region, places);
+        Some(ViewRowMut::of(cells))
     }
 
     #[inline(always)]
@@ -147,9 +129,24 @@ pub enum ViewRowMut<'a, A> {
     Stepped(StridedMut<'a, A>),
 }
 
-/// The rows of cells of a view to write in that are still to come.
+impl<'a, A> ViewRowMut<'a, A> {
+    /// A row of these cells: a slice if they are known to lie side by side.
+    #[inline(always)]
+    fn of(cells: StridedMut<'a, A>) -> Self
+        ensures { row_cells_mut result ≡ cells.entry }
+    {
+        match cells.side_by_side() {
+            Ok(slice) => ViewRowMut::Slice(slice),
+            Err(cells) => ViewRowMut::Stepped(cells),
+        }
+    }
+}
+
+/// The rows of cells of a view to write in that are still to come, and, until the first is taken, the places of all cells if these lie side
+/// by side in the order.
 #[derive(Drop)]
 pub struct ViewRowsMut<'a, A, D: Lengths> {
+    one: Option<PlaceRow>,
     region: RegionRepr<Life<'a>, A>,
     layout: Layout<D>,
     rows: BoxRows<D>,
@@ -158,70 +155,34 @@ pub struct ViewRowsMut<'a, A, D: Lengths> {
 }
 
 impl<'a, A, D: Lengths> Model for ViewRowsMut<'a, A, D> {
-    ghost use Rattle.std.specs.Prelude.{List, map, filter_map};
+    ghost use Rattle.std.specs.Prelude.{List, map, filter_map, option_map, IfSome};
     ghost use Rattle.ndarray.specs.base.Slots.{held_at};
-    ghost use Rattle.ndarray.specs.places.ElementPlaces.{places_along, HaveRows};
+    ghost use Rattle.ndarray.specs.order.Rows.{RowsAndOne};
+    ghost use Rattle.ndarray.specs.places.ElementPlaces.{places_along, AreDistinctPlaces, HaveRows};
 
-    ghost Value = { List (List A) };
+    ghost Value = { RowsAndOne (List A) };
 
-    ghost view = { λ s. map (λ row. filter_map (held_at s.region.slots) (places_along s.layout.start (D.numbers s.layout.strides) row)) s.rows };
+    ghost view = { λ s. record { one = option_map (filter_map (held_at s.region.slots)) s.one; rows = map (λ row. filter_map (held_at s.region.slots) (places_along s.layout.start (D.numbers s.layout.strides) row)) s.rows } };
 
-    ghost invariant = { λ s. HaveRows (held_at s.region.slots) s.layout.start (D.numbers s.layout.strides) s.rows };
+    ghost invariant = { λ s. HaveRows (held_at s.region.slots) s.layout.start (D.numbers s.layout.strides) s.rows × IfSome s.one (AreDistinctPlaces (held_at s.region.slots)) };
 }
 
 impl<'a, A, D: Lengths> Iterator for ViewRowsMut<'a, A, D> {
     type Item = ViewRowMut<'a, A>;
 
-    ghost next_gives = { YieldsFirstBy row_cells_mut (λ rest. rest) };
+    ghost next_gives = { YieldsFirstBy row_cells_mut (λ s. s.rows) };
 
-    ghost remaining = { item_count (λ rest. rest) };
+    ghost remaining = { item_count (λ s. s.rows) };
 
     #[inline(always)]
     fn next(&mut self) -> Option<ViewRowMut<'a, A>> {
         let Some(row) = self.rows.next() else {
             return None;
         };
-        let places = PlaceRow {
-            place: self.layout.place(&row.first),
-            stride: self.layout.stride(row.axis),
-            left: row.count,
-        };
+        let places = PlaceRow::along(&self.layout, &row);
+        self.one = None;
         let cells = StridedMut::taken_from(&mut self.region, places);
-        match cells.side_by_side() {
-            Ok(slice) => Some(ViewRowMut::Slice(slice)),
-            Err(cells) => Some(ViewRowMut::Stepped(cells)),
-        }
-    }
-}
-
-/// A view to write in, with an order for its cells: they are a slice if they lie side by side in it.
-#[derive(Drop)]
-pub struct OrderedViewMut<'a, A, D: Lengths> {
-    cells: Result<FlatCells<'a, A, D>, ArrayViewMut<'a, A, D>>,
-    order: Order,
-}
-
-/// The cells of a view to write in, side by side in an order, and its lengths.
-#[derive(Drop)]
-pub struct FlatCells<'a, A, D> {
-    slice: &'a mut [A],
-    dim: D,
-}
-
-impl<'a, A, D: Lengths> ArrayViewMut<'a, A, D> {
-    /// The cells row by row, in an order.
-    fn into_rows(self, order: Order) -> ViewRowsMut<'a, A, D>
-        ensures rows { result ≡ map (filter_map (cell self.entry)) (rows_in order self.entry.lengths) }
-        ensures whole { IsGrid self.entry }
-    {
-        let rows = BoxRows::new(self.raw_dim(), order);
-        let ArrayBase { storage, layout } = self;
-        ViewRowsMut {
-            region: storage,
-            layout,
-            rows,
-            lifetime: PhantomData,
-        }
+        Some(ViewRowMut::of(cells))
     }
 }
 
@@ -251,8 +212,6 @@ impl<'a, A, D: Lengths> NdProducer for AxisIterMut<'a, A, D> {
 
     type Dim = Ix1;
 
-    type Run = AxisIterMut<'a, A, D>;
-
     ghost yields_at = { λ s i x. cell (one_axis s) i ≡ Some x };
 
     fn raw_dim(&self) -> Ix1 {
@@ -261,10 +220,6 @@ impl<'a, A, D: Lengths> NdProducer for AxisIterMut<'a, A, D> {
 
     fn split_at(self, _axis: Axis, index: usize) -> (Self, Self) {
         self.split_at(index)
-    }
-
-    fn run(self, _order: Order) -> AxisIterMut<'a, A, D> {
-        self
     }
 
     fn tendency(&self) -> i32 {
@@ -283,27 +238,21 @@ impl<'a, A, D: Lengths> NdProducer for AxisIterMut<'a, A, D> {
 
     ghost is_flat = { λ _. ⊤ };
 
-    type Ordered = Once<AxisIterMut<'a, A, D>>;
-
-    ghost ordered_form = { λ s o rows. RowsInTurn once_steps (λ is r. YieldsInTurn (YieldsFirst (λ rest. rest)) (λ i x. cell (one_axis s) i ≡ Some x) r is) rows (rows_in o (length s ∷ [])) };
+    ghost rows_form = { λ _ _ _. ⊤ };
 
     ghost is_one = { λ _. ⊥ };
 
-    fn in_order(self, order: Order) -> Once<AxisIterMut<'a, A, D>> {
+    fn into_rows(self, _order: Order) -> Once<AxisIterMut<'a, A, D>> {
         let len = self.raw_dim().size();
-        rows_of_axis(self.run(order), len)
+        rows_of_axis(self, len)
     }
 
-    fn is_one_row(_ordered: &Once<AxisIterMut<'a, A, D>>) -> bool {
+    fn is_one_row(_rows: &Once<AxisIterMut<'a, A, D>>) -> bool {
         false
     }
 
-    fn one_row(_ordered: Once<AxisIterMut<'a, A, D>>) -> Option<AxisIterMut<'a, A, D>> {
+    fn one_row(_rows: Once<AxisIterMut<'a, A, D>>) -> Option<AxisIterMut<'a, A, D>> {
         None
-    }
-
-    fn rows(ordered: Once<AxisIterMut<'a, A, D>>) -> Once<AxisIterMut<'a, A, D>> {
-        ordered
     }
 
     fn is_flat_row(_row: &AxisIterMut<'a, A, D>) -> bool {
@@ -330,8 +279,6 @@ impl<'a, A, P: Lengths, D: Lengths> NdProducer for PiecesMut<'a, A, P, D> {
 
     type Dim = P;
 
-    type Run = EqualPiecesIterMut<'a, A, P, D>;
-
     ghost yields_at = { λ s i x. cell s i ≡ Some x };
 
     fn raw_dim(&self) -> P {
@@ -340,10 +287,6 @@ impl<'a, A, P: Lengths, D: Lengths> NdProducer for PiecesMut<'a, A, P, D> {
 
     fn split_at(self, axis: Axis, index: usize) -> (Self, Self) {
         self.split_at(axis, index)
-    }
-
-    fn run(self, order: Order) -> EqualPiecesIterMut<'a, A, P, D> {
-        self.run(order)
     }
 
     fn tendency(&self) -> i32 {
@@ -362,26 +305,20 @@ impl<'a, A, P: Lengths, D: Lengths> NdProducer for PiecesMut<'a, A, P, D> {
 
     ghost is_flat = { λ _. ⊤ };
 
-    type Ordered = PieceRowsMut<'a, A, P, D>;
-
-    ghost ordered_form = { λ s o rows. (rows ≡ map (filter_map (cell s)) (rows_in o s.lengths)) × IsGrid s };
+    ghost rows_form = { λ _ _ _. ⊤ };
 
     ghost is_one = { λ _. ⊥ };
 
-    fn in_order(self, order: Order) -> PieceRowsMut<'a, A, P, D> {
+    fn into_rows(self, order: Order) -> PieceRowsMut<'a, A, P, D> {
         self.into_rows(order)
     }
 
-    fn is_one_row(_ordered: &PieceRowsMut<'a, A, P, D>) -> bool {
+    fn is_one_row(_rows: &PieceRowsMut<'a, A, P, D>) -> bool {
         false
     }
 
-    fn one_row(_ordered: PieceRowsMut<'a, A, P, D>) -> Option<PieceRowMut<'a, A, D>> {
+    fn one_row(_rows: PieceRowsMut<'a, A, P, D>) -> Option<PieceRowMut<'a, A, D>> {
         None
-    }
-
-    fn rows(ordered: PieceRowsMut<'a, A, P, D>) -> PieceRowsMut<'a, A, P, D> {
-        ordered
     }
 
     fn is_flat_row(_row: &PieceRowMut<'a, A, D>) -> bool {

@@ -9,7 +9,6 @@ ghost use Rattle.ndarray.specs.Runs.{MayTurnAt, TurnAt, TakesAt, StopsAt, EndsOr
 
 use crate::order::Order;
 use crate::zip::producer::NdProducer;
-use std::iter::once;
 
 /// What accepts items one after another, up to one at which it stops.
 pub(crate) trait Turn<X>: Sized {
@@ -40,43 +39,46 @@ pub(crate) fn walk_items<P: NdProducer, T: Turn<P::Item>>(
     requires can { MayTurnAt (TurnAt (P.yields_at p) T.goes) (TakesAt (P.yields_at p) T.can_accept) turn (box_in order (P.lengths p)) }
     ensures ran { EndsOrStops (TurnAt (P.yields_at p) T.goes) (StopsAt (P.yields_at p) T.stops) turn (box_in order (P.lengths p)) result }
 {
-    let ordered = p.in_order(order);
-    if P::is_one_row(&ordered) {
-        let Some(row) = P::one_row(ordered) else {
+    let rows = p.into_rows(order);
+    if P::is_one_row(&rows) {
+        let Some(row) = P::one_row(rows) else {
             unreachable!()
         };
-        walk_rows::<P, _, _>(once(row), turn)
+        walk_row::<P, _>(row, turn)
     } else {
-        walk_rows::<P, _, _>(P::rows(ordered), turn)
+        walk_rows::<P, _>(rows, turn)
     }
 }
 
 /// Has the items of rows accepted, one row after another.
-fn walk_rows<P: NdProducer, R: Iterator<Item = P::Row>, T: Turn<P::Item>>(
-    rows: R,
-    turn: T,
-) -> Result<T, T::Stop>
-    requires can_next { R.can_next rows }
-    requires finite { IsFinite (R.remaining rows) }
-    requires can { (p : P) × ((iss : List (List (List ℕ))) × (RowsInTurn R.next_gives (P.row_form p) rows iss × MayTurnAt (TurnAt (P.yields_at p) T.goes) (TakesAt (P.yields_at p) T.can_accept) turn (joined iss))) }
-    ensures ran { (p : P) (iss : List (List (List ℕ))) → RowsInTurn R.next_gives (P.row_form p) rows iss → EndsOrStops (TurnAt (P.yields_at p) T.goes) (StopsAt (P.yields_at p) T.stops) turn (joined iss) result }
+fn walk_rows<P: NdProducer, T: Turn<P::Item>>(rows: P::Rows, turn: T) -> Result<T, T::Stop>
+    requires can_next { P.Rows.can_next rows }
+    requires finite { IsFinite (P.Rows.remaining rows) }
+    requires can { (p : P) × ((iss : List (List (List ℕ))) × (RowsInTurn P.Rows.next_gives (P.row_form p) rows iss × MayTurnAt (TurnAt (P.yields_at p) T.goes) (TakesAt (P.yields_at p) T.can_accept) turn (joined iss))) }
+    ensures ran { (p : P) (iss : List (List (List ℕ))) → RowsInTurn P.Rows.next_gives (P.row_form p) rows iss → EndsOrStops (TurnAt (P.yields_at p) T.goes) (StopsAt (P.yields_at p) T.stops) turn (joined iss) result }
 {
     let mut rows = rows;
     let mut turn = turn;
     while let Some(row) = rows.next() {
-        if P::is_flat_row(&row) {
-            match walk_run::<P, _, _>(P::flat_row(row), turn) {
-                Ok(next) => turn = next,
-                Err(stop) => return Err(stop),
-            }
-        } else {
-            match walk_run::<P, _, _>(P::run_row(row), turn) {
-                Ok(next) => turn = next,
-                Err(stop) => return Err(stop),
-            }
+        match walk_row::<P, _>(row, turn) {
+            Ok(next) => turn = next,
+            Err(stop) => return Err(stop),
         }
     }
     Ok(turn)
+}
+
+/// Has the items of a row accepted, without strides if they are known to lie side by side.
+#[inline(always)]
+fn walk_row<P: NdProducer, T: Turn<P::Item>>(row: P::Row, turn: T) -> Result<T, T::Stop>
+    requires { (p : P) × ((is : List (List ℕ)) × (P.row_form p is row × MayTurnAt (TurnAt (P.yields_at p) T.goes) (TakesAt (P.yields_at p) T.can_accept) turn is)) }
+    ensures { (p : P) (is : List (List ℕ)) → P.row_form p is row → EndsOrStops (TurnAt (P.yields_at p) T.goes) (StopsAt (P.yields_at p) T.stops) turn is result }
+{
+    if P::is_flat_row(&row) {
+        walk_run::<P, _, _>(P::flat_row(row), turn)
+    } else {
+        walk_run::<P, _, _>(P::run_row(row), turn)
+    }
 }
 
 /// Has the items of a run accepted, one after another. It tests one end.

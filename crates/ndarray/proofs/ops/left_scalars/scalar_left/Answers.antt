@@ -1,10 +1,12 @@
-use Rattle.std.proofs.Common.{◌≡◌, ◌∙◌, ap, refl, sym, subst}
+use Rattle.std.proofs.Common.{◌≡◌, ◌∙◌, Some, ap, refl, sym, subst}
 use Rattle.std.proofs.lemmas.Result.{IfOk-weaker}
 use Rattle.ndarray.specs.Calls.{can_call_by_ref2, call_gives_by_ref2}
-use Rattle.ndarray.specs.Grid.{cell}
+use Rattle.ndarray.specs.Grid.{IsGrid, cell}
 use Rattle.ndarray.specs.Orders.{box_in}
 use Rattle.ndarray.specs.Updates.{is_cell}
 use Rattle.ndarray.specs.declared.base.shape.Order.TheVariants.{RowMajor, ColumnMajor}
+use Rattle.ndarray.proofs.callers.Collecting.{collect-each, if_ok-both}
+use Rattle.ndarray.proofs.cells.Mapped.{maps-mapped}
 use Rattle.ndarray.proofs.runs.RunsThrough.{Collects-known, MayGather-known}
 use Rattle.ndarray.proofs.ops.left_scalars.scalar_left.Goals as goal
 
@@ -36,3 +38,18 @@ returns-clause-ran g c =
           ran.0 _ _ (ap (λ v. v.lengths) same) a ran.1,
     ))
     c.collect_in_either_order.ensures.ran
+
+pub returns-clause-follows : goal.returns-clause-follows
+returns-clause-follows g c = λ h each.
+    let a = c.args.array.now in
+    if_ok-both c.collect_in_either_order.result _ _ _
+    (λ b ran whole.
+    maps-mapped a b (λ x z. z ≡ h x) h (subst IsGrid c.view.ensures.same c.view.ensures.whole) (λ x z k. k)
+    (record {
+      lengths = ran.1.lengths;
+      whole = whole;
+      cells = collect-each _ _ _ (λ i z. (x : _) × (cell a i ≡ Some x) × (z ≡ h x)) _
+          (λ i x z k inside shown call. let (kept, gives) = each x z k call in (kept, (x, shown, gives)))
+          ran.0 b ran.1;
+    }))
+    (returns-clause-ran g c) c.collect_in_either_order.ensures.whole

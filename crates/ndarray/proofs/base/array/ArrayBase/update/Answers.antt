@@ -6,6 +6,7 @@ use Rattle.ndarray.specs.Orders.{box_in}
 use Rattle.ndarray.specs.IndexedUpdates.{is_pattern_and_cell}
 use Rattle.ndarray.specs.Updates.{is_cell_beside}
 use Rattle.ndarray.proofs.callers.Collecting.{array_by-at}
+use Rattle.ndarray.proofs.callers.Updating.{update-follows}
 use Rattle.ndarray.proofs.cells.Cells.{cell-inside}
 use Rattle.ndarray.proofs.cells.UpdatedCells.{updates-collect}
 use Rattle.ndarray.proofs.runs.RunsThrough.{Collects-known, MayUpdate-via}
@@ -32,3 +33,8 @@ returns-clause-ran g c =
           (λ a t r d. call_gives2 g.F.FnMut a.0 (t.1, t.0) r d.0) (call_gives2 g.F.FnMut)
           (λ a. a.0) (λ x. (x.1, x.0)) (λ _. Unit {0}) (λ i x s. (array_by-at _ (λ is. is) lists i _ c.of-lists.ensures (cell-inside lists i _ s.1) s.1, s.0)) (λ f x r h n e. (e, tt)) _ tt o v.lengths v.lengths refl new ran,
     )
+
+pub returns-clause-follows : goal.returns-clause-follows
+returns-clause-follows g c = λ h each.
+    let (o, ran) = returns-clause-ran g c in
+    update-follows _ _ _ c.args.self.now h each o c.try_update.new.array c.in-Ok.ensures.whole ran

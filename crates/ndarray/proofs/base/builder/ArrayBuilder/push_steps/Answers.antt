@@ -2,7 +2,7 @@ use Rattle.std.proofs.Common.{◌≡◌, ◌<◌, ◌≤◌, ◌∙◌, ℕ, ◌
 use Rattle.std.proofs.lemmas.List.{length-append}
 use Rattle.ndarray.specs.Index.{size}
 use Rattle.ndarray.specs.base.Builder.{pushed_all}
-use Rattle.ndarray.proofs.joining.Blocks.{pushed-length, pushed-one}
+use Rattle.ndarray.proofs.joining.Blocks.{pushed-front, pushed-length, pushed-one}
 use Rattle.ndarray.proofs.base.builder.ArrayBuilder.push_steps.Goals as goal
 
 -- of the numbers of cells alone: pushed so far, still to come, pushed before, in all
@@ -22,6 +22,9 @@ returns-in_err-clone-clause-none g c = λ none.
     let start : length c.into_iter-cell-iterator.result ≡ length c.args.cells = ap length c.into_iter-cell-iterator.ensures.into_iter_gives in
     let one : length c.loop-cell.cell-iterator ≡ suc (length c.next.new.self) = ap length c.in-Some.ensures.steps in
     absurd (none-left _ _ _ _ _ _ all start one i.grown none)
+
+pub returns-in_err-clone-clause-front : goal.returns-in_err-clone-clause-front
+returns-in_err-clone-clause-front g c = pushed-front _ _ _ _ c.loop-cell.invariant.pushed c.loop-cell.invariant.grown
 
 pub push-requires : goal.push-requires
 push-requires g c =

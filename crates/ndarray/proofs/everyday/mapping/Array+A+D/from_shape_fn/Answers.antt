@@ -3,7 +3,7 @@ use Rattle.ndarray.specs.Grid.{Grid, IsGrid, array_by, cell}
 use Rattle.ndarray.specs.Index.{InBox}
 use Rattle.ndarray.proofs.callers.Collecting.{collect-each, may-gather, if_ok-both}
 use Rattle.ndarray.proofs.callers.Elementwise.{array_by-follows}
-use Rattle.ndarray.proofs.cells.Cells.{array_by-cell}
+use Rattle.ndarray.proofs.cells.Cells.{array_by-cell, cell-inside}
 use Rattle.ndarray.proofs.everyday.mapping.Array+A+D.from_shape_fn.Goals as goal
 
 -- an item that is yielded at an index list is its pattern
@@ -36,14 +36,19 @@ returns-clause-cells g c =
     _ a ran)
     c.collect_items.ensures.ran c.collect_items.ensures.whole
 
-pub returns-clause-values : goal.returns-clause-values
-returns-clause-values g c h acts =
+pub returns-clause-inside : goal.returns-clause-inside
+returns-clause-inside g c h acts =
     let ns = g.Sh.ShapeBuilder.shape_lengths c.args.shape in
     let same = c.of.ensures ∙ ap (λ ms. array_by ms (λ is. is)) c.into_shape_with_order-dim.ensures.lengths in
     if_ok-both c.collect_items.result _ _ _
-    (λ a each made. array_by-follows a ns h made.1 (made.0 ∙ ap (λ v. v.lengths) same)
+    (λ a each made.
+    let lengths : a.lengths ≡ ns = made.0 ∙ ap (λ v. v.lengths) same in
+    array_by-follows a ns h made.1 lengths
     (λ is z there.
     let (x, place, gives) = each is z there in
-    acts x z gives ∙ ap h place))
+    acts x z (subst (InBox ns) (sym place) (subst (λ ms. InBox ms is) lengths (cell-inside a is z there))) gives ∙ ap h place))
     (returns-clause-cells g c)
     (if_ok-both c.collect_items.result _ _ (λ a. (a.lengths ≡ c.of.result.lengths) × IsGrid a) (λ a ran whole. (ran.lengths, whole)) c.collect_items.ensures.ran c.collect_items.ensures.whole)
+
+pub returns-clause-values : goal.returns-clause-values
+returns-clause-values g c h acts = returns-clause-inside g c h (λ x r inside gives. acts x r gives)

@@ -1,10 +1,10 @@
 use Rattle.std.proofs.Common.{◌∙◌, ◌∷◌, ap, map, sym}
 use Rattle.ndarray.specs.places.ElementPlaces.{places_along}
-use Rattle.ndarray.proofs.moving.RowPlaces.{first-as_many, first-places, rest-each}
+use Rattle.ndarray.proofs.moving.RowPlaces.{first-as_many, rest-each}
 use Rattle.ndarray.proofs.zip.layout_places.PlaceRowsIterator.next.Goals as goal
 
-pub place-requires : goal.place-requires
-place-requires g c =
+pub along-requires : goal.along-requires
+along-requires g c =
     let t = c.self.inside in
     first-as_many t.layout.start (g.D.Lengths.numbers t.layout.strides) t.rows c.next.new.self (g.D.Lengths.numbers c.in-Some.row.first) c.in-Some.row.axis c.in-Some.row.count c.in-Some.ensures c.self.invariant
 
@@ -17,5 +17,4 @@ pub returns-clause-steps : goal.returns-clause-steps
 returns-clause-steps g c =
     let t = c.self.inside in
     let along = places_along t.layout.start (g.D.Lengths.numbers t.layout.strides) in
-    let first = first-places t.layout.start (g.D.Lengths.numbers t.layout.strides) t.rows c.next.new.self (g.D.Lengths.numbers c.in-Some.row.first) c.in-Some.row.axis c.in-Some.row.count c.in-Some.ensures c.self.invariant in
-    sym c.self.view_is ∙ (ap (map along) c.in-Some.ensures ∙ ap (λ x. x ∷ map along c.next.new.self) (rw (c.place.ensures, c.stride.ensures) first))
+    ap (λ r. r.rows) (sym c.self.view_is) ∙ (ap (map along) c.in-Some.ensures ∙ ap (λ x. x ∷ map along c.next.new.self) (sym c.along.ensures))

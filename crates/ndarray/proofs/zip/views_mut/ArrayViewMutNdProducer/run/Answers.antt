@@ -1,5 +1,0 @@
-use Rattle.ndarray.proofs.runs.Producers.{YieldsInTurn-cells}
-use Rattle.ndarray.proofs.zip.views_mut.ArrayViewMutNdProducer.run.Goals as goal
-
-pub returns-clause-gives : goal.returns-clause-gives
-returns-clause-gives g c = YieldsInTurn-cells _ _ _ _ c.in_order.ensures.whole c.in_order.ensures.cells
