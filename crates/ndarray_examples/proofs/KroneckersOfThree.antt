@@ -28,5 +28,5 @@ three-made law a b c d e f ad be cf rest r one two three inner outer =
     let right = same-then _ _ _ (made-matrix whole_i64 (blocks be cf) rest inner)
     (kronecker-same whole_i64 (m be) (m cf) (by b e) (by c f) (made-matrix whole_i64 (by b e) be two.1) (made-matrix whole_i64 (by c f) cf three.1)) in
     let parts = kronecker-same whole_i64 (m ad) (m rest) (by a d) (kronecker_product int_products (by b e) (by c f)) (made-matrix whole_i64 (by a d) ad one.1) right in
-    let all = law (m a) (m d) ((m b, m e) ∷ (m c, m f) ∷ []) one.0 (All-cons Meet (m b, m e) ((m c, m f) ∷ []) two.0 (All-cons Meet (m c, m f) [] three.0 (All-nil Meet))) in
+    let all = law (m a) (m d) ((m b, m e) ∷ (m c, m f) ∷ []) (All-cons Meet (m b, m e) ((m c, m f) ∷ []) two.0 (All-cons Meet (m c, m f) [] three.0 (All-nil Meet))) in
     made-as whole_i64 (blocks ad rest) _ (same-then _ _ _ parts (same-back _ _ all)) r outer

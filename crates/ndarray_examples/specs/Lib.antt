@@ -1,5 +1,6 @@
 pub mod Callers
 pub mod Chains
+pub mod Dots
 pub mod Filters
 pub mod PairedProducts
 pub mod Updating

@@ -5,8 +5,9 @@ ghost use Rattle.ndarray.specs.DotLaws.{HasOneOrTwoAxes, left_matrix, product_en
 ghost use Rattle.ndarray.specs.DotRanges.{HasLaneMagnitudesInRange};
 ghost use Rattle.ndarray.specs.Index.{size};
 ghost use Rattle.ndarray.specs.Products.{HasSumsInRange, HasValues, ShapesMultiply, dot_entries, product_lengths};
+ghost use Rattle.ndarray_examples.specs.Dots.{CanMultiplyInTurn, dot_of};
 
-use ndarray::laws::dot_agrees;
+use ndarray::laws::{dot_agrees, dot_assoc};
 use ndarray::linalg::{Dot, dot_ok, entries_fit};
 use ndarray::{
     Array, ArrayBase, ArrayView, Data, IntegerScalar, IxDyn, Lengths, LinalgScalar, Valued,
@@ -66,4 +67,31 @@ pub fn checked_dynamic_product<A: IntegerScalar, S: Data<Elem = A>, T: Data<Elem
     }
     let product = a.dot(alloc, &b)?;
     Ok(Some(product))
+}
+
+/// (a · b) · c of three arrays, which is a · (b · c). `None` where b has fewer than two axes, c has not two, or two of them do not
+/// multiply; and where at some index list of a product the absolute values of the products of the two lanes add up to more than the
+/// greatest `i64`. The error is allocation failure.
+pub fn product_in_turn<S: Data<Elem = i64>, T: Data<Elem = i64>, U: Data<Elem = i64>>(
+    alloc: Global,
+    a: &ArrayBase<S, IxDyn>,
+    b: &ArrayBase<T, IxDyn>,
+    c: &ArrayBase<U, IxDyn>,
+) -> Result<Option<Array<i64, IxDyn>>, AllocError>
+    ensures when { IfOk result (λ made. IsSome made ↔ CanMultiplyInTurn a.now b.now c.now) }
+    ensures from_left { IfOk result (λ made. IfSome made (λ r. r ≡ dot_of (dot_of a.now b.now) c.now)) }
+    ensures from_right { IfOk result (λ made. IfSome made (λ r. r ≡ dot_of a.now (dot_of b.now c.now))) }
+{
+    dot_assoc::<i64>();
+    let _whole = (a.raw_dim(), b.raw_dim(), c.raw_dim());
+    if b.ndim() < 2 {
+        return Ok(None);
+    }
+    if c.ndim() != 2 {
+        return Ok(None);
+    }
+    let Some(first) = checked_dynamic_product(alloc, a, b)? else {
+        return Ok(None);
+    };
+    checked_dynamic_product(alloc, &first, c)
 }

@@ -1,7 +1,7 @@
 //! Functions that a user would write with the calls of a closure that has no state, each with what it computes as its contract.
-//! All but the last take no proof.
+//! All but the last two take no proof.
 
-ghost use Rattle.std.specs.Prelude.{◌≡◌, ◌↔◌, ◌<◌, ◌/◌, ◌+◌, ◌∷◌, [], IfOk, IsOk, IsTrue, length, max, nat_lt, remove, slice_index};
+ghost use Rattle.std.specs.Prelude.{◌≡◌, ◌↔◌, ◌<◌, ◌/◌, ◌+◌, ◌∷◌, [], IfOk, IsOk, IsTrue, bit_xor, length, max, nat_lt, remove, slice_index};
 ghost use Rattle.std.specs.List.{fold};
 ghost use Rattle.ndarray.specs.Elementwise.{CanMap};
 ghost use Rattle.ndarray.specs.Everyday.{combined, mapped};
@@ -10,7 +10,8 @@ ghost use Rattle.ndarray.specs.Index.{size};
 ghost use Rattle.ndarray.specs.Limits.{IsWithinLimit};
 ghost use Rattle.ndarray.specs.Subviews.{lane};
 
-use ndarray::{Array, ArrayBase, Axis, Data, DataMut, Dimension, Ix2, Lengths};
+use ndarray::iter::Iter;
+use ndarray::{Array, ArrayBase, Axis, Data, DataMut, Dimension, Ix1, Ix2, Lengths};
 use std::alloc::{AllocError, Global};
 
 /// Half of each cell, rounded down.
@@ -125,4 +126,24 @@ pub fn greatest_along<S: Data<Elem = u64>, D: Dimension>(
     ensures empty { size (remove a.now.lengths axis.0) ≡ 0 → IsOk result }
 {
     a.fold_axis(alloc, axis, 0, |most, x| (*most).max(*x))
+}
+
+/// The exclusive or of the cells of each lane along an axis.
+pub fn parities<S: Data<Elem = u64>, D: Dimension>(
+    alloc: Global,
+    a: &ArrayBase<S, D>,
+    axis: Axis,
+) -> Result<Array<u64, D::Smaller>, AllocError>
+    requires { axis.0 < length a.now.lengths }
+    ensures parities { IfOk result (λ c. c ≡ array_by (remove a.now.lengths axis.0) (λ js. fold bit_xor 0 (lane a.now axis.0 js).cells)) }
+    ensures empty { size (remove a.now.lengths axis.0) ≡ 0 → IsOk result }
+{
+    a.map_axis(alloc, axis, |lane| parity(lane))
+}
+
+/// The exclusive or of cells.
+fn parity(cells: Iter<'_, u64, Ix1>) -> u64
+    ensures { result ≡ fold bit_xor 0 cells.entry }
+{
+    cells.fold(0, |sum, x| sum ^ *x)
 }

@@ -1,13 +1,15 @@
 //! Filters: two of a signal, one after another, one of a picture in two parts, one of two pictures, and the greatest cells of a table's
-//! windows; and full convolutions of two signals and of three.
+//! windows; and full convolutions of two signals and of three. A contract without a clause `when` or `error` does not say when the result is
+//! `None`.
 
-ghost use Rattle.std.specs.Prelude.{◌≡◌, ◌≤◌, ◌↔◌, ◌+ℤ◌, ℤ, FitsSigned, length, slice_index, IfErr, IfOk, IfSome, IsSome, IsTrue};
+ghost use Rattle.std.specs.Prelude.{◌≡◌, ◌≤◌, ◌↔◌, ◌+ℤ◌, ◌∷◌, [], ℤ, FitsSigned, length, slice_index, IfErr, IfOk, IfSome, IsSome, IsTrue};
 ghost use Rattle.std.specs.Int.{w64};
-ghost use Rattle.ndarray.specs.Convolution.{CanPad, HasFullMagnitudesInRange, filtered, full_convolution, valid_convolution_by, valid_counts};
+ghost use Rattle.ndarray.specs.Convolution.{CanPad, HasFullMagnitudesInRange, HasValidMagnitudesInRange, filtered, full_convolution, valid_convolution_by, valid_counts};
 ghost use Rattle.ndarray.specs.FilterLaws.{IsColumnTimesRow, filtered_at};
 ghost use Rattle.ndarray.specs.Grid.{Grid, IsGrid, array_by, one_axis};
 ghost use Rattle.ndarray.specs.Integers.{int_products, int_sums};
-ghost use Rattle.ndarray.specs.Subviews.{ArePositive};
+ghost use Rattle.ndarray.specs.Subviews.{ArePositive, window, window_counts};
+ghost use Rattle.ndarray.specs.Sums.{IsSummable, total};
 ghost use Rattle.ndarray_examples.specs.Filters.{AreLocalMaxima, AreZeroTests, IsZero, convolved_residues, filtered_residues};
 
 use crate::maximum_filter;
@@ -49,7 +51,9 @@ pub fn filter_by_one<S: Data<Elem = i64>, T: Data<Elem = i64>, U: Data<Elem = i6
     first: &ArrayBase<T, Ix1>,
     second: &ArrayBase<U, Ix1>,
 ) -> Checked<i64, Ix1>
-    ensures { IfOk result (λ made. IfSome made (λ r. r ≡ one_axis (filtered int_sums int_products (filtered int_sums int_products signal.now.cells first.now.cells) second.now.cells))) }
+    ensures when { let kernel = full_convolution int_sums int_products first.now.cells second.now.cells in IfOk result (λ made. IsSome made ↔ ((1 ≤ length first.now.cells) × (1 ≤ length second.now.cells) × CanPad (length first.now.cells) (length second.now.cells)
+        × HasFullMagnitudesInRange (λ x. x) (FitsSigned w64) first.now.cells second.now.cells × HasValidMagnitudesInRange (λ x. x) (FitsSigned w64) signal.now (one_axis kernel))) }
+    ensures filtered { IfOk result (λ made. IfSome made (λ r. r ≡ one_axis (filtered int_sums int_products (filtered int_sums int_products signal.now.cells first.now.cells) second.now.cells))) }
 {
     conv_filters::<i64>();
     let _lengths = (signal.raw_dim(), first.raw_dim(), second.raw_dim());
@@ -207,6 +211,8 @@ pub fn convolution_of_three<S: Data<Elem = i64>, T: Data<Elem = i64>, U: Data<El
     y: &ArrayBase<T, Ix1>,
     z: &ArrayBase<U, Ix1>,
 ) -> Checked<i64, Ix1>
+    ensures when { let first = full_convolution int_sums int_products x.now.cells y.now.cells in IfOk result (λ made. IsSome made ↔ (CanPad (length x.now.cells) (length y.now.cells) × HasFullMagnitudesInRange (λ v. v) (FitsSigned w64) x.now.cells y.now.cells
+        × CanPad (length first) (length z.now.cells) × HasFullMagnitudesInRange (λ v. v) (FitsSigned w64) first z.now.cells)) }
     ensures from_left { IfOk result (λ made. IfSome made (λ r. r ≡ one_axis (full_convolution int_sums int_products (full_convolution int_sums int_products x.now.cells y.now.cells) z.now.cells))) }
     ensures from_right { IfOk result (λ made. IfSome made (λ r. r ≡ one_axis (full_convolution int_sums int_products x.now.cells (full_convolution int_sums int_products y.now.cells z.now.cells)))) }
 {
@@ -215,4 +221,28 @@ pub fn convolution_of_three<S: Data<Elem = i64>, T: Data<Elem = i64>, U: Data<El
         return Ok(None);
     };
     convolution_either_way(alloc, &first, z)
+}
+
+/// The sums of the squares of two by two cells of a table, or `None` where some of its numbers add up to no `i64`.
+pub fn square_sums<S: Data<Elem = i64>>(
+    alloc: Global,
+    table: &ArrayBase<S, Ix2>,
+) -> Checked<i64, Ix2>
+    ensures when { IfOk result (λ made. IsSome made ↔ IsSummable int_sums (FitsSigned w64) table.now.cells) }
+    ensures sums { IfOk result (λ made. IfSome made (λ r. r ≡ array_by (window_counts table.now.lengths (2 ∷ 2 ∷ []) (1 ∷ 1 ∷ [])) (λ is. total int_sums (window table.now (2 ∷ 2 ∷ []) (1 ∷ 1 ∷ []) is).cells))) }
+{
+    let _lengths = table.raw_dim();
+    if !table.sums_fit() {
+        return Ok(None);
+    }
+    let sums = Zip::from(table.windows((2, 2))).map_collect(alloc, |square| sum_of(&square))?;
+    Ok(Some(sums))
+}
+
+/// The sum of the cells of a table whose sums are in range.
+fn sum_of(table: &ArrayView<'_, i64, Ix2>) -> i64
+    requires { IsSummable int_sums (FitsSigned w64) table.now.cells }
+    ensures { result ≡ total int_sums table.now.cells }
+{
+    table.sum()
 }

@@ -1,13 +1,16 @@
 //! Functions that rest on the laws of joined arrays, running totals, ranges and orders, at `i64` behind range tests.
 
-ghost use Rattle.std.specs.Prelude.{◌≡◌, ◌≢◌, ◌↔◌, ◌+◌, ◌<◌, ◌≤◌, ℕ, ◌+ℤ◌, ℤ, neg_ℤ, pos, FitsSigned, IfOk, IfSome, IsOk, IsSome, Err, [], ◌∷◌, length, max, slice_index, Some, None};
+ghost use Rattle.std.specs.Prelude.{◌≡◌, ◌≢◌, ◌↔◌, ◌+◌, ◌<◌, ◌≤◌, ℕ, ◌+ℤ◌, ℤ, neg_ℤ, pos, FitsSigned, IfOk, IfSome, IsOk, IsSome, MatchOption, Err, [], ◌∷◌, length, max, slice_index, Some, None};
 ghost use Rattle.std.specs.Int.{w64};
 ghost use Rattle.std.specs.List.{fold};
+ghost use Rattle.std.specs.Ordering.{int_cmp};
 ghost use Rattle.ndarray.specs.Errors.{shape_error};
+ghost use Rattle.ndarray.specs.Extremes.{less};
 ghost use Rattle.ndarray.specs.Grid.{Grid, IsGrid, cell};
-ghost use Rattle.ndarray.specs.Index.{size};
+ghost use Rattle.ndarray.specs.Index.{row_order, size};
 ghost use Rattle.ndarray.specs.Integers.{int_sums};
 ghost use Rattle.ndarray.specs.Joining.{concatenate_error, concatenation, shapes_of, stack_error};
+ghost use Rattle.ndarray.specs.OrderLaws.{IsBestAlong};
 ghost use Rattle.ndarray.specs.ScanLaws.{rectangle};
 ghost use Rattle.ndarray.specs.Sums.{IsSummable, total};
 ghost use Rattle.ndarray.specs.Triangles.{upper_triangle};
@@ -18,7 +21,8 @@ ghost use Rattle.ndarray.specs.declared.stacking.error.StackError.TheVariants.{S
 use crate::greatest;
 use crate::updating::running_sums;
 use ndarray::laws::{
-    concat_adds, fold_orders, parts_join, ranges_pass, running_totals, triangles_transpose,
+    column_order, concat_adds, fold_orders, parts_join, ranges_pass, running_totals,
+    triangles_transpose,
 };
 use ndarray::{
     Array, ArrayBase, ArrayView, Axis, Data, Ix1, Ix2, Lengths, StackError, concatenate, stack,
@@ -144,4 +148,15 @@ pub fn greatest_of_transposed<S: Data<Elem = u64>, D: Lengths>(a: &ArrayBase<S, 
     fold_orders::<u64, u64>();
     let _whole = a.raw_dim();
     greatest(&a.view().reversed_axes())
+}
+
+/// The least cell, sought column by column, or `None` exactly where there is no cell: the least one row by row.
+pub fn least_by_columns<S: Data<Elem = i64>, D: Lengths>(a: &ArrayBase<S, D>) -> Option<i64>
+    ensures { MatchOption result (length a.now.cells ≡ 0) (IsBestAlong (less int_cmp) a.now (row_order a.now.lengths)) }
+{
+    column_order::<i64>();
+    fold_orders::<i64, i64>();
+    let _whole = a.raw_dim();
+    let columns = a.view().reversed_axes();
+    columns.min().copied()
 }

@@ -6,6 +6,7 @@ pub mod algebra;
 pub mod dots;
 pub mod everyday;
 pub mod filters;
+pub mod growing;
 pub mod images;
 pub mod laws;
 pub mod laws_of_parts;
@@ -21,14 +22,14 @@ pub mod updating;
 pub mod walks;
 pub mod writing;
 
-ghost use Rattle.std.specs.Prelude.{◌≡◌, ◌≢◌, ◌↔◌, ◌<◌, ◌≤◌, ◌≤ℤ◌, ◌^◌, ◌∷◌, [], ◌++◌, ◌+ℤ◌, ◌-ℤ◌, ◌/◌, ◌*◌, ℕ, ℤ, List, Some, drop, int_lt, length, map, max, nat_lt, pos, replicate, slice_index, take, false, All, Contains, IfErr, IfOk, IfSome, IsOk, IsSome, IsTrue, FitsSigned};
+ghost use Rattle.std.specs.Prelude.{◌≡◌, ◌≢◌, ◌↔◌, ◌<◌, ◌≤◌, ◌≤ℤ◌, ◌^◌, ◌∷◌, [], ◌++◌, ◌+ℤ◌, ◌-ℤ◌, ◌-◌, ◌/◌, ◌*◌, ℕ, ℤ, List, Some, drop, int_lt, length, map, max, nat_lt, pos, replicate, slice_index, take, false, All, Contains, IfErr, IfOk, IfSome, IsOk, IsSome, IsTrue, FitsSigned};
 ghost use Rattle.std.specs.Int.{w64};
 ghost use Rattle.std.specs.List.{count_by, fold, list_all, list_any};
 ghost use Rattle.ndarray.specs.AlongAxis.{Cumulates, IsDifference, one_further};
 ghost use Rattle.ndarray.specs.Broadcast.{BroadcastsTo, broadcast_lengths};
 ghost use Rattle.ndarray.specs.Chains.{HasColumn, HasMatrix};
 ghost use Rattle.ndarray.specs.Elementwise.{CanCombine, Combines};
-ghost use Rattle.ndarray.specs.Everyday.{lanes_mapped};
+ghost use Rattle.ndarray.specs.Everyday.{lanes_mapped, mapped};
 ghost use Rattle.ndarray.specs.Grid.{Grid, IsGrid, array_by, cell, one_axis};
 ghost use Rattle.ndarray.specs.Index.{InBox, size};
 ghost use Rattle.ndarray.specs.Integers.{int_products, int_sums, magnitude_product};
@@ -241,7 +242,7 @@ pub fn rests<S: Data<Elem = u16>, D: Lengths>(
     whole: u16,
     parts: &ArrayBase<S, D>,
 ) -> Result<Array<u16, D>, AllocError>
-    ensures rests { IfOk result (λ rests. rests ≡ array_by parts.now.lengths (rest_at whole parts.now)) }
+    ensures rests { IfOk result (λ rests. rests ≡ mapped (λ part. whole - part) parts.now) }
     ensures empty { size parts.now.lengths ≡ 0 → IsOk result }
 {
     scalar_left(

@@ -1,5 +1,5 @@
 //! Functions that rest on the laws of products of matrices: of three, of powers and of transposes, of blocks and of ranges, of triangular matrices and of
-//! Kronecker products, at `i64` behind range tests.
+//! Kronecker products, at `i64` behind range tests. A contract without a clause `when` does not say when the result is `None`.
 
 ghost use Rattle.std.specs.Prelude.{◌≡◌, ◌↔◌, ◌<◌, ◌∷◌, [], ℕ, ℤ, pos, FitsSigned, IfOk, IfSome, IsSome, Some, slice_index};
 ghost use Rattle.std.specs.Int.{w64};
@@ -12,7 +12,7 @@ ghost use Rattle.ndarray.specs.Matrices.{transpose};
 ghost use Rattle.ndarray.specs.MatrixPowers.{identity_matrix, matrix_power};
 ghost use Rattle.ndarray.specs.Products.{HasValues, ShapesMultiply, matrix_of, product_of, row_entries, row_of};
 ghost use Rattle.ndarray.specs.Triangles.{lower_triangle};
-ghost use Rattle.ndarray.specs.Views.{axis_item};
+ghost use Rattle.ndarray.specs.Views.{axis_item, transpose_of};
 ghost use Rattle.ndarray.specs.WholeValues.{HasMagnitudesInRange};
 
 use crate::product_ranges::checked_kronecker_product;
@@ -183,6 +183,8 @@ pub fn product_of_three<S: Data<Elem = i64>, T: Data<Elem = i64>, U: Data<Elem =
     b: &ArrayBase<T, Ix2>,
     c: &ArrayBase<U, Ix2>,
 ) -> Checked<i64, Ix2>
+    ensures when { let values = ⟦<i64 as Valued>⟧ in let left = matrix_of values a.now in let right = matrix_of values b.now in IfOk result (λ made. IsSome made ↔ (ShapesMultiply a.now.lengths b.now.lengths × HasMagnitudesInRange (FitsSigned w64) left right
+        × ShapesMultiply (slice_index a.now.lengths 0 ∷ slice_index b.now.lengths 1 ∷ []) c.now.lengths × HasMagnitudesInRange (FitsSigned w64) (product_of values left right) (matrix_of values c.now))) }
     ensures from_left { let values = ⟦<i64 as Valued>⟧ in IfOk result (λ made. IfSome made (HasMatrix values (product_of values (product_of values (matrix_of values a.now) (matrix_of values b.now)) (matrix_of values c.now)))) }
     ensures from_right { let values = ⟦<i64 as Valued>⟧ in IfOk result (λ made. IfSome made (HasMatrix values (product_of values (matrix_of values a.now) (product_of values (matrix_of values b.now) (matrix_of values c.now))))) }
 {
@@ -206,7 +208,8 @@ pub fn product_transposed<S: Data<Elem = i64>, T: Data<Elem = i64>>(
     a: &ArrayBase<S, Ix2>,
     b: &ArrayBase<T, Ix2>,
 ) -> Checked<i64, Ix2>
-    ensures { let values = ⟦<i64 as Valued>⟧ in IfOk result (λ made. IfSome made (HasMatrix values (transpose (product_of values (matrix_of values a.now) (matrix_of values b.now))))) }
+    ensures when { let values = ⟦<i64 as Valued>⟧ in IfOk result (λ made. IsSome made ↔ (ShapesMultiply (transpose_of b.now).lengths (transpose_of a.now).lengths × HasMagnitudesInRange (FitsSigned w64) (matrix_of values (transpose_of b.now)) (matrix_of values (transpose_of a.now)))) }
+    ensures product { let values = ⟦<i64 as Valued>⟧ in IfOk result (λ made. IfSome made (HasMatrix values (transpose (product_of values (matrix_of values a.now) (matrix_of values b.now))))) }
 {
     mat_transpose::<i64>();
     let (left, right) = (b.t(), a.t());
@@ -220,7 +223,8 @@ pub fn product_transposed<S: Data<Elem = i64>, T: Data<Elem = i64>>(
 /// The fourth power of a square matrix, as the square of its square. `None` where the matrix is not square or, for some row and column of one
 /// of the two products, the absolute values of the products add up to more than the greatest `i64`. The error is allocation failure.
 pub fn fourth_power<S: Data<Elem = i64>>(alloc: Global, a: &ArrayBase<S, Ix2>) -> Checked<i64, Ix2>
-    ensures { let values = ⟦<i64 as Valued>⟧ in IfOk result (λ made. IfSome made (HasMatrix values (matrix_power values.addition values.multiplication (matrix_of values a.now) 4))) }
+    ensures when { let values = ⟦<i64 as Valued>⟧ in let m = matrix_of values a.now in let square = product_of values m m in IfOk result (λ made. IsSome made ↔ (ShapesMultiply a.now.lengths a.now.lengths × HasMagnitudesInRange (FitsSigned w64) m m × HasMagnitudesInRange (FitsSigned w64) square square)) }
+    ensures power { let values = ⟦<i64 as Valued>⟧ in IfOk result (λ made. IfSome made (HasMatrix values (matrix_power values.addition values.multiplication (matrix_of values a.now) 4))) }
 {
     mat_powers::<i64>();
     let _lengths = a.raw_dim();

@@ -16,7 +16,9 @@ ghost use Rattle.ndarray.specs.Integers.{int_sums};
 ghost use Rattle.ndarray.specs.Limits.{IsWithinLimit};
 ghost use Rattle.ndarray.specs.Sums.{IsSummableBy, total_by};
 
-use ndarray::{ArrayBase, ArrayView, CowArray, Data, IntegerScalar, Ix2, Ix3, Lengths, Slice};
+use ndarray::{
+    Array, ArrayBase, ArrayView, CowArray, Data, IntegerScalar, Ix1, Ix2, Ix3, Lengths, Slice,
+};
 use std::alloc::{AllocError, Global};
 
 /// The darkest pixel of an image; `None` of one without pixels.
@@ -39,6 +41,18 @@ pub fn trace<A: IntegerScalar, S: Data<Elem = A>>(a: &ArrayBase<S, Ix2>) -> Opti
     ensures total { IfSome result (λ sum. A.value sum ≡ total_by int_sums A.value (diagonal_of a.now).cells) }
 {
     a.diag().checked_sum()
+}
+
+/// The diagonal of a matrix, from its lower triangle.
+pub fn diagonal_of_lower<S: Data<Elem = i64>>(
+    alloc: Global,
+    a: &ArrayBase<S, Ix2>,
+) -> Result<Array<i64, Ix1>, AllocError>
+    ensures { IfOk result (λ d. d ≡ diagonal_of a.now) }
+{
+    let _axes = a.ndim();
+    let lower = a.tril(alloc, 0)?;
+    Ok(lower.into_diag())
 }
 
 /// An image with its axes in the order that is named; `None` where each axis is not named once.

@@ -1,9 +1,11 @@
 //! Functions that read one item after another: by a loop, by `azip!`, and up to the first that decides.
 
 ghost use Rattle.std.specs.Iterator.{IsFinite};
+ghost use Rattle.std.specs.Prelude.{◌↔◌, ◌∷◌, [], IfOk, IsSome};
+ghost use Rattle.ndarray.specs.Limits.{IsWithinLimit};
 
 use ndarray::zip::{One, Parts};
-use ndarray::{ArrayView, FoldWhile, Ix1, Ix2, Lengths, NdProducer, Zip, azip};
+use ndarray::{Array, ArrayView, FoldWhile, Ix1, Ix2, Lengths, NdProducer, Zip, azip, indices};
 use std::alloc::{AllocError, Global};
 use std::cell::Cell;
 
@@ -62,4 +64,20 @@ pub fn first_above_one<'a, N: NdProducer<Item = &'a u64, Dim = Ix1>>(
         }
     });
     first.into_inner()
+}
+
+/// The row plus the column, wrapping, at each place of a table of so many rows and columns; or `None` where these are more cells than an array
+/// may have.
+pub fn index_sums(
+    alloc: Global,
+    rows: usize,
+    columns: usize,
+) -> Result<Option<Array<usize, Ix2>>, AllocError>
+    ensures when { IfOk result (λ made. IsSome made ↔ IsWithinLimit (rows ∷ columns ∷ [])) }
+{
+    if !Ix2(rows, columns).size_ok() {
+        return Ok(None);
+    }
+    let sums = Zip::from(indices((rows, columns))).map_collect(alloc, |(i, j)| i.wrapping_add(j))?;
+    Ok(Some(sums))
 }

@@ -1,6 +1,7 @@
-//! Functions of the rows, the columns and the ends of a table, and of cells in brackets.
+//! Functions of the rows, the columns and the ends of a table, and of cells in brackets. Of `clear_row`, `clear_column` and `has_zero`, and of
+//! what `are_within` answers where the limits broadcast, nothing is said but that they end and read nothing outside the array.
 
-ghost use Rattle.std.specs.Prelude.{◌≡◌, ◌↔◌, ◌<◌, ◌-◌, ◌∷◌, [], Some, FitsSigned, IfSome, IsSome, IsTrue, MatchOption, length, slice_get, slice_index};
+ghost use Rattle.std.specs.Prelude.{◌≡◌, ◌↔◌, ◌<◌, ◌+◌, ◌-◌, ◌^◌, ◌∷◌, [], ℕ, Some, FitsSigned, IfSome, IsSome, IsTrue, MatchOption, length, slice_get, slice_index};
 ghost use Rattle.std.specs.Int.{w64};
 ghost use Rattle.ndarray.specs.Broadcast.{BroadcastTogether, BroadcastsTo, broadcast_lengths};
 ghost use Rattle.ndarray.specs.Grid.{cell};
@@ -8,6 +9,7 @@ ghost use Rattle.ndarray.specs.Index.{InBox, size};
 ghost use Rattle.ndarray.specs.Integers.{int_sums};
 ghost use Rattle.ndarray.specs.Sums.{IsSummable, total};
 ghost use Rattle.ndarray.specs.Views.{axis_item};
+ghost use Rattle.ndarray.specs.Writes.{with_cell};
 
 use ndarray::{ArrayBase, Data, DataMut, DimMax, FoldWhile, Ix2, Lengths, Zip};
 
@@ -57,6 +59,7 @@ pub fn is_square<S: Data>(table: &ArrayBase<S, Ix2>) -> bool
 
 /// The first and the last cell, or `None` where there is none.
 pub fn ends<S: Data<Elem = u64>, D: Lengths>(array: &ArrayBase<S, D>) -> Option<(u64, u64)>
+    ensures when { IsSome result ↔ (0 < length array.now.cells) }
     ensures first { IfSome result (λ e. slice_get array.now.cells 0 ≡ Some e.0) }
     ensures last { IfSome result (λ e. slice_get array.now.cells (length array.now.cells - 1) ≡ Some e.1) }
 {
@@ -110,14 +113,11 @@ pub fn cell_at<S: Data<Elem = u64>>(table: &ArrayBase<S, Ix2>, row: usize, colum
     table[[row, column]]
 }
 
-/// Adds one to the cell of a table at a place, or to nothing where there is none or the sum is no `u64`.
+/// Adds one to the cell of a table at a place. Requires that there is one, and that the sum is a `u64`.
 pub fn count_at<S: DataMut<Elem = u64>>(table: &mut ArrayBase<S, Ix2>, row: usize, column: usize)
-    ensures lengths { table.new.lengths ≡ table.old.lengths }
+    requires within { InBox table.old.lengths (row ∷ column ∷ []) }
+    requires room { (x : ℕ) → cell table.old (row ∷ column ∷ []) ≡ Some x → x + 1 < 2 ^ 64 }
+    ensures { (x : ℕ) → cell table.old (row ∷ column ∷ []) ≡ Some x → table.new ≡ with_cell table.old (row ∷ column ∷ []) (x + 1) }
 {
-    let Some(old) = table.get((row, column)) else {
-        return;
-    };
-    if let Some(new) = old.checked_add(1) {
-        table[[row, column]] = new;
-    }
+    table[[row, column]] += 1;
 }

@@ -14,6 +14,10 @@ const WALKS: [&str; 42] = [
     "add_assign_mixed", "add_assign_row",
 ];
 
+const EVERYDAY: [&str; 10] = [
+    "map", "mapv", "combine", "from_shape_fn", "mapv_inplace", "map_inplace", "zip_mut_with", "assign", "fill", "equals",
+];
+
 const NARROW: [&str; 4] = [
     "ref_add_ref", "ref_add_scalar", "add_assign", "add_assign_scalar",
 ];
@@ -29,13 +33,15 @@ const FILTERS: [&str; 16] = [
     "zip_view_for_each", "conv_valid_3x3", "conv_full_32", "valid_fits_3x3", "full_fits_32",
 ];
 
+const BOXES: [&str; 2] = ["box_sums_9x9", "separable_9x9"];
+
 const SMALL: [&str; 4] = ["small_ref_add_ref", "small_add_assign", "small_iter", "small_product"];
 
 const PRODUCTS: [&str; 4] = ["product", "product_left_transposed", "product_right_transposed", "product_both_transposed"];
 
-const VECTORS: [&str; 5] = [
+const VECTORS: [&str; 7] = [
     "vector_times_matrix", "matrix_times_vector", "transposed_times_vector", "matrix_and_vector_fit",
-    "transposed_and_vector_fit",
+    "transposed_and_vector_fit", "dynamic_times_vector", "dynamic_three_columns",
 ];
 
 /// Prints the least time of some turns of a call, an item of an n by n table.
@@ -70,6 +76,11 @@ fn main() {
                 report(&format!("word_{name}"), n, turns, || narrow(name, n, black_box(&mut numbers), black_box(&more_numbers), |x, y| x.wrapping_add(y), 1) as i64);
             }
         }
+        "everyday" => {
+            for name in EVERYDAY {
+                report(name, n, turns, || everyday(name, n, black_box(&mut a), black_box(&b)));
+            }
+        }
         "joins" => {
             let (a, left, right) = (vec![3u32; n * n], vec![3u32; (n / 20) * (n / 20)], vec![5u32; 400]);
             for name in JOINS {
@@ -80,6 +91,11 @@ fn main() {
         "filters" => {
             for name in FILTERS {
                 report(name, n, turns, || filter(name, n, black_box(&mut a), black_box(&b)));
+            }
+        }
+        "boxes" => {
+            for name in BOXES {
+                report(name, n, turns, || boxes(name, n, black_box(&b)));
             }
         }
         "products" | "vectors" => {
@@ -131,6 +147,35 @@ fn small(name: &str, a: &mut [i64], b: &[i64]) -> i64 {
         }
     }
     a[4]
+}
+
+#[inline(never)]
+fn everyday(name: &str, n: usize, a: &mut [i64], b: &[i64]) -> i64 {
+    match name {
+        "map" | "mapv" => return b.iter().map(|x| x.wrapping_mul(3)).collect::<Vec<i64>>()[n + 1],
+        "combine" => return b.iter().zip(a).map(|(x, y)| x.wrapping_add(*y)).collect::<Vec<i64>>()[n + 1],
+        "from_shape_fn" => {
+            let mut made = Vec::with_capacity(n * n);
+            for i in 0..n {
+                made.extend((0..n).map(|j| if i < j { 1i64 } else { 3 }));
+            }
+            return made[n + 1];
+        }
+        "mapv_inplace" | "map_inplace" => {
+            for x in a.iter_mut() {
+                *x = x.wrapping_add(1);
+            }
+        }
+        "zip_mut_with" => {
+            for (x, y) in a.iter_mut().zip(b) {
+                *x = x.wrapping_add(*y);
+            }
+        }
+        "assign" => a.copy_from_slice(b),
+        "fill" => a.fill(4),
+        _ => return a.iter().zip(b).all(|(x, y)| x == y) as i64,
+    }
+    a[n + 1]
 }
 
 #[inline(never)]
@@ -235,15 +280,15 @@ fn blocks(n: usize, a: &[u32], m: usize, b: &[u32]) -> u32 {
     made[1]
 }
 
-/// The sum of each square of 3 by 3, of what its cells count.
+/// The sum of each square of K by K, of what its cells count.
 #[inline(always)]
-fn each_square(n: usize, a: &[i64], count: impl Fn(usize, usize, i64) -> i64) -> i64 {
+fn each_square<const K: usize>(n: usize, a: &[i64], count: impl Fn(usize, usize, i64) -> i64) -> i64 {
     let mut made = Vec::with_capacity(n * n);
-    for i in 0..n - 2 {
-        for j in 0..n - 2 {
+    for i in 0..n - (K - 1) {
+        for j in 0..n - (K - 1) {
             let mut sum = 0i64;
-            for k in 0..3 {
-                for l in 0..3 {
+            for k in 0..K {
+                for l in 0..K {
                     sum = sum.wrapping_add(count(k, l, a[(i + k) * n + j + l]));
                 }
             }
@@ -253,12 +298,27 @@ fn each_square(n: usize, a: &[i64], count: impl Fn(usize, usize, i64) -> i64) ->
     made[n]
 }
 
+/// Sums of windows of 9 by 9, over all cells of each.
+#[inline(never)]
+fn boxes(name: &str, n: usize, a: &[i64]) -> i64 {
+    if name == "box_sums_9x9" {
+        return each_square::<9>(n, a, |_, _, x| x);
+    }
+    let mut kernel = [[0i64; 9]; 9];
+    for (i, row) in kernel.iter_mut().enumerate() {
+        for (j, number) in row.iter_mut().enumerate() {
+            *number = a[(8 - i) * n].wrapping_mul(a[8 - j]);
+        }
+    }
+    each_square::<9>(n, a, |k, l, x| x.wrapping_mul(kernel[k][l]))
+}
+
 #[inline(never)]
 fn filter(name: &str, n: usize, a: &mut [i64], b: &[i64]) -> i64 {
     let mut sum = 0i64;
     match name {
-        "box_filter" => return each_square(n, a, |_, _, x| x),
-        "conv_valid_3x3" => return each_square(n, a, |k, l, x| x.wrapping_mul(b[(2 - k) * n + 2 - l])),
+        "box_filter" => return each_square::<3>(n, a, |_, _, x| x),
+        "conv_valid_3x3" => return each_square::<3>(n, a, |k, l, x| x.wrapping_mul(b[(2 - k) * n + 2 - l])),
         "conv_full_32" => {
             let mut made = vec![0i64; a.len() + 31];
             for (i, x) in a.iter().enumerate() {
@@ -373,9 +433,14 @@ fn product(name: &str, n: usize, a: &[i64], b: &[i64]) -> i64 {
         "transposed_and_vector_fit" => {
             return (0..n).all(|j| sums_checked(b[j..].iter().step_by(n), &a[..n]).is_some()) as i64;
         }
-        "matrix_times_vector" => {
+        "matrix_times_vector" | "dynamic_times_vector" => {
             for (sum, row) in made.iter_mut().zip(b.chunks(n)) {
                 *sum = inner(row, &a[..n]);
+            }
+        }
+        "dynamic_three_columns" => {
+            for (sum, row) in made.iter_mut().zip(b.chunks(n)) {
+                *sum = inner(&row[..3], &a[..3]);
             }
         }
         _ => {

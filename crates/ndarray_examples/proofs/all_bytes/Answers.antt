@@ -1,4 +1,4 @@
-use Rattle.ndarray.proofs.Common.{rules, ◌≡◌, ◌∙◌, ℕ, Bool, List, Some, true, false, ap, sym, subst, nat_lt, list_all, cell, IsGrid, box_in, test-follows, list_all-in_row_order, list_all-cells}
+use Rattle.ndarray.proofs.Common.{rules, ◌≡◌, ◌∙◌, ℕ, Bool, List, Some, ap, subst, nat_lt, cell, IsGrid, list_all-cells}
 use Rattle.ndarray_examples.specs.Callers.{passes}
 use Rattle.ndarray_examples.proofs.all_bytes.Goals as goal
 
@@ -8,18 +8,5 @@ returns g c =
     let below : ℕ → Bool = λ x. nat_lt x 256 in
     let test : List ℕ → Bool = λ i. passes below (cell a i) in
     let first : c.from.result.nested ≡ a = c.from.ensures ∙ c.view.ensures.same in
-    let (o, ran) = c.all.ensures.ran in
-    test-follows _ _ _ _ _ test true
-    (λ i k turn.
-    let there : cell a i ≡ Some turn.0.now = rw first at turn.1 in
-    let answer : true ≡ nat_lt turn.0.now 256 = search (rules, turn.2) in
-    (search (rules, turn.2), ap (passes below) there ∙ sym answer))
-    c.all.result
-    (λ i stop.
-    let there : cell a i ≡ Some stop.0.now = rw first at stop.1 in
-    let answer : false ≡ nat_lt stop.0.now 256 = search (rules, stop.2.1.1) in
-    (stop.2.0, ap (passes below) there ∙ sym answer))
-    (λ end. end) ran
-    ∙ ap (λ v. list_all test (box_in o v.lengths)) first
-    ∙ list_all-in_row_order test o a.lengths
+    c.all.ensures.follows a.lengths test (ap (λ v. v.lengths) first) (λ i x r k inside shown call. search (rules, first, shown, call))
     ∙ list_all-cells a (subst IsGrid c.view.ensures.same c.view.ensures.whole) test below (λ i x there. ap (passes below) there)

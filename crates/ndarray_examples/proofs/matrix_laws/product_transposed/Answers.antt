@@ -2,8 +2,8 @@ use Rattle.ndarray.proofs.Common.{◌∙◌, refl, inner-matrices, made-as, matr
 use Rattle.ndarray_examples.specs.RangeTests.{whole_i64}
 use Rattle.ndarray_examples.proofs.matrix_laws.product_transposed.Goals as goal
 
-pub returns : goal.returns
-returns g c =
+pub returns-clause-product : goal.returns-clause-product
+returns-clause-product g c =
     let a = matrix_of whole_i64 c.args.a.now in
     let b = matrix_of whole_i64 c.args.b.now in
     let left = c.t-left in
