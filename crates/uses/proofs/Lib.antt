@@ -1,3 +1,5 @@
+pub mod BoxSums
+pub mod ColumnsTimesRows
 pub mod FaultsPassedOn
 pub mod FibonacciTerms
 pub mod Filtered

@@ -1,23 +1,19 @@
 -- Pictures made of the sums of squares.
-use Rattle.ndarray.proofs.Common.{◌≡◌, ◌∙◌, ◌+◌, ◌-◌, ◌*ℤ◌, ◌-ℤ◌, ℕ, ℤ, pos, negsuc, [], ◌∷◌, ap, arith, subst, ◌&&◌, nat_eq, if◌then◌else◌, ints, Grid, IsGrid, array_by, InBox, value_or, cell-Some, cell-inside, array_by-at}
+use Rattle.ndarray.proofs.Common.{◌≡◌, ◌∙◌, ◌+◌, ◌-◌, ◌*ℤ◌, ◌-ℤ◌, ℕ, ℤ, pos, negsuc, [], ◌∷◌, ap, arith, ◌&&◌, nat_eq, if◌then◌else◌, ints, Grid, Maps, value_or}
 use Rattle.ndarray.specs.Grid.{cell}
 use Rattle.ndarray.specs.Index.{row_order}
 use Rattle.uses.specs.Picture.{HasInnerPixels, blur_kernel, edge_kernel, filtered_pixel, pixel, square_sum, sum_of_three}
 
 -- a function of each pixel of a filtered image
-pub inner-pixels : (image kernel sums made : Grid ℤ) (f : ℤ → ℤ) (value : ℕ → ℕ → ℤ) → HasInnerPixels image (filtered_pixel image kernel) sums → ((r c : ℕ) → f (filtered_pixel image kernel r c) ≡ value r c)
-    → IsGrid made → made ≡ array_by sums.lengths (λ is. f (value_or (λ x. x) (pos 0) (cell sums is))) → HasInnerPixels image value made
-inner-pixels image kernel sums made f value h each whole by =
-    let lengths : made.lengths ≡ sums.lengths = ap (λ w. w.lengths) by in
-    record {
-      lengths = lengths ∙ h.lengths;
-      whole = whole;
-      pixels = λ r c z at.
-          let b : InBox made.lengths (r ∷ c ∷ []) = cell-inside made (r ∷ c ∷ []) z at in
-          let (x, there) = cell-Some sums h.whole (r ∷ c ∷ []) (subst (λ ns. InBox ns (r ∷ c ∷ [])) lengths b) in
-          array_by-at sums.lengths (λ is. f (value_or (λ x. x) (pos 0) (cell sums is))) made (r ∷ c ∷ []) z by b at
-          ∙ (ap (λ o. f (value_or (λ x. x) (pos 0) o)) there ∙ (ap f (h.pixels r c x there) ∙ each r c));
-    }
+pub inner-pixels : (image kernel sums made : Grid ℤ) (f : ℤ → ℤ) (value : ℕ → ℕ → ℤ) (gives : ℤ → ℤ → Type 0) → HasInnerPixels image (filtered_pixel image kernel) sums
+    → ((r c : ℕ) → f (filtered_pixel image kernel r c) ≡ value r c) → ((x z : ℤ) → gives x z → z ≡ f x) → Maps gives sums made → HasInnerPixels image value made
+inner-pixels image kernel sums made f value gives h each acts maps = record {
+  lengths = maps.lengths ∙ h.lengths;
+  whole = maps.whole;
+  pixels = λ r c z at.
+      let (x, there, given) = maps.cells (r ∷ c ∷ []) z at in
+      acts x z given ∙ (ap f (h.pixels r c x there) ∙ each r c);
+}
 
 -- ---- the sums of the two kernels
 

@@ -7,19 +7,21 @@ use Rattle.ndarray.specs.Integers.{int_sums}
 use Rattle.ndarray.specs.Sums.{IsSummable, total}
 use Rattle.ndarray.specs.declared.elements.Valued.{Ghosts as ValuedGhosts}
 use Rattle.residue.specs.Residue.{Below, modulus, modulus_pos, residue_products, residue_sums}
+use Rattle.uses.specs.BoxSums.{CanSumBoxes, box_sums}
 use Rattle.uses.specs.Commands.{Spells}
 use Rattle.uses.specs.Fir.{IsFilteredSignal}
 use Rattle.uses.specs.Inputs.{IsOrder, ReadsGrid, ReadsPicture, ReadsTable, residue}
 use Rattle.uses.specs.Life.{generation}
 use Rattle.uses.specs.Picture.{HasInnerPixels, blur_kernel, edge_kernel, edge_pixel, mean_pixel}
-use Rattle.uses.specs.Printing.{grid_text, line_text, picture_text, report_text}
+use Rattle.uses.specs.Printing.{grid_text, line_text, picture_text, pixels_text, report_text}
 use Rattle.uses.specs.Recurrence.{IsRecurrence}
 use Rattle.uses.specs.Report.{column_total, row_total}
 use Rattle.uses.specs.Signal.{ReadsSignal}
+use Rattle.uses.specs.Smooth.{CanFilterByParts, smoothed, weights}
 use Rattle.uses.specs.Spelling.{SpellNumbers}
 use Rattle.uses.specs.Words.{words_of}
 use Rattle.uses.specs.declared.command.Command.{Command}
-use Rattle.uses.specs.declared.command.Command.TheVariants.{Blur, Edges, Fir, Life, Recurrence, Report}
+use Rattle.uses.specs.declared.command.Command.TheVariants.{Blur, BoxSums, Edges, Fir, Life, Recurrence, Report, Smooth}
 
 -- the input is a picture whose sums by the kernel are in range, and the text is the picture of the values of its squares
 pub record PrintsPicture (kernel : Grid ℤ) (value : Grid ℤ → ℕ → ℕ → ℤ) (input text : List ℕ) : Type 0 where
@@ -75,14 +77,30 @@ pub record PrintsReport (input text : List ℕ) : Type 0 where
   pub fits : IsSummable int_sums (FitsSigned w64) table.cells
   pub lines : text ≡ report_text table (array_by (slice_index table.lengths 0 ∷ []) (row_total table)) (array_by (slice_index table.lengths 1 ∷ []) (column_total table)) (total int_sums table.cells)
 
+-- the input is a table whose windows of so many rows and columns have sums in range, and the text is the table of these sums
+pub record PrintsBoxSums (rows columns : ℕ) (input text : List ℕ) : Type 0 where
+  pub table : Grid ℤ
+  pub read : ReadsTable input table
+  pub fits : CanSumBoxes rows columns table
+  pub lines : text ≡ pixels_text (box_sums rows columns table)
+
+-- the input is a picture whose sums by the weights are in range, and the text is the picture smoothed
+pub record PrintsSmoothed (input text : List ℕ) : Type 0 where
+  pub image : Grid ℤ
+  pub read : ReadsPicture input image
+  pub fits : CanFilterByParts image weights weights
+  pub lines : text ≡ picture_text (smoothed image)
+
 -- what the command prints for an input
 abbrev pub Prints : Command → List ℕ → List ℕ → Type 0
 Prints Blur = PrintsPicture blur_kernel mean_pixel
+Prints (BoxSums rows columns) = PrintsBoxSums rows columns
 Prints Edges = PrintsPicture edge_kernel edge_pixel
 Prints (Fir shift) = PrintsFiltered shift
 Prints (Life steps) = PrintsGeneration steps
 Prints (Recurrence n) = PrintsTerm n
 Prints Report = PrintsReport
+Prints Smooth = PrintsSmoothed
 
 -- the words spell a command, and the text is what it prints for the input
 pub record Answers (words : List (List ℕ)) (input text : List ℕ) : Type 0 where

@@ -1,4 +1,5 @@
 pub mod Answering
+pub mod BoxSums
 pub mod Commands
 pub mod Faults
 pub mod Fir
@@ -11,6 +12,7 @@ pub mod Recurrence
 pub mod Report
 pub mod Rows
 pub mod Signal
+pub mod Smooth
 pub mod Spelling
 pub mod Streams
 pub mod Words

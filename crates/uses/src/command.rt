@@ -4,18 +4,20 @@ ghost use Rattle.std.specs.Prelude.{◌≡◌, ◌≤◌, ◌∷◌, ◌++◌, [
 ghost use Rattle.std.specs.Str.Parse.{ParsesUnsigned};
 ghost use Rattle.ndarray.specs.Limits.{IsWithinLimit};
 ghost use Rattle.residue.specs.Residue.{Below, modulus};
-ghost use Rattle.uses.specs.Answering.{PrintsFiltered, PrintsGeneration, PrintsPicture, PrintsReport, PrintsTerm};
+ghost use Rattle.uses.specs.Answering.{PrintsBoxSums, PrintsFiltered, PrintsGeneration, PrintsPicture, PrintsReport, PrintsSmoothed, PrintsTerm};
+ghost use Rattle.uses.specs.Commands.{IsSideWord};
 ghost use Rattle.uses.specs.Faults.{IsFaultOf};
 ghost use Rattle.uses.specs.Inputs.{IsOrder, residue};
 ghost use Rattle.uses.specs.Picture.{blur_kernel, edge_kernel, edge_pixel, mean_pixel};
 ghost use Rattle.uses.specs.Recurrence.{IsRecurrence};
+ghost use Rattle.uses.specs.Spelling.{count_of};
 
 use crate::fault::{Fault, Place};
-use crate::printing::{grid_text, line_text, picture_text, report_text};
+use crate::printing::{grid_text, line_text, picture_text, report_text, table_text};
 use crate::recurrence::{MODULUS, term};
 use crate::signal::taps_and_signal;
 use crate::spelling::numbers;
-use crate::{fir, life, picture, reading, report};
+use crate::{box_sums, fir, life, picture, reading, report, smooth};
 use ndarray::{ArrayView1, Ix2, Lengths, Valued};
 use residue::Residue;
 use std::alloc::{AllocError, Global};
@@ -25,6 +27,8 @@ use std::alloc::{AllocError, Global};
 pub enum Command {
     /// `blur` prints the blur of a picture in plain PGM.
     Blur,
+    /// `box-sums ROWS COLUMNS` prints, of each window of so many rows and columns of a table, the sum of its cells.
+    BoxSums(usize, usize),
     /// `edges` prints the edges of a picture in plain PGM.
     Edges,
     /// `fir SHIFT` prints a signal, which is the second line, filtered by the taps of the first.
@@ -36,6 +40,8 @@ pub enum Command {
     Recurrence(u64),
     /// `report` prints a table with the sum of each row behind it, and below it the sum of each column and of all.
     Report,
+    /// `smooth` prints the blur of a picture in plain PGM by a larger kernel, whose weights are greatest in the middle.
+    Smooth,
 }
 
 impl Command {
@@ -50,6 +56,9 @@ impl Command {
         match words {
             [name] => Command::alone(name.as_str()),
             [name, number] => Command::with_number(name.as_str(), number.as_str()),
+            [name, first, second] => {
+                Command::with_two(name.as_str(), first.as_str(), second.as_str())
+            }
             _ => Err(Fault::Usage),
         }
     }
@@ -63,6 +72,7 @@ impl Command {
             "blur" => Ok(Command::Blur),
             "edges" => Ok(Command::Edges),
             "report" => Ok(Command::Report),
+            "smooth" => Ok(Command::Smooth),
             _ => Err(Fault::Usage),
         }
     }
@@ -80,6 +90,17 @@ impl Command {
         }
     }
 
+    /// The command that a name and two numbers spell.
+    fn with_two(name: &str, first: &str, second: &str) -> Result<Command, Fault>
+        ensures spelled { IfOk result (Spells (name.now ∷ first.now ∷ second.now ∷ [])) }
+        ensures err { IfErr result (IsFaultOf (Spells (name.now ∷ first.now ∷ second.now ∷ []))) }
+    {
+        match name {
+            "box-sums" => Ok(Command::BoxSums(side(first, 1)?, side(second, 2)?)),
+            _ => Err(Fault::Usage),
+        }
+    }
+
     /// What the command prints for an input.
     pub fn answer(self, alloc: Global, input: &str) -> Result<String, Fault>
         ensures text { IfOk result (λ text. Prints self input.now (string_bytes text)) }
@@ -87,11 +108,13 @@ impl Command {
     {
         match self {
             Command::Blur => blur(alloc, input),
+            Command::BoxSums(rows, columns) => summed_boxes(alloc, input, rows, columns),
             Command::Edges => edges(alloc, input),
             Command::Fir(shift) => filtered(alloc, input, shift),
             Command::Life(steps) => later(alloc, input, steps),
             Command::Recurrence(n) => nth_term(alloc, input, n),
             Command::Report => reported(alloc, input),
+            Command::Smooth => smoothed(alloc, input),
         }
     }
 }
@@ -101,7 +124,7 @@ fn shift(word: &str) -> Result<u32, Fault>
     ensures { ParsesUnsigned 32 10 word.now result }
 {
     word.parse::<u32>()
-        .map_err(|_| Fault::Number(Place::Argument))
+        .map_err(|_| Fault::Number(Place::Argument(1)))
 }
 
 /// A word as a number of steps or of a term.
@@ -109,7 +132,22 @@ fn count(word: &str) -> Result<u64, Fault>
     ensures { ParsesUnsigned 64 10 word.now result }
 {
     word.parse::<u64>()
-        .map_err(|_| Fault::Number(Place::Argument))
+        .map_err(|_| Fault::Number(Place::Argument(1)))
+}
+
+/// A word, which is the one at a place of the command, as the number of rows or columns of a window, which is at least 1.
+fn side(word: &str, at: usize) -> Result<usize, Fault>
+    ensures some { IfOk result (λ _. IsSideWord word.now) }
+    ensures value { IfOk result (λ n. n ≡ count_of word.now) }
+    ensures err { IfErr result (λ _. IsSideWord word.now → ⊥) }
+{
+    let side = word
+        .parse::<usize>()
+        .map_err(|_| Fault::Number(Place::Argument(at)))?;
+    if side == 0 {
+        return Err(Fault::Number(Place::Argument(at)));
+    }
+    Ok(side)
 }
 
 /// The blur of a picture.
@@ -122,6 +160,19 @@ fn blur(alloc: Global, input: &str) -> Result<String, Fault>
         return Err(Fault::Range);
     };
     let text = picture_text(alloc, &blurred.view())?;
+    Ok(text)
+}
+
+/// The sums of the windows of a table.
+fn summed_boxes(alloc: Global, input: &str, rows: usize, columns: usize) -> Result<String, Fault>
+    ensures text { IfOk result (λ text. PrintsBoxSums rows columns input.now (string_bytes text)) }
+    ensures err { IfErr result (IsFaultOf (PrintsBoxSums rows columns input.now)) }
+{
+    let table = reading::table(alloc, input)?;
+    let Some(sums) = box_sums::box_sums(alloc, &table, rows, columns)? else {
+        return Err(Fault::Range);
+    };
+    let text = table_text(alloc, &sums.view())?;
     Ok(text)
 }
 
@@ -234,5 +285,18 @@ fn reported(alloc: Global, input: &str) -> Result<String, Fault>
         return Err(Fault::Range);
     };
     let text = report_text(alloc, &table.view(), &rows.view(), &columns.view(), all)?;
+    Ok(text)
+}
+
+/// A picture, smoothed.
+fn smoothed(alloc: Global, input: &str) -> Result<String, Fault>
+    ensures text { IfOk result (λ text. PrintsSmoothed input.now (string_bytes text)) }
+    ensures err { IfErr result (IsFaultOf (PrintsSmoothed input.now)) }
+{
+    let image = reading::picture(alloc, input)?;
+    let Some(smoothed) = smooth::smooth(alloc, &image)? else {
+        return Err(Fault::Range);
+    };
+    let text = picture_text(alloc, &smoothed.view())?;
     Ok(text)
 }

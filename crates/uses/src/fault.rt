@@ -10,8 +10,8 @@ use std::alloc::{AllocError, AllocFailed};
 pub enum Place {
     /// In the whole.
     Whole,
-    /// The number of the command.
-    Argument,
+    /// A word of the command, which is a number.
+    Argument(usize),
     /// A line of the input.
     Line(usize),
     /// A word of the input, whatever its line.

@@ -4,11 +4,11 @@
 //! the grid are dead. A living cell with two or three living neighbours lives on; a dead one with three comes to life; all others
 //! are dead in the next generation.
 //!
-//! One step is a `Zip` over the grid with its index lists: `map_collect` calls a function for each cell, which reads the cell
-//! and its neighbours through a view and returns its next state. The closure calls a function with a contract, and a lemma
-//! (`collect-follows`) leads from what one call returns to what the whole array is. So the contract of `step` says each cell
-//! of the next generation by the rule, for any layout of the grid. Nothing is required of the grid: one without cells has no
-//! next generation but itself.
+//! One step is an array made by `from_shape_fn`, which calls a function for each index list; that reads the cell there and its
+//! neighbours through a view and returns the next state. The closure calls a function with a contract, and the clause `inside`
+//! of that call leads from what it returns in the grid to what the whole array is. So the contract of `step` says each cell of
+//! the next generation by the rule, for any layout of the grid. Nothing is required of the grid: one without cells has no next
+//! generation but itself.
 //!
 //! ```
 //! let row = ArrayView::from_shape((3, 3), &[o, o, o, x, x, x, o, o, o])?;
@@ -20,7 +20,7 @@ ghost use Rattle.ndarray.specs.Grid.{cell};
 ghost use Rattle.ndarray.specs.Index.{InBox, size};
 ghost use Rattle.uses.specs.Life.{generation, living, living_in_row, next_state_at, next_generation};
 
-use ndarray::{Array, ArrayBase, ArrayView, Data, Dimension, Ix2, Zip};
+use ndarray::{Array, ArrayBase, ArrayView, Data, Dimension, Ix2};
 use std::alloc::{AllocError, Global};
 
 /// The grid after a number of steps; one without cells at once. The error is allocation failure.
@@ -51,7 +51,7 @@ pub fn step<S: Data<Elem = bool>>(
     ensures empty { size grid.now.lengths ≡ 0 → IsOk result }
 {
     let grid = grid.view();
-    Zip::indexed(&grid).map_collect(alloc, |(i, j), _alive| next_state(&grid, i, j))
+    Array::from_shape_fn(alloc, grid.raw_dim(), |(i, j)| next_state(&grid, i, j))
 }
 
 /// The next state of a cell; outside the grid `false`.

@@ -1,10 +1,12 @@
-//! Five worked uses of `ndarray`, a module each with its contract: a filter of pictures (`picture`), the game of life (`life`),
-//! linear recurrences (`recurrence`), a report of a table (`report`) and a filter of signals (`fir`). They are to be copied.
+//! Seven worked uses of `ndarray`, a module each with its contract: a filter of pictures (`picture`), the game of life (`life`), linear
+//! recurrences (`recurrence`), a report of a table (`report`), a filter of signals (`fir`), sums of windows of a table (`box_sums`) and a
+//! blur by a column and a row (`smooth`). They are to be copied.
 //!
 //! `uses COMMAND < INPUT` runs one of them, and ends with status 0, or 2 after a line that names the fault. docs/CALLING.md shows
 //! the commands.
 #![tactic(auto)]
 
+pub mod box_sums;
 mod command;
 mod fault;
 pub mod fir;
@@ -19,6 +21,7 @@ pub mod report;
 mod reporting;
 mod rows;
 mod signal;
+pub mod smooth;
 mod spelling;
 
 use crate::fault::Fault;

@@ -6,7 +6,7 @@
 //! the sign, and at most 255. So an even area is black, and edges are bright.
 //!
 //! Both are a convolution with a kernel of nine numbers, `conv_valid`, behind its range test, `valid_fits`; and then a function
-//! of each sum, by a `Zip`. A convolution takes the kernel from the other end; these kernels are the
+//! of each sum, by `mapv`. A convolution takes the kernel from the other end; these kernels are the
 //! same from both ends, and the contracts say each pixel by the plain sum of the square.
 //!
 //! ```
@@ -23,7 +23,7 @@ ghost use Rattle.ndarray.specs.Integers.{int_products, int_sums};
 ghost use Rattle.uses.specs.Picture.{HasInnerPixels, blur_kernel, edge_kernel, edge_pixel, filtered_pixel, mean_pixel};
 
 use ndarray::conv::{conv_valid, valid_fits};
-use ndarray::{Array, ArrayBase, ArrayView, Data, Dimension, Ix2, Zip};
+use ndarray::{Array, ArrayBase, ArrayView, Data, Dimension, Ix2};
 use std::alloc::{AllocError, Global};
 
 /// What a filter gives: a picture, or `None`, or allocation failure.
@@ -40,7 +40,7 @@ pub fn blur<S: Data<Elem = i64>>(alloc: Global, image: &ArrayBase<S, Ix2>) -> Fi
     let Some(sums) = filter(alloc, image, &kernel(&[1, 1, 1, 1, 1, 1, 1, 1, 1]))? else {
         return Ok(None);
     };
-    let means = Zip::from(&sums).map_collect(alloc, |sum| mean(*sum))?;
+    let means = sums.mapv(alloc, |sum| mean(sum))?;
     Ok(Some(means))
 }
 
@@ -55,7 +55,7 @@ pub fn edges<S: Data<Elem = i64>>(alloc: Global, image: &ArrayBase<S, Ix2>) -> F
     let Some(sums) = filter(alloc, image, &kernel(&[-1, -1, -1, -1, 8, -1, -1, -1, -1]))? else {
         return Ok(None);
     };
-    let edges = Zip::from(&sums).map_collect(alloc, |sum| brightness(*sum))?;
+    let edges = sums.mapv(alloc, |sum| brightness(sum))?;
     Ok(Some(edges))
 }
 

@@ -37,6 +37,15 @@ fn push_sum(text: &mut String, line: &ArrayView<'_, i64, Ix1>, sum: i64) -> Resu
     write!(text, "{sum}\n")
 }
 
+/// A table as text: a line for each row, where it has cells.
+pub fn table_text(alloc: Global, table: &ArrayView<'_, i64, Ix2>) -> Result<String, AllocError>
+    ensures { IfOk result (λ text. string_bytes text ≡ pixels_text table.now) }
+{
+    let mut text = String::new(alloc);
+    push_pixels(&mut text, table)?;
+    Ok(text)
+}
+
 /// A picture as plain PGM: a line for each row, where it has pixels.
 pub fn picture_text(alloc: Global, picture: &ArrayView<'_, i64, Ix2>) -> Result<String, AllocError>
     ensures { IfOk result (λ text. string_bytes text ≡ picture_text picture.now) }

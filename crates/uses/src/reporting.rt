@@ -37,7 +37,7 @@ fn push_place(
     match place {
         Place::Whole => Ok(()),
         Place::End => push_end(line),
-        Place::Argument => push_argument(line, words),
+        Place::Argument(at) => push_argument(line, words, at),
         Place::Line(at) => push_line(line, input, at),
         Place::Word(at) => push_word(line, input, at),
     }
@@ -51,11 +51,11 @@ fn push_end(line: &mut String) -> Result<(), AllocError>
     Ok(())
 }
 
-/// Appends the number of a command.
-fn push_argument(line: &mut String, words: &[String]) -> Result<(), AllocError>
+/// Appends a number of a command.
+fn push_argument(line: &mut String, words: &[String], at: usize) -> Result<(), AllocError>
     ensures { OnOk result (Extends (string_bytes line.old) (string_bytes line.new)) }
 {
-    let [_, argument] = words else {
+    let Some(argument) = words.get(at) else {
         return Ok(());
     };
     line.push_str(": ")?;

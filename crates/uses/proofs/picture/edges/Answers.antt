@@ -1,4 +1,4 @@
-use Rattle.ndarray.proofs.Common.{rules, ◌≡◌, ◌∙◌, ℤ, Some, ap, min, pos, subst, sym, unsigned_abs, array_by, cell, value_or, collect-follows}
+use Rattle.ndarray.proofs.Common.{rules, ℤ, ap, min, pos, unsigned_abs, subst}
 use Rattle.uses.specs.Picture.{HasInnerPixels, edge_kernel, edge_pixel, filtered_pixel}
 use Rattle.uses.proofs.Pictures.{edge-sum, inner-pixels}
 use Rattle.uses.proofs.picture.edges.Goals as goal
@@ -9,13 +9,4 @@ returns-clause-pixels g c =
     let sums = c.in-Some.sums in
     let f : ℤ → ℤ = λ s. pos (min (unsigned_abs s) 255) in
     let filtered : HasInnerPixels image (filtered_pixel image edge_kernel) sums = subst (λ k. HasInnerPixels image (filtered_pixel image k) sums) c.kernel.ensures.value (search rules) in
-    let first : c.from.result.nested ≡ sums = c.from.ensures in
-    let ran = c.in_ok-edges.ensures.ran in
-    inner-pixels image edge_kernel sums c.in_ok-edges.edges f (edge_pixel image) filtered (λ r c. ap f (edge-sum image r c)) c.in_ok-edges.ensures.whole
-    (collect-follows _ _ _ (λ is. f (value_or (λ x. x) (pos 0) (cell sums is))) _
-    (λ i x r k inside shown call.
-    let there : cell sums i ≡ Some x.now = rw first at shown in
-    let answer : r ≡ f x.now = search (rules, call) in
-    (search (rules, call), answer ∙ ap (λ o. f (value_or (λ x. x) (pos 0) o)) (sym there)))
-    ran.0 c.in_ok-edges.edges c.in_ok-edges.ensures.whole ran.1
-    ∙ ap (λ v. array_by v.lengths (λ is. f (value_or (λ x. x) (pos 0) (cell sums is)))) first)
+    inner-pixels image edge_kernel sums c.in_ok-edges.edges f (edge_pixel image) _ filtered (λ r c. ap f (edge-sum image r c)) (λ x z call. search (rules, call)) c.in_ok-edges.ensures.cells

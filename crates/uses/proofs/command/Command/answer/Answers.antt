@@ -9,6 +9,12 @@ returns-in-Blur-clause-text c = subst (λ command. IfOk c.blur.result (λ text. 
 pub returns-in-Blur-clause-err : goal.returns-in-Blur-clause-err
 returns-in-Blur-clause-err c = subst (λ command. IfErr c.blur.result (IsFaultOf (Prints command c.args.input.now))) (sym c.in-Blur.is) c.blur.ensures.err
 
+pub returns-in-BoxSums-clause-text : goal.returns-in-BoxSums-clause-text
+returns-in-BoxSums-clause-text c = subst (λ command. IfOk c.summed_boxes.result (λ text. Prints command c.args.input.now (string_bytes text))) (sym c.in-BoxSums.is) c.summed_boxes.ensures.text
+
+pub returns-in-BoxSums-clause-err : goal.returns-in-BoxSums-clause-err
+returns-in-BoxSums-clause-err c = subst (λ command. IfErr c.summed_boxes.result (IsFaultOf (Prints command c.args.input.now))) (sym c.in-BoxSums.is) c.summed_boxes.ensures.err
+
 pub returns-in-Edges-clause-text : goal.returns-in-Edges-clause-text
 returns-in-Edges-clause-text c = subst (λ command. IfOk c.edges.result (λ text. Prints command c.args.input.now (string_bytes text))) (sym c.in-Edges.is) c.edges.ensures.text
 
@@ -38,3 +44,9 @@ returns-in-Report-clause-text c = subst (λ command. IfOk c.reported.result (λ 
 
 pub returns-in-Report-clause-err : goal.returns-in-Report-clause-err
 returns-in-Report-clause-err c = subst (λ command. IfErr c.reported.result (IsFaultOf (Prints command c.args.input.now))) (sym c.in-Report.is) c.reported.ensures.err
+
+pub returns-in-Smooth-clause-text : goal.returns-in-Smooth-clause-text
+returns-in-Smooth-clause-text c = subst (λ command. IfOk c.smoothed.result (λ text. Prints command c.args.input.now (string_bytes text))) (sym c.in-Smooth.is) c.smoothed.ensures.text
+
+pub returns-in-Smooth-clause-err : goal.returns-in-Smooth-clause-err
+returns-in-Smooth-clause-err c = subst (λ command. IfErr c.smoothed.result (IsFaultOf (Prints command c.args.input.now))) (sym c.in-Smooth.is) c.smoothed.ensures.err
