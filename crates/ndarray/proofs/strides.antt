@@ -17,6 +17,7 @@ pub mod OtherElements
 pub mod PlacesInOrder
 pub mod Reach
 pub mod Rows
+pub mod SamePlaces
 pub mod SeenCells
 pub mod SideBySide
 pub mod Strides

@@ -17,6 +17,7 @@ mod layout_places;
 pub mod pair;
 mod part_counts;
 pub mod producer;
+pub(crate) mod repeated;
 pub mod row_items;
 mod subviews;
 mod turns;

@@ -3,23 +3,23 @@
 use std::hint::black_box;
 use std::time::Instant;
 
-const WALKS: [&str; 42] = [
+const WALKS: [&str; 44] = [
     "sum", "sum_transposed", "sum_reversed", "sum_stepped", "sums_fit", "sums_fit_transposed", "checked_sum",
     "sum_axis_rows", "sum_axis_columns", "iter", "iter_transposed", "iter_stepped", "iter_mut", "indexed_iter",
     "indexed_iter_mut", "to_owned", "to_owned_column_major", "into_iter_of_a_copy", "windows_3x3", "axis_iter",
     "columns", "zip_one_fold", "zip_one_for_each", "zip_two_fold", "zip_three_fold", "zip_two_for_each",
     "zip_two_map_collect", "zip_two_map_assign_into", "zip_two_map_assign_into_view", "zip_two_for_each_mixed",
     "zip_two_fold_column_major", "zip_two_fold_mixed", "zip_two_map_collect_mixed", "ref_add_ref",
-    "ref_add_ref_mixed", "ref_add_row", "ref_add_scalar", "owned_add_ref", "owned_add_scalar", "add_assign",
-    "add_assign_mixed", "add_assign_row",
+    "ref_add_ref_mixed", "ref_add_row", "ref_add_column", "ref_add_scalar", "owned_add_ref", "owned_add_scalar", "add_assign",
+    "add_assign_mixed", "add_assign_row", "add_assign_column",
 ];
 
 const EVERYDAY: [&str; 10] = [
     "map", "mapv", "combine", "from_shape_fn", "mapv_inplace", "map_inplace", "zip_mut_with", "assign", "fill", "equals",
 ];
 
-const NARROW: [&str; 4] = [
-    "ref_add_ref", "ref_add_scalar", "add_assign", "add_assign_scalar",
+const NARROW: [&str; 6] = [
+    "ref_add_ref", "ref_add_scalar", "add_assign", "add_assign_scalar", "ref_add_column", "add_assign_column",
 ];
 
 const JOINS: [&str; 13] = [
@@ -186,6 +186,20 @@ fn narrow<A: Copy>(name: &str, n: usize, a: &mut [A], b: &[A], add: impl Fn(A, A
         "add_assign" => {
             for (x, y) in a.iter_mut().zip(b) {
                 *x = add(*x, *y);
+            }
+        }
+        "ref_add_column" => {
+            let mut made = Vec::with_capacity(n * n);
+            for (cells, y) in a.chunks(n).zip(b.chunks(n)) {
+                made.extend(cells.iter().map(|x| add(*x, y[0])));
+            }
+            return made[n + 1];
+        }
+        "add_assign_column" => {
+            for (cells, y) in a.chunks_mut(n).zip(b.chunks(n)) {
+                for x in cells {
+                    *x = add(*x, y[0]);
+                }
             }
         }
         _ => {
@@ -669,6 +683,21 @@ fn walk(name: &str, n: usize, a: &mut [i64], b: &[i64], c: &[i64]) -> i64 {
             let row = &b[..n];
             for cells in a.chunks_mut(n) {
                 for (x, y) in cells.iter_mut().zip(row) {
+                    *x = x.wrapping_add(*y);
+                }
+            }
+            return 1;
+        }
+        "ref_add_column" => {
+            let mut made = Vec::with_capacity(n * n);
+            for (cells, y) in a.chunks(n).zip(b) {
+                made.extend(cells.iter().map(|x| x.wrapping_add(*y)));
+            }
+            return made[n + 1];
+        }
+        "add_assign_column" => {
+            for (cells, y) in a.chunks_mut(n).zip(b) {
+                for x in cells {
                     *x = x.wrapping_add(*y);
                 }
             }

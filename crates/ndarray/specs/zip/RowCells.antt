@@ -1,5 +1,5 @@
 -- The cells of rows that a view gives.
-use Rattle.std.specs.Prelude.{List, ⊤}
+use Rattle.std.specs.Prelude.{◌≡◌, ◌<◌, List, length, replicate, ⊤}
 use Rattle.ndarray.specs.declared.zip.views.ViewRow.{ViewRow}
 use Rattle.ndarray.specs.declared.zip.views.ViewRow.TheVariants.{Slice, Stepped}
 use Rattle.ndarray.specs.declared.zip.views_mut.ViewRowMut.{ViewRowMut}
@@ -23,3 +23,7 @@ row_cells_mut (write.Stepped cells) = cells
 abbrev pub IsSliceMut : {A : Type 0} → ViewRowMut A → Type 0
 IsSliceMut (write.Slice s) = ⊤
 IsSliceMut (write.Stepped cells) = ⊥
+
+-- one element, again and again
+abbrev pub IsRepeated : {A : Type 0} → List A → Type 0
+IsRepeated {A} xs = (0 < length xs) × ((x : A) × (xs ≡ replicate (length xs) x))

@@ -120,6 +120,16 @@ impl<D: Lengths> Layout<D> {
         0
     }
 
+    /// Whether each row in an order has more than one cell, all at one place. No contract speaks of it.
+    pub(crate) fn is_still_in(&self, order: Order) -> bool {
+        let ndim = self.dim.ndim();
+        if ndim == 0 {
+            return false;
+        }
+        let axis = axis_at(order, ndim, 0);
+        self.dim.axis(axis) > 1 && self.stride(axis) == 0
+    }
+
     /// Whether the cells are known to lie side by side in an order, as no cells do.
     pub(crate) fn is_contiguous_in(&self, order: Order) -> bool
         requires as_many { length (D.numbers self.now.strides) ≡ length (D.numbers self.now.dim) }

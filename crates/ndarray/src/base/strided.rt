@@ -1,10 +1,11 @@
 //! Elements that lie a step apart, one after another: for `base`, `iter` and `linalg`.
 
-ghost use Rattle.std.specs.Prelude.{◌≡◌, [], ◌∷◌, ◌<◌, All, length, filter_map, IfSome, MatchOption};
+ghost use Rattle.std.specs.Prelude.{◌≡◌, [], ◌∷◌, ◌<◌, All, length, filter_map, IfSome, IsTrue, MatchOption};
 ghost use Rattle.std.specs.Iterator.{YieldsFirstRef, YieldsLastRef, item_count};
 ghost use Rattle.ndarray.specs.Grid.{cell};
 ghost use Rattle.ndarray.specs.Index.{InBox};
 ghost use Rattle.ndarray.specs.base.Ranks.{row_from};
+ghost use Rattle.ndarray.specs.zip.RowCells.{IsRepeated};
 
 use crate::base::array::ArrayView;
 use crate::base::dimension::{Dimension, Ix1, Lengths};
@@ -107,6 +108,18 @@ impl<'a, A> Strided<'a, A> {
             return None;
         }
         Some(self.storage.elements_from(self.place, self.left))
+    }
+
+    /// Whether they are known to be one element, again and again.
+    #[inline(always)]
+    pub(crate) fn is_repeated(&self) -> bool
+        ensures { IsTrue result → IsRepeated self.now }
+    {
+        let _place = self.place;
+        if self.step != 0 {
+            return false;
+        }
+        self.left > 0
     }
 
     /// A copy of it.

@@ -9,7 +9,7 @@ use crate::base::dimension::Lengths;
 use crate::base::storage::{Data, DataMut};
 use crate::everyday::calls::{Copies, OnTwo, WritingBeside};
 use crate::zip::collecting::collect_of_both;
-use crate::zip::updating::try_update;
+use crate::zip::repeated::try_update_beside;
 use std::alloc::{AllocError, Global};
 
 impl<A, S: Data<Elem = A>, D: Lengths> ArrayBase<S, D> {
@@ -61,7 +61,7 @@ impl<A: Copy, S: DataMut<Elem = A>, D: Lengths> ArrayBase<S, D> {
         ensures cells { MapsTwo (LeavesBeside F.Fn f) self.old rhs.now self.new }
     {
         let _whole = self.raw_dim();
-        match try_update(self, rhs.view(), WritingBeside(f)) {
+        match try_update_beside(self, rhs.view(), WritingBeside(f)) {
             Ok(()) => {}
             Err(_) => unreachable!(),
         }
@@ -79,7 +79,7 @@ impl<A: Copy, S: DataMut<Elem = A>, D: Lengths> ArrayBase<S, D> {
         requires { rhs.now.lengths ≡ self.old.lengths }
         ensures { self.new ≡ rhs.now }
     {
-        match try_update(self, rhs.view(), Copies) {
+        match try_update_beside(self, rhs.view(), Copies) {
             Ok(()) => {}
             Err(_) => unreachable!(),
         }

@@ -14,7 +14,8 @@ use crate::zip::all_items::all_in_either_order;
 use crate::zip::closures::ItemCall;
 use crate::zip::pair::Pair;
 use crate::zip::producer::IntoBroadcast;
-use crate::zip::updating::{CellCall, try_update};
+use crate::zip::repeated::try_update_beside;
+use crate::zip::updating::CellCall;
 use std::alloc::AllocError;
 
 impl<A: LinalgScalar, S: DataMut<Elem = A>, D: Lengths> ArrayBase<S, D> {
@@ -34,7 +35,7 @@ impl<A: LinalgScalar, S: DataMut<Elem = A>, D: Lengths> ArrayBase<S, D> {
         ensures { Assigns (AddsProduct A.Valued alpha) self.old rhs.now self.new }
     {
         let rhs: ArrayView<'_, A, D> = rhs.view().into_broadcast(self.raw_dim());
-        match try_update(self, rhs, ScaledAddition { alpha }) {
+        match try_update_beside(self, rhs, ScaledAddition { alpha }) {
             Ok(()) => {}
             Err(_) => unreachable!(),
         }

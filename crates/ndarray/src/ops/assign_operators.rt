@@ -8,6 +8,7 @@ use crate::base::storage::{Data, DataMut};
 use crate::ops::cell_calls::{OnCopies, WithCopies};
 use crate::ops::operations::Operation;
 use crate::zip::producer::IntoBroadcast;
+use crate::zip::repeated::try_update_beside;
 use crate::zip::units::Units;
 use crate::zip::updating::try_update;
 use std::marker::PhantomData;
@@ -27,7 +28,7 @@ where
 {
     let rhs: ArrayView<'_, B, D> = rhs.view().into_broadcast(array.raw_dim());
     let call: OnCopies<O> = OnCopies(PhantomData);
-    match try_update(array, rhs, call) {
+    match try_update_beside(array, rhs, call) {
         Ok(()) => {}
         Err(_) => unreachable!(),
     }

@@ -17,8 +17,9 @@ use crate::base::dimension::Lengths;
 use crate::base::storage::Data;
 use crate::ops::cell_calls::{CellOperation, IntoLeft, OnBoth, OnEach, WithLeft, WithRight};
 use crate::ops::operations::{Exchange, Operation};
-use crate::zip::collecting::{try_collect_in_either_order, try_collect_of_both};
+use crate::zip::collecting::try_collect_in_either_order;
 use crate::zip::producer::{IntoBroadcast, NdProducer};
+use crate::zip::repeated::{RepeatsItems, try_collect_of_both, try_update_beside};
 use crate::zip::units::Units;
 use crate::zip::updating::{CellCall, try_update};
 use std::alloc::{AllocError, Global};
@@ -113,7 +114,7 @@ where
         unreachable!()
     };
     let call: IntoLeft<O> = IntoLeft(PhantomData);
-    update_cells(cells, right.into_broadcast(dim), call)
+    update_cells_beside(cells, right.into_broadcast(dim), call)
 }
 
 /// The same into the cells of the right array, if it has the result's lengths.
@@ -235,6 +236,32 @@ where
     ensures stopped { IfErr result (λ e. (o : Order) × (new : Grid A) × UpdatesUntil (is_cell_beside cells (P.yields_at items)) C.call_gives o call cells (Err e) new) }
 {
     match try_update(&mut cells, items, call) {
+        Ok(()) => {
+            let _axes = cells.ndim();
+            Ok(cells)
+        }
+        Err(refused) => Err(refused),
+    }
+}
+
+/// The same beside a producer whose rows may repeat one item.
+fn update_cells_beside<P, A, C>(
+    mut cells: Array<A, P::Dim>,
+    items: P,
+    call: C,
+) -> Result<Array<A, P::Dim>, AllocError>
+where
+    P: RepeatsItems,
+    A: Drop,
+    C: CellCall<A, P::Item>,
+    requires same { P.lengths items ≡ cells.lengths }
+    requires callable { (o : Order) → MayGather (is_cell_beside cells (P.yields_at items)) (answers C.call_gives) C.can_call (box_in o cells.lengths) call }
+    ensures ran { IfOk result (λ r. (o : Order) × Collects (is_cell_beside cells (P.yields_at items)) (answers C.call_gives) o cells.lengths call r) }
+    ensures axes { IfOk result (λ r. P.Dim.has_axes (length r.lengths)) }
+    ensures whole { IfOk result IsGrid }
+    ensures stopped { IfErr result (λ e. (o : Order) × (new : Grid A) × UpdatesUntil (is_cell_beside cells (P.yields_at items)) C.call_gives o call cells (Err e) new) }
+{
+    match try_update_beside(&mut cells, items, call) {
         Ok(()) => {
             let _axes = cells.ndim();
             Ok(cells)

@@ -12,7 +12,8 @@ use crate::base::array::{ArrayBase, ArrayView};
 use crate::base::dimension::Lengths;
 use crate::base::storage::{Data, DataMut};
 use crate::zip::IntoBroadcast;
-use crate::zip::updating::{ByRef2, try_update};
+use crate::zip::repeated::try_update_beside;
+use crate::zip::updating::ByRef2;
 use std::alloc::AllocError;
 
 impl<A: Drop, S: DataMut<Elem = A>, D: Lengths> ArrayBase<S, D> {
@@ -42,6 +43,6 @@ impl<A: Drop, S: DataMut<Elem = A>, D: Lengths> ArrayBase<S, D> {
         ensures whole { IsGrid self.new }
     {
         let rhs: ArrayView<'_, B, D> = rhs.view().into_broadcast(self.raw_dim());
-        try_update(self, rhs, ByRef2(f))
+        try_update_beside(self, rhs, ByRef2(f))
     }
 }

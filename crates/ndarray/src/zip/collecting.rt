@@ -108,23 +108,6 @@ pub(crate) fn collect_of_both<
     collect_in_either_order(alloc, Pair { first, second }, f)
 }
 
-/// The same for a closure that may fail.
-pub(crate) fn try_collect_of_both<
-    P: NdProducer,
-    Q: NdProducer,
-    R: Drop,
-    C: ItemCall<(P::Item, Q::Item), Out = Result<R, AllocError>>,
->(alloc: Global, first: P, second: Q, f: C) -> Result<Array<R, P::Dim>, AllocError>
-    requires same { P.lengths first ≡ Q.lengths second }
-    requires callable { (o : Order) → MayGather (both (P.yields_at first) (Q.yields_at second)) (answers C.call_gives) C.can_call (box_in o (P.lengths first)) f }
-    ensures ran { IfOk result (λ g. (o : Order) × Collects (both (P.yields_at first) (Q.yields_at second)) (answers C.call_gives) o (P.lengths first) f g) }
-    ensures axes { IfOk result (λ g. P.Dim.has_axes (length g.lengths)) }
-    ensures whole { IfOk result IsGrid }
-    ensures empty { size (P.lengths first) ≡ 0 → IsOk result }
-{
-    try_collect_in_either_order(alloc, Pair { first, second }, f)
-}
-
 /// An array that is being filled with what a closure returns.
 #[derive(Drop)]
 struct Collecting<R, D: Lengths, C> {

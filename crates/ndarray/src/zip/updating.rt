@@ -67,6 +67,26 @@ pub(crate) fn try_update<P: NdProducer, A: Drop, S: DataMut<Elem = A>, C: CellCa
     ensures whole { IsGrid array.new }
 {
     let order = assigning_order(&other, array);
+    try_update_in(array, other, order, f)
+}
+
+/// The same in an order.
+pub(crate) fn try_update_in<P, A, S, C>(
+    array: &mut ArrayBase<S, P::Dim>,
+    other: P,
+    order: Order,
+    f: C,
+) -> Result<(), AllocError>
+where
+    P: NdProducer,
+    A: Drop,
+    S: DataMut<Elem = A>,
+    C: CellCall<A, P::Item>,
+    requires same { P.lengths other ≡ array.old.lengths }
+    requires callable { MayGather (is_cell_beside array.old (P.yields_at other)) (answers C.call_gives) C.can_call (box_in order array.old.lengths) f }
+    ensures ran { UpdatesUntil (is_cell_beside array.old (P.yields_at other)) C.call_gives order f array.old result array.new }
+    ensures whole { IsGrid array.new }
+{
     let places = LayoutPlaces::of(array.layout.copied());
     let updates = Updates {
         items: Pair {

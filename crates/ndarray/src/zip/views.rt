@@ -1,11 +1,11 @@
 //! Views and references to arrays as producers of their cells.
 
 ghost use Rattle.std.specs.Prelude.{◌≡◌, Some, filter_map, IsSome};
-ghost use Rattle.std.specs.Iterator.{YieldsFirstBy, item_count};
+ghost use Rattle.std.specs.Iterator.{YieldsFirstBy, YieldsFirstRef, item_count};
 ghost use Rattle.std.proofs.Common.{ap};
 ghost use Rattle.ndarray.specs.Grid.{cell, IsGrid, HasCells};
 ghost use Rattle.ndarray.specs.order.Rows.{AreRowsIn};
-ghost use Rattle.ndarray.specs.zip.RowCells.{row_cells, IsSlice};
+ghost use Rattle.ndarray.specs.zip.RowCells.{row_cells, IsRepeated, IsSlice};
 ghost use Rattle.ndarray.specs.Views.{broadcast_to};
 
 use crate::base::array::{ArrayBase, ArrayView};
@@ -16,6 +16,7 @@ use crate::base::strided::Strided;
 use crate::order::Order;
 use crate::order::rows::BoxRows;
 use crate::zip::producer::{IntoBroadcast, IntoNdProducer, KeepsLengths, NdProducer, Shaped};
+use crate::zip::repeated::RepeatsItems;
 use std::marker::Model;
 
 impl<S: Data, D: Lengths> Shaped for ArrayBase<S, D> {
@@ -99,10 +100,77 @@ impl<'a, A, D: Lengths> NdProducer for ArrayView<'a, A, D> {
 
     #[inline(always)]
     fn run_row(row: ViewRow<'a, A>) -> Strided<'a, A> {
+        row.into_strided()
+    }
+}
+
+impl<'a, A, D: Lengths> RepeatsItems for ArrayView<'a, A, D> {
+    type SameRow = SameCells<'a, A>;
+
+    ghost is_same = { λ r. IsRepeated (row_cells r) };
+
+    fn repeats_in(&self, order: Order) -> bool {
+        self.layout.is_still_in(order)
+    }
+
+    #[inline(always)]
+    fn is_same_row(row: &ViewRow<'a, A>) -> bool {
         match row {
-            ViewRow::Slice(slice) => Strided::over(slice),
-            ViewRow::Stepped(cells) => cells,
+            ViewRow::Slice(_slice) => false,
+            ViewRow::Stepped(cells) => cells.is_repeated(),
         }
+    }
+
+    #[inline(always)]
+    fn same_row(row: ViewRow<'a, A>) -> SameCells<'a, A> {
+        SameCells::of(row.into_strided())
+    }
+}
+
+/// A cell that is still to come so many times.
+#[derive(Drop)]
+pub struct SameCells<'a, A> {
+    cell: &'a A,
+    left: usize,
+}
+
+impl<'a, A> Model for SameCells<'a, A> {
+    ghost use Rattle.std.specs.Prelude.{List, replicate};
+
+    ghost Value = { List A };
+
+    ghost view = { λ s. replicate s.left s.cell.now };
+}
+
+impl<'a, A> SameCells<'a, A> {
+    /// Cells that are one cell, again and again.
+    #[inline(always)]
+    fn of(mut cells: Strided<'a, A>) -> Self
+        requires { IsRepeated cells }
+        ensures { result ≡ cells.entry }
+    {
+        let left = cells.len();
+        let Some(cell) = cells.next() else {
+            unreachable!()
+        };
+        SameCells { cell, left }
+    }
+}
+
+impl<'a, A> Iterator for SameCells<'a, A> {
+    type Item = &'a A;
+
+    ghost next_gives = { YieldsFirstRef (λ rest. rest) };
+
+    ghost remaining = { item_count (λ rest. rest) };
+
+    #[inline(always)]
+    fn next(&mut self) -> Option<&'a A> {
+        if self.left == 0 {
+            return None;
+        }
+        self.left -= 1;
+        Some(self.cell)
     }
 }
 
@@ -124,6 +192,17 @@ impl<'a, A> ViewRow<'a, A> {
         match cells.side_by_side() {
             Some(slice) => ViewRow::Slice(slice),
             None => ViewRow::Stepped(cells),
+        }
+    }
+
+    /// The cells, a step apart.
+    #[inline(always)]
+    fn into_strided(self) -> Strided<'a, A>
+        ensures { result ≡ row_cells self.entry }
+    {
+        match self {
+            ViewRow::Slice(slice) => Strided::over(slice),
+            ViewRow::Stepped(cells) => cells,
         }
     }
 }

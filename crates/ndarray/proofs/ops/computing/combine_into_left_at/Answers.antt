@@ -31,11 +31,11 @@ module _ (g : _) (c : After-into_broadcast g) where
   cells-at : (i : List ℕ) (x : g.row.A.Denot) (y : g.row.B.Denot) → cell c.in-Ok.cells i ≡ Some x → cell c.into_broadcast.result i ≡ Some y → AreCellsAt c.args.left c.args.right i x y
   cells-at i x y p q = record { left = ap (λ v. cell v i) (sym left) ∙ p; right = ap (λ v. cell v i) (sym right) ∙ q }
 
-pub update_cells-requires-clause-same : goal.update_cells-requires-clause-same
-update_cells-requires-clause-same g c = ap (λ v. v.lengths) (right g c) ∙ sym (ap (λ v. v.lengths) (left g c))
+pub update_cells_beside-requires-clause-same : goal.update_cells_beside-requires-clause-same
+update_cells_beside-requires-clause-same g c = ap (λ v. v.lengths) (right g c) ∙ sym (ap (λ v. v.lengths) (left g c))
 
-pub update_cells-requires-clause-callable : goal.update_cells-requires-clause-callable
-update_cells-requires-clause-callable g c = λ o.
+pub update_cells_beside-requires-clause-callable : goal.update_cells_beside-requires-clause-callable
+update_cells_beside-requires-clause-callable g c = λ o.
     may-gather _ _ _ _ (λ i x r k s h. refl) _ o
     (λ i x b s. (c.requires.can.defined i x.0 x.1.now (cells-at g c i x.0 x.1.now s.0 s.1), c.requires.left_clones, c.requires.right_clones))
 
@@ -52,14 +52,14 @@ returns-then-ne g c =
 pub returns : goal.returns
 returns g c =
     let here = (goal.at.returns g c).After-into_broadcast in
-    let e = c.update_cells.ensures in
+    let e = c.update_cells_beside.ensures in
     record {
-      made = if_ok-both c.update_cells.result _ _ _
+      made = if_ok-both c.update_cells_beside.result _ _ _
           (λ r ran whole. combines-of _ _ (λ _. ⊤) (λ f x z h n k. tt) ran.0 _ tt r whole c.args.left c.args.right (λ x. x.0) (λ x. x.1.now) _
           (λ i x s. cells-at g here i x.0 x.1.now s.0 s.1) (λ f x z h n k. k.0) _ (ap (λ v. v.lengths) (left g here)) ran.1)
           e.ran e.whole;
       axes = e.axes;
-      empty = λ none. stopped-none _ _ _ _ c.update_cells.result (ap (λ v. size v.lengths) (left g here) ∙ none) e.stopped;
+      empty = λ none. stopped-none _ _ _ _ c.update_cells_beside.result (ap (λ v. size v.lengths) (left g here) ∙ none) e.stopped;
       in_place = λ lengths left_ok right_ok. stopped-never _ _ _ _ (λ _. ⊤) (λ f x a h n k. tt) tt
-          (λ i f x e h n y k. let ok = k.1 (left_ok x.0) (right_ok x.1.now) in absurd (cc)) c.update_cells.result e.stopped;
+          (λ i f x e h n y k. let ok = k.1 (left_ok x.0) (right_ok x.1.now) in absurd (cc)) c.update_cells_beside.result e.stopped;
     }

@@ -7,8 +7,8 @@ use Rattle.ndarray.proofs.cells.Elementwise.{assigns-of}
 use Rattle.ndarray.proofs.cells.UpdatedCells.{updates-collect}
 use Rattle.ndarray.proofs.base.array.ArrayBase.scaled_add.Goals as goal
 
-pub try_update-requires-clause-callable : goal.try_update-requires-clause-callable
-try_update-requires-clause-callable g c =
+pub try_update_beside-requires-clause-callable : goal.try_update_beside-requires-clause-callable
+try_update_beside-requires-clause-callable g c =
     let right : c.into_broadcast-rhs.result ≡ broadcast_to c.args.rhs.now c.args.self.now.lengths =
     c.into_broadcast-rhs.ensures.seen ∙ (ap (λ v. broadcast_to v (g.D.Lengths.numbers c.raw_dim.result)) c.view.ensures.same ∙ ap (broadcast_to c.args.rhs.now) c.raw_dim.ensures.lengths) in
     λ o. may-gather _ _ _ _ (λ i x r k s h. h.1) _ o (λ i x b s. c.requires.defined i x.0 x.1.now (s.0, ap (λ v. cell v i) (sym right) ∙ s.1))

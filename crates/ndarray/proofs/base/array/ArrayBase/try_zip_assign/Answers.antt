@@ -11,14 +11,14 @@ pair-of : {A B : Type 0} (g : Grid A) (h v r : Grid B) (ms : List ℕ) → r ≡
     → (i : List ℕ) (x : A × Bor B) → is_cell_beside g (λ j y. cell r j ≡ Some y.now) i x → is_pair_of_cells g h i (x.0, x.1.now)
 pair-of g h v r ms seen same lengths i x s = (s.0, ap (λ w. cell w i) (sym (seen ∙ (ap (λ w. broadcast_to w ms) same ∙ ap (broadcast_to h) lengths))) ∙ s.1)
 
-pub try_update-requires-clause-callable : goal.try_update-requires-clause-callable
-try_update-requires-clause-callable g c = λ o.
+pub try_update_beside-requires-clause-callable : goal.try_update_beside-requires-clause-callable
+try_update_beside-requires-clause-callable g c = λ o.
     let pair = pair-of c.args.self.now c.args.rhs.now _ _ _ c.into_broadcast-rhs.ensures.seen c.view.ensures.same c.raw_dim.ensures.lengths in
     let gives = call_gives_by_ref2 g.F.FnMut in
     MayUpdate-via _ _ (λ f x r h. gives f.0 (x.0, x.1.now) r h.0) gives (λ f. f.0) (λ x. (x.0, x.1.now)) pair (λ f x r h t. t) _ _ _ (λ f x h. h) _ (c.requires.callable o)
 
 pub returns-clause-ran : goal.returns-clause-ran
 returns-clause-ran g c =
-    let (o, ran) = c.try_update.ensures.ran in
+    let (o, ran) = c.try_update_beside.ensures.ran in
     let pair = pair-of c.args.self.now c.args.rhs.now _ _ _ c.into_broadcast-rhs.ensures.seen c.view.ensures.same c.raw_dim.ensures.lengths in
     (o, UpdatesUntil-via _ _ _ _ (λ f. f.0) (λ x. (x.0, x.1.now)) pair (λ f x r h t. t) _ o _ _ _ ran)

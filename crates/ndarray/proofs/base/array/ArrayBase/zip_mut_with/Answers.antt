@@ -6,8 +6,8 @@ use Rattle.ndarray.proofs.cells.Mapped.{maps-combined, maps_two-of}
 use Rattle.ndarray.proofs.cells.UpdatedCells.{updates-collect}
 use Rattle.ndarray.proofs.base.array.ArrayBase.zip_mut_with.Goals as goal
 
-pub try_update-requires-clause-callable : goal.try_update-requires-clause-callable
-try_update-requires-clause-callable g c = λ o.
+pub try_update_beside-requires-clause-callable : goal.try_update_beside-requires-clause-callable
+try_update_beside-requires-clause-callable g c = λ o.
     may-gather _ _ _ _ (λ i x r k s h. h.1) _ o (λ i x b s. c.requires.callable i x.0 x.1.now s.0 (ap (λ v. cell v i) (sym c.view.ensures.same) ∙ s.1))
 
 pub returns-clause-cells : goal.returns-clause-cells
