@@ -40,15 +40,22 @@ module _ (start : ℕ) (bs : List ℕ) where
   with_places-places [] = refl
   with_places-places (is ∷ iss) = ap (λ l. place start bs is ∷ l) (with_places-places iss)
 
--- the places of all cells, in an order, and what lies there
+-- the places of some cells, and of all in an order, and what lies there
+module _ {A one : Type 0} (at : ℕ → Option A) (ns : List ℕ) (start : ℕ) (bs : List ℕ) (h : Reaches one at ns start bs) where
+  pub held-some : (iss : List (List ℕ)) → All (InBox ns) iss → All (λ p. IsTrue (is_some (at p))) (places_along start bs iss)
+  held-some iss within = All-map (λ p. IsTrue (is_some (at p))) (place start bs) iss (λ k d lt. h.inside _ (within k d lt))
+
+  pub found-some : (iss : List (List ℕ)) → All (InBox ns) iss → filter_map at (places_along start bs iss) ≡ filter_map (cell (grid_at at ns start bs)) iss
+  found-some iss within =
+      filter_map-map at (place start bs) iss
+      ∙ filter_map-same (λ is. at (place start bs is)) (cell (grid_at at ns start bs)) (InBox ns) iss (λ is b. sym (cell-at at ns start bs h is b)) within
+
 module _ {A one : Type 0} (at : ℕ → Option A) (ns : List ℕ) (start : ℕ) (bs : List ℕ) (h : Reaches one at ns start bs) (o : Order) where
   pub held-all : All (λ p. IsTrue (is_some (at p))) (places_along start bs (box_in o ns))
-  held-all = All-map (λ p. IsTrue (is_some (at p))) (place start bs) (box_in o ns) (λ k d lt. h.inside _ (box_in-within o ns k d lt))
+  held-all = held-some at ns start bs h (box_in o ns) (box_in-within o ns)
 
   pub found-all : filter_map at (places_along start bs (box_in o ns)) ≡ cells_in o (grid_at at ns start bs)
-  found-all =
-      filter_map-map at (place start bs) (box_in o ns)
-      ∙ filter_map-same (λ is. at (place start bs is)) (cell (grid_at at ns start bs)) (InBox ns) (box_in o ns) (λ is b. sym (cell-at at ns start bs h is b)) (box_in-within o ns)
+  found-all = found-some at ns start bs h (box_in o ns) (box_in-within o ns)
 
   pub with_elements-all : with_elements at (with_places start bs (box_in o ns)) ≡ zip (box_in o ns) (cells_in o (grid_at at ns start bs))
   with_elements-all =

@@ -13,7 +13,7 @@ use Rattle.ndarray.specs.declared.base.shape.Order.{Order}
 use Rattle.ndarray.proofs.boxes.Boxes.{InBox-length}
 use Rattle.ndarray.proofs.boxes.Rows.{rows-joined, rows-within}
 use Rattle.ndarray.proofs.lists.Elements.{filter_map-same, map-same}
-use Rattle.ndarray.proofs.moving.BorrowedCells.{AreDistinctPlaces-all}
+use Rattle.ndarray.proofs.moving.BorrowedCells.{AreDistinctPlaces-all, found-some}
 use Rattle.ndarray.proofs.moving.SomePlaces.{found-moved}
 use Rattle.ndarray.proofs.strides.ContiguousCells.{filter_map-map}
 use Rattle.ndarray.proofs.strides.Reach.{cell-at}
@@ -34,7 +34,7 @@ module _ {A : Type 0} (at : ℕ → Option A) (ns : List ℕ) (start : ℕ) (bs 
   pub rows-found : {one : Type 0} → Reaches one at ns start bs → map (λ row. filter_map at (places_along start bs row)) (rows_in o ns) ≡ map (filter_map (cell (grid_at at ns start bs))) (rows_in o ns)
   rows-found h =
       map-same (λ row. filter_map at (places_along start bs row)) (filter_map (cell (grid_at at ns start bs))) (All (InBox ns)) (rows_in o ns)
-      (λ row within. filter_map-map at (place start bs) row ∙ filter_map-same (λ is. at (place start bs is)) (cell (grid_at at ns start bs)) (InBox ns) row (λ is b. sym (cell-at at ns start bs h is b)) within)
+      (λ row within. found-some at ns start bs h row within)
       (λ k d lt. (rows-within o ns k d lt).1)
 
 -- the next row, and the others

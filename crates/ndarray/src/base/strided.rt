@@ -5,6 +5,8 @@ ghost use Rattle.std.specs.Iterator.{YieldsFirstRef, YieldsLastRef, item_count};
 ghost use Rattle.ndarray.specs.Grid.{cell};
 ghost use Rattle.ndarray.specs.Index.{InBox};
 ghost use Rattle.ndarray.specs.base.Ranks.{row_from};
+ghost use Rattle.ndarray.specs.base.Storage.{seen_at};
+ghost use Rattle.ndarray.specs.base.Strided.{HaveElements, places_from};
 ghost use Rattle.ndarray.specs.zip.RowCells.{IsRepeated};
 
 use crate::base::array::ArrayView;
@@ -45,6 +47,19 @@ impl<'a, A> Strided<'a, A> {
             place: 0,
             step: 1,
             left: slice.len(),
+        }
+    }
+
+    /// The elements at `count` places, each a step after the one before.
+    pub(crate) fn at(storage: ViewRepr<'a, A>, place: usize, step: usize, count: usize) -> Self
+        requires { HaveElements (seen_at storage) (places_from place step count) }
+        ensures { result ≡ filter_map (seen_at storage.entry) (places_from place step count) }
+    {
+        Strided {
+            storage,
+            place,
+            step,
+            left: count,
         }
     }
 

@@ -1,36 +1,36 @@
 //! The cells of a view, row by row.
 
-ghost use Rattle.std.specs.Prelude.{◌≡◌, [], ◌+◌, ◌++◌, ◌<◌, ◌≤◌, length, take, drop, MatchOption};
+ghost use Rattle.std.specs.Prelude.{◌≡◌, [], ◌++◌, ◌+◌, ◌<◌, ◌≤◌, ◌^◌, length, take, drop, MatchOption};
 ghost use Rattle.std.specs.Iterator.{YieldsFirstRef, YieldsLastRef};
-ghost use Rattle.ndarray.specs.Grid.{HasCells};
 ghost use Rattle.ndarray.specs.Index.{InBox, size};
-ghost use Rattle.ndarray.specs.base.Strided.{SplitsOffRow};
 ghost use Rattle.ndarray.specs.base.Ranks.{rank};
 ghost use Rattle.ndarray.specs.Orders.{cells_in};
 
-use crate::base::array::ArrayView;
+use crate::base::array::{ArrayBase, ArrayView};
 use crate::base::dimension::{Ix1, Lengths};
+use crate::base::storage::ViewRepr;
 use crate::base::strided::Strided;
 use crate::order::{Order, Walk};
+use crate::places::place_rows::RowPlaces;
 use std::marker::Model;
 
-/// The cells of a view that are still to come: those of a row, and those of the index lists behind it.
+/// The cells of a view that are still to come: where they lie, row by row.
 #[derive(Drop)]
 pub(crate) struct RowElements<'a, A, D: Lengths> {
-    row: Strided<'a, A>,
-    view: ArrayView<'a, A, D>,
-    walk: Walk<D>,
+    storage: ViewRepr<'a, A>,
+    places: RowPlaces<D>,
 }
 
 impl<'a, A, D: Lengths> Model for RowElements<'a, A, D> {
-    ghost use Rattle.std.specs.Prelude.{List, filter_map, ◌++◌, ◌+◌, ◌<◌, ◌^◌, length};
-    ghost use Rattle.ndarray.specs.Grid.{cell, HasCells};
+    ghost use Rattle.std.specs.Prelude.{List, filter_map};
+    ghost use Rattle.ndarray.specs.base.Storage.{seen_at};
+    ghost use Rattle.ndarray.specs.base.Strided.{HaveElements};
 
     ghost Value = { List A };
 
-    ghost view = { λ s. s.row ++ filter_map (cell s.view) s.walk };
+    ghost view = { λ s. filter_map (seen_at s.storage) s.places };
 
-    ghost invariant = { λ s. HasCells s.view s.walk × (length s.row + length s.walk < 2 ^ 63) };
+    ghost invariant = { λ s. HaveElements (seen_at s.storage) s.places };
 }
 
 impl<'a, A, D: Lengths> RowElements<'a, A, D> {
@@ -38,11 +38,10 @@ impl<'a, A, D: Lengths> RowElements<'a, A, D> {
     pub(crate) fn in_order(v: ArrayView<'a, A, D>, order: Order) -> Self
         ensures { result ≡ cells_in order v.entry }
     {
-        let walk = Walk::new(v.raw_dim(), order);
+        let ArrayBase { storage, layout } = v;
         RowElements {
-            row: v.no_cells(),
-            view: v,
-            walk,
+            storage,
+            places: RowPlaces::new(layout, order),
         }
     }
 
@@ -53,10 +52,10 @@ impl<'a, A, D: Lengths> RowElements<'a, A, D> {
         ensures { result ≡ take count (drop (rank v.entry.lengths (D.numbers index)) v.entry.cells) }
     {
         let walk = Walk::starting_at(v.raw_dim(), Order::RowMajor, index, count);
+        let ArrayBase { storage, layout } = v;
         RowElements {
-            row: v.no_cells(),
-            view: v,
-            walk,
+            storage,
+            places: RowPlaces::over(layout, walk),
         }
     }
 
@@ -64,7 +63,7 @@ impl<'a, A, D: Lengths> RowElements<'a, A, D> {
     pub(crate) fn len(&self) -> usize
         ensures { result ≡ length self.now }
     {
-        self.row.len() + self.walk.len()
+        self.places.len()
     }
 
     /// A copy of it.
@@ -72,9 +71,8 @@ impl<'a, A, D: Lengths> RowElements<'a, A, D> {
         ensures { result ≡ self.now }
     {
         RowElements {
-            row: self.row.again(),
-            view: self.view.again(),
-            walk: self.walk.again(),
+            storage: self.storage,
+            places: self.places.again(),
         }
     }
 
@@ -82,17 +80,15 @@ impl<'a, A, D: Lengths> RowElements<'a, A, D> {
     pub(crate) fn take_row(&mut self) -> Option<Strided<'a, A>>
         ensures { MatchOption result ((self.old ≡ []) × (self.new ≡ [])) (λ row. (0 < length row) × (self.old ≡ row ++ self.new)) }
     {
-        if self.row.len() > 0 {
-            let row = self.row.again();
-            self.row = self.view.no_cells();
-            return Some(row);
-        }
-        let Some(taken) = next_row(self.view.again(), self.walk.again()) else {
+        let Some(row) = self.places.take_row() else {
             return None;
         };
-        let RowAndRest { row, walk } = taken;
-        self.walk = walk;
-        Some(row)
+        Some(Strided::at(
+            self.storage,
+            row.place,
+            row.stride,
+            row.left,
+        ))
     }
 
     /// The next cell.
@@ -100,20 +96,10 @@ impl<'a, A, D: Lengths> RowElements<'a, A, D> {
     pub(crate) fn next(&mut self) -> Option<&'a A>
         ensures { YieldsFirstRef (λ rest. rest) self.old result self.new }
     {
-        if let Some(x) = self.row.next() {
-            return Some(x);
-        }
-        // Copies are handed on, so that the iterator itself may live in registers.
-        let Some(taken) = next_row(self.view.again(), self.walk.again()) else {
+        let Some(place) = self.places.next() else {
             return None;
         };
-        let RowAndRest { row, walk } = taken;
-        self.row = row;
-        self.walk = walk;
-        let Some(x) = self.row.next() else {
-            unreachable!()
-        };
-        Some(x)
+        Some(self.storage.get(place))
     }
 }
 
@@ -122,34 +108,9 @@ impl<'a, A> RowElements<'a, A, Ix1> {
     pub(crate) fn next_back(&mut self) -> Option<&'a A>
         ensures { YieldsLastRef (λ rest. rest) self.old result self.new }
     {
-        match self.walk.next_back() {
-            Some(index) => Some(self.view.item(&index)),
-            None => self.row.next_back(),
-        }
+        let Some(place) = self.places.next_back() else {
+            return None;
+        };
+        Some(self.storage.get(place))
     }
-}
-
-/// A row of cells, and the index lists behind it.
-#[derive(Drop)]
-struct RowAndRest<'a, A, D: Lengths> {
-    row: Strided<'a, A>,
-    walk: Walk<D>,
-}
-
-/// The next row of a walk over cells of a view.
-#[inline(always)]
-fn next_row<'a, A, D: Lengths>(
-    view: ArrayView<'a, A, D>,
-    mut walk: Walk<D>,
-) -> Option<RowAndRest<'a, A, D>>
-    requires { HasCells view walk }
-    ensures { MatchOption result (walk ≡ []) (λ t. SplitsOffRow view.entry walk t.row t.walk) }
-{
-    let Some(row) = walk.next_row() else {
-        return None;
-    };
-    Some(RowAndRest {
-        row: view.cells_along(&row.first, row.axis, row.count),
-        walk,
-    })
 }

@@ -1,6 +1,6 @@
 //! The places of cells, row by row: on a row each is a stride after the one before.
 
-ghost use Rattle.std.specs.Prelude.{◌≡◌, [], ◌+◌, ◌<◌, ◌≤◌, ◌^◌, length, take, drop, All, IfSome, MatchOption};
+ghost use Rattle.std.specs.Prelude.{◌≡◌, [], ◌+◌, ◌++◌, ◌<◌, ◌≤◌, ◌^◌, length, take, drop, All, IfSome, MatchOption};
 ghost use Rattle.std.specs.Iterator.{YieldsFirst, YieldsLast, item_count};
 ghost use Rattle.ndarray.specs.Limits.{IsWithinLimit};
 ghost use Rattle.ndarray.specs.Orders.{box_in};
@@ -59,6 +59,17 @@ impl PlaceRow {
             place: layout.place(&row.first),
             stride: layout.stride(row.axis),
             left: row.count,
+        }
+    }
+
+    /// No place.
+    fn none() -> Self
+        ensures { result ≡ [] }
+    {
+        PlaceRow {
+            place: 0,
+            stride: 0,
+            left: 0,
         }
     }
 
@@ -318,12 +329,17 @@ impl<D: Lengths> RowPlaces<D> {
         ensures { result ≡ places_along layout.start (D.numbers layout.strides) (box_in order (D.numbers layout.dim)) }
     {
         let walk = Walk::new(layout.dim.copied(), order);
+        RowPlaces::over(layout, walk)
+    }
+
+    /// The places of the index lists of a walk.
+    pub(crate) fn over(layout: Layout<D>, walk: Walk<D>) -> Self
+        requires as_many { All (λ is. length (D.numbers layout.strides) ≡ length is) walk }
+        requires fits { length walk < 2 ^ 63 }
+        ensures { result ≡ places_along layout.start (D.numbers layout.strides) walk }
+    {
         RowPlaces {
-            row: PlaceRow {
-                place: 0,
-                stride: 0,
-                left: 0,
-            },
+            row: PlaceRow::none(),
             layout,
             walk,
         }
@@ -346,6 +362,23 @@ impl<D: Lengths> RowPlaces<D> {
             layout: self.layout.copied(),
             walk: self.walk.again(),
         }
+    }
+
+    /// Takes the places still to come that are on one row with the next one.
+    pub(crate) fn take_row(&mut self) -> Option<PlaceRow>
+        ensures { MatchOption result ((self.old ≡ []) × (self.new ≡ [])) (λ row. (0 < length row) × (self.old ≡ row ++ self.new)) }
+    {
+        if self.row.len() > 0 {
+            let row = self.row.again();
+            self.row = PlaceRow::none();
+            return Some(row);
+        }
+        let Some(taken) = next_row(self.layout.copied(), self.walk.again()) else {
+            return None;
+        };
+        let RowAndRest { row, walk } = taken;
+        self.walk = walk;
+        Some(row)
     }
 
     /// The next place.

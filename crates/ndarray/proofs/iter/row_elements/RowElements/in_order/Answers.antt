@@ -1,25 +1,18 @@
-use Rattle.std.proofs.Common.{sym, ap, ◌∙◌, ◌≡◌, subst, filter_map, arith, length}
-use Rattle.ndarray.specs.Grid.{HasCells, cell}
-use Rattle.ndarray.specs.Orders.{box_in}
-use Rattle.ndarray.proofs.cells.Cells.{HasCells-box_in}
-use Rattle.ndarray.proofs.boxes.Orders.{length-box_in}
-use Rattle.ndarray.proofs.boxes.Sizes.{size-le}
+use Rattle.std.proofs.Common.{◌∙◌, ap, filter_map, subst, sym}
+use Rattle.ndarray.specs.Orders.{cells_in}
+use Rattle.ndarray.specs.base.Storage.{seen_at}
+use Rattle.ndarray.specs.base.Strided.{HaveElements}
+use Rattle.ndarray.proofs.moving.BorrowedCells.{found-all, held-all}
 use Rattle.ndarray.proofs.iter.row_elements.RowElements.in_order.Goals as goal
-use Rattle.ndarray.proofs.iter.row_elements.RowElements.in_order.Goals.{After-no_cells}
-
-walked : (g : _) (c : After-no_cells g) → c.new-walk.result ≡ box_in c.args.order c.args.v.lengths
-walked g c = c.new-walk.ensures.list ∙ ap (box_in c.args.order) c.raw_dim.ensures.lengths
-
-pub returns : goal.returns
-returns g c = rw c.no_cells.ensures (ap (filter_map (cell c.args.v)) (walked g c))
 
 pub invariant_of-result : goal.invariant_of-result
 invariant_of-result g c =
-    let o = c.args.order in
-    let w = walked g c in
-    let n = length-box_in o c.args.v.lengths in
-    let m = c.raw_dim.ensures.limit in
-    let s = size-le c.args.v.lengths in
-    let e = ap length w in
-    let z = ap length c.no_cells.ensures in
-    (subst (HasCells c.args.v) (sym w) (HasCells-box_in o c.args.v c.raw_dim.ensures.whole), omega arith)
+    let v = c.v.inside in
+    let axes = g.D.Lengths.numbers in
+    subst (HaveElements (seen_at v.storage)) (sym c.new.ensures) (held-all (seen_at v.storage) (axes v.layout.dim) v.layout.start (axes v.layout.strides) c.v.invariant c.args.order)
+
+pub returns : goal.returns
+returns g c =
+    let v = c.v.inside in
+    let axes = g.D.Lengths.numbers in
+    ap (filter_map (seen_at v.storage)) c.new.ensures ∙ (found-all (seen_at v.storage) (axes v.layout.dim) v.layout.start (axes v.layout.strides) c.v.invariant c.args.order ∙ ap (cells_in c.args.order) c.v.view_is)
