@@ -6,6 +6,7 @@ pub mod Counters
 pub mod Decisions
 pub mod Elements
 pub mod FlatMaps
+pub mod JoinedLists
 pub mod Pairs
 pub mod Parts
 pub mod Permutations

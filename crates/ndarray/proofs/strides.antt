@@ -14,6 +14,7 @@ pub mod Nesting
 pub mod NoPlaces
 pub mod OneAxisSlices
 pub mod OtherElements
+pub mod PlaceParts
 pub mod PlacesInOrder
 pub mod Reach
 pub mod Rows

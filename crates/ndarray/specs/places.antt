@@ -2,6 +2,7 @@
 pub mod PartlyMoved
 pub mod ElementPlaces
 pub mod Moving
+pub mod PlaceRows
 pub mod PlaceSources
 pub mod Sources
 pub mod CellPlaces

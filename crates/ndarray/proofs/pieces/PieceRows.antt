@@ -13,6 +13,7 @@ use Rattle.ndarray.specs.base.CellLayouts.{CellLayout}
 use Rattle.ndarray.specs.base.Masks.{Shares, SharesBoth, grids_at}
 use Rattle.ndarray.specs.base.Ranks.{row_from}
 use Rattle.ndarray.specs.base.Strided.{places_from}
+use Rattle.ndarray.specs.places.ElementPlaces.{places_along}
 use Rattle.ndarray.specs.declared.base.shape.Order.{Order}
 use Rattle.ndarray.proofs.boxes.Boxes.{InBox-length}
 use Rattle.ndarray.proofs.boxes.Rows.{rows-joined, rows-within}
@@ -29,6 +30,17 @@ pieces-along at ps start steps ns bs qs within =
     filter_map-from_map (cell (array_by ps piece)) qs (map piece qs)
     (map-same (cell (array_by ps piece)) (λ p. Some (piece p)) (InBox ps) qs (λ p b. array_by-cell ps piece p b) within ∙ sym (map-map Some piece qs))
 
+-- each of them reaches elements
+pub places-reach : {A : Type 0} (at : ℕ → Option A) (ps : List ℕ) (start : ℕ) (steps ns bs : List ℕ) (qs : List (List ℕ)) → ReachPieces at ps start steps ns bs → All (InBox ps) qs → All (λ p. Reaches ⊥ at ns p bs) (places_along start steps qs)
+places-reach at ps start steps ns bs qs h within = All-map (λ p. Reaches ⊥ at ns p bs) (place start steps) qs (λ k d lt. h.each _ (within k d lt))
+
+-- the first of some places at which pieces reach elements, and the others
+pub reach-first : {A : Type 0} (at : ℕ → Option A) (ns bs qs rest : List ℕ) (q : ℕ) → qs ≡ q ∷ rest → All (λ p. Reaches ⊥ at ns p bs) qs → Reaches ⊥ at ns q bs × All (λ p. Reaches ⊥ at ns p bs) rest
+reach-first at ns bs qs rest q e h =
+    let P = λ (p : ℕ). Reaches ⊥ at ns p bs in
+    let w = subst (All P) e h in
+    (All-head P q rest w, All-tail P q rest w)
+
 module _ (start : ℕ) (steps ns bs : List ℕ) (axis n : ℕ) (is : List ℕ) (as_many : length steps ≡ length is) where
   module _ {A : Type 0} (at : ℕ → Option A) (ps : List ℕ) (within : All (InBox ps) (row_from is axis n)) where
     -- and which arrays they are
@@ -38,9 +50,7 @@ module _ (start : ℕ) (steps ns bs : List ℕ) (axis n : ℕ) (is : List ℕ) (
         ∙ (map-map (λ p. grid_at at ns p bs) (place start steps) (row_from is axis n) ∙ sym (pieces-along at ps start steps ns bs (row_from is axis n) within))
 
     pub row-reach : ReachPieces at ps start steps ns bs → All (λ p. Reaches ⊥ at ns p bs) (places_from (place start steps is) (get_or steps axis 0) n)
-    row-reach h =
-        subst (All (λ p. Reaches ⊥ at ns p bs)) (row-places start steps axis n is as_many)
-        (All-map (λ p. Reaches ⊥ at ns p bs) (place start steps) (row_from is axis n) (λ k d lt. h.each _ (within k d lt)))
+    row-reach h = subst (All (λ p. Reaches ⊥ at ns p bs)) (row-places start steps axis n is as_many) (places-reach at ps start steps ns bs (row_from is axis n) h within)
 
 -- rows of pieces, taken one row after another
 

@@ -1,12 +1,13 @@
 //! The places of cells, row by row: on a row each is a stride after the one before.
 
-ghost use Rattle.std.specs.Prelude.{◌≡◌, ◌+◌, ◌<◌, ◌^◌, length, IfSome};
+ghost use Rattle.std.specs.Prelude.{◌≡◌, [], ◌+◌, ◌<◌, ◌≤◌, ◌^◌, length, take, drop, All, IfSome, MatchOption};
 ghost use Rattle.std.specs.Iterator.{YieldsFirst, YieldsLast, item_count};
 ghost use Rattle.ndarray.specs.Limits.{IsWithinLimit};
 ghost use Rattle.ndarray.specs.Orders.{box_in};
 ghost use Rattle.ndarray.specs.base.Ranks.{row_from};
 ghost use Rattle.ndarray.specs.base.Strided.{places_from};
 ghost use Rattle.ndarray.specs.places.ElementPlaces.{places_along};
+ghost use Rattle.ndarray.specs.places.PlaceRows.{SplitsOffPlaces};
 
 use crate::base::dimension::{Ix1, Lengths};
 use crate::base::layout::Layout;
@@ -102,6 +103,33 @@ impl PlaceRow {
         }
         self.left -= 1;
         Some(self.place.wrapping_add(self.left.wrapping_mul(self.stride)))
+    }
+
+    /// Takes the first `count` places.
+    fn take_first(&mut self, count: usize) -> Self
+        requires { count ≤ length self.old }
+        ensures first { result ≡ take count self.old }
+        ensures rest { self.new ≡ drop count self.old }
+    {
+        let first = PlaceRow {
+            place: self.place,
+            stride: self.stride,
+            left: count,
+        };
+        self.place = self.place.wrapping_add(count.wrapping_mul(self.stride));
+        self.left -= count;
+        first
+    }
+
+    /// A copy of it.
+    fn again(&self) -> Self
+        ensures { result ≡ self.now }
+    {
+        PlaceRow {
+            place: self.place,
+            stride: self.stride,
+            left: self.left,
+        }
     }
 }
 
@@ -284,7 +312,7 @@ impl<D: Lengths> Model for RowPlaces<D> {
 
 impl<D: Lengths> RowPlaces<D> {
     /// The places of all cells, in an order.
-    fn new(layout: Layout<D>, order: Order) -> Self
+    pub(crate) fn new(layout: Layout<D>, order: Order) -> Self
         requires limit { IsWithinLimit (D.numbers layout.dim) }
         requires as_many { length (D.numbers layout.strides) ≡ length (D.numbers layout.dim) }
         ensures { result ≡ places_along layout.start (D.numbers layout.strides) (box_in order (D.numbers layout.dim)) }
@@ -302,24 +330,39 @@ impl<D: Lengths> RowPlaces<D> {
     }
 
     /// How many are still to come.
-    fn len(&self) -> usize
-        ensures { result ≡ length self.now }
+    pub(crate) fn len(&self) -> usize
+        ensures value { result ≡ length self.now }
+        ensures fits { result < 2 ^ 63 }
     {
         self.row.len() + self.walk.len()
     }
 
+    /// A copy of it.
+    pub(crate) fn again(&self) -> Self
+        ensures { result ≡ self.now }
+    {
+        RowPlaces {
+            row: self.row.again(),
+            layout: self.layout.copied(),
+            walk: self.walk.again(),
+        }
+    }
+
     /// The next place.
     #[inline(always)]
-    fn next(&mut self) -> Option<usize>
+    pub(crate) fn next(&mut self) -> Option<usize>
         ensures { YieldsFirst (λ rest. rest) self.old result self.new }
     {
         if let Some(place) = self.row.next() {
             return Some(place);
         }
-        let Some(row) = self.walk.next_row() else {
+        // Copies are handed on, so that the iterator itself may live in registers.
+        let Some(taken) = next_row(self.layout.copied(), self.walk.again()) else {
             return None;
         };
-        self.row = PlaceRow::along(&self.layout, &row);
+        let RowAndRest { row, walk } = taken;
+        self.row = row;
+        self.walk = walk;
         let Some(place) = self.row.next() else {
             unreachable!()
         };
@@ -329,7 +372,7 @@ impl<D: Lengths> RowPlaces<D> {
 
 impl RowPlaces<Ix1> {
     /// The last place.
-    fn next_back(&mut self) -> Option<usize>
+    pub(crate) fn next_back(&mut self) -> Option<usize>
         ensures { YieldsLast (λ rest. rest) self.old result self.new }
     {
         match self.walk.next_back() {
@@ -337,4 +380,40 @@ impl RowPlaces<Ix1> {
             None => self.row.next_back(),
         }
     }
+
+    /// Takes the first `count` places.
+    pub(crate) fn take_first(&mut self, count: usize) -> Self
+        requires { count ≤ length self.old }
+        ensures first { result ≡ take count self.old }
+        ensures rest { self.new ≡ drop count self.old }
+    {
+        let of_row = count.min(self.row.len());
+        RowPlaces {
+            row: self.row.take_first(of_row),
+            layout: self.layout.copied(),
+            walk: self.walk.take_first(count - of_row),
+        }
+    }
+}
+
+/// A row of places, and the index lists behind it.
+#[derive(Drop)]
+struct RowAndRest<D: Lengths> {
+    row: PlaceRow,
+    walk: Walk<D>,
+}
+
+/// The next row of a walk over index lists of a layout.
+#[inline(always)]
+fn next_row<D: Lengths>(layout: Layout<D>, mut walk: Walk<D>) -> Option<RowAndRest<D>>
+    requires { All (λ is. length (D.numbers layout.strides) ≡ length is) walk }
+    ensures { MatchOption result (walk ≡ []) (λ t. SplitsOffPlaces layout.start (D.numbers layout.strides) walk t.row t.walk) }
+{
+    let Some(row) = walk.next_row() else {
+        return None;
+    };
+    Some(RowAndRest {
+        row: PlaceRow::along(&layout, &row),
+        walk,
+    })
 }

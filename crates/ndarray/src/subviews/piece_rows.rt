@@ -8,7 +8,7 @@ ghost use Rattle.ndarray.specs.order.Rows.{rows_in};
 ghost use Rattle.ndarray.specs.base.CellLayouts.{cell_layout};
 ghost use Rattle.ndarray.specs.base.Ranks.{row_from};
 
-use crate::base::array::{ArrayBase, ArrayView};
+use crate::base::array::ArrayView;
 use crate::base::dimension::Lengths;
 use crate::base::layout::Layout;
 use crate::base::region::{Life, RegionRepr};
@@ -17,17 +17,16 @@ use crate::order::Order;
 use crate::order::rows::BoxRows;
 use crate::places::place_rows::PlaceRow;
 use crate::subviews::piece_layouts::{PieceLayouts, PiecesIterMut};
-use crate::subviews::pieces::Pieces;
+use crate::subviews::pieces::{Pieces, piece_at};
 use crate::subviews::pieces_mut::PiecesMut;
 use std::marker::{Model, PhantomData};
 
-/// Pieces that are still to come: `left` of them, each a step after the one before.
+/// Pieces that are still to come, each a step after the one before.
 #[derive(Drop)]
 pub struct PieceRow<'a, A, D: Lengths> {
     storage: ViewRepr<'a, A>,
-    place: usize,
-    step: usize,
-    left: usize,
+    // where each piece begins
+    places: PlaceRow,
     // the lengths and the strides of each piece
     dim: D,
     strides: D,
@@ -37,14 +36,13 @@ impl<'a, A, D: Lengths> Model for PieceRow<'a, A, D> {
     ghost use Rattle.std.specs.Prelude.{List, map, All};
     ghost use Rattle.ndarray.specs.Grid.{Grid};
     ghost use Rattle.ndarray.specs.base.Storage.{seen_at};
-    ghost use Rattle.ndarray.specs.base.Strided.{places_from};
     ghost use Rattle.ndarray.specs.base.Places.{Reaches, grid_at};
 
     ghost Value = { List (Grid A) };
 
-    ghost view = { λ s. map (λ p. grid_at (seen_at s.storage) (D.numbers s.dim) p (D.numbers s.strides)) (places_from s.place s.step s.left) };
+    ghost view = { λ s. map (λ p. grid_at (seen_at s.storage) (D.numbers s.dim) p (D.numbers s.strides)) s.places };
 
-    ghost invariant = { λ s. All (λ p. Reaches ⊥ (seen_at s.storage) (D.numbers s.dim) p (D.numbers s.strides)) (places_from s.place s.step s.left) };
+    ghost invariant = { λ s. All (λ p. Reaches ⊥ (seen_at s.storage) (D.numbers s.dim) p (D.numbers s.strides)) s.places };
 }
 
 impl<'a, A, D: Lengths> Iterator for PieceRow<'a, A, D> {
@@ -56,20 +54,10 @@ impl<'a, A, D: Lengths> Iterator for PieceRow<'a, A, D> {
 
     #[inline(always)]
     fn next(&mut self) -> Option<ArrayView<'a, A, D>> {
-        if self.left == 0 {
+        let Some(start) = self.places.next() else {
             return None;
-        }
-        let start = self.place;
-        self.left -= 1;
-        self.place = start.wrapping_add(self.step);
-        Some(ArrayBase {
-            storage: self.storage,
-            layout: Layout {
-                start,
-                dim: self.dim.copied(),
-                strides: self.strides.copied(),
-            },
-        })
+        };
+        Some(piece_at(self.storage, start, &self.dim, &self.strides))
     }
 }
 
@@ -84,9 +72,11 @@ impl<'a, A, P: Lengths, D: Lengths> Pieces<'a, A, P, D> {
             dim: self.dim.copied(),
             strides: self.strides.copied(),
             storage: self.storage,
-            place: self.positions.place(first),
-            step: self.positions.stride(axis),
-            left: count,
+            places: PlaceRow {
+                place: self.positions.place(first),
+                stride: self.positions.stride(axis),
+                left: count,
+            },
         }
     }
 }

@@ -1,20 +1,22 @@
 //! Equal pieces of an array, one at each position of a box, and the iterator over them. Lanes, exact chunks and windows
 //! are such pieces; the items along an axis and the windows along one are made of them.
 
-ghost use Rattle.std.specs.Prelude.{◌≡◌, ◌+◌, ◌^◌, ◌≤◌, ◌<◌, length, slice_index, take, drop, Some, ⊤, IfSome};
+ghost use Rattle.std.specs.Prelude.{◌≡◌, ◌+◌, ◌^◌, ◌≤◌, ◌<◌, length, slice_index, take, drop, ⊤, IfSome};
 ghost use Rattle.std.specs.Iterator.{UpTo, YieldsFirst, YieldsLast, item_count};
 ghost use Rattle.std.specs.Iterator.SizeHint.{IsExactHint, IsWithinCount};
-ghost use Rattle.ndarray.specs.Index.{InBox};
-ghost use Rattle.ndarray.specs.Grid.{IsGrid, cell};
+ghost use Rattle.ndarray.specs.Grid.{IsGrid};
 ghost use Rattle.ndarray.specs.Limits.{IsWithinLimit};
+ghost use Rattle.ndarray.specs.base.Places.{Reaches, grid_at};
 ghost use Rattle.ndarray.specs.base.Splits.{IsPartAlong, IsSplit};
+ghost use Rattle.ndarray.specs.base.Storage.{seen_at};
 
 use crate::base::array::{ArrayBase, ArrayView};
 use crate::base::axis::Axis;
 use crate::base::dimension::{Ix1, Lengths};
 use crate::base::layout::Layout;
 use crate::base::storage::ViewRepr;
-use crate::order::{Order, Walk};
+use crate::order::Order;
+use crate::places::place_rows::RowPlaces;
 use std::alloc::AllocError;
 use std::iter::ExactSizeIterator;
 use std::marker::Model;
@@ -51,21 +53,6 @@ impl<'a, A, P: Lengths, D: Lengths> Pieces<'a, A, P, D> {
         ensures whole { IsGrid self.now }
     {
         self.positions.dim.copied()
-    }
-
-    /// The piece at a position of the box.
-    pub(crate) fn item(&self, position: &P) -> ArrayView<'a, A, D>
-        requires { InBox self.now.lengths (P.numbers position.now) }
-        ensures { cell self.now (P.numbers position.now) ≡ Some result }
-    {
-        ArrayBase {
-            storage: self.storage,
-            layout: Layout {
-                start: self.positions.place(position),
-                dim: self.dim.copied(),
-                strides: self.strides.copied(),
-            },
-        }
     }
 
     /// A copy of it.
@@ -121,27 +108,58 @@ impl<'a, A, P: Lengths, D: Lengths> IntoIterator for Pieces<'a, A, P, D> {
     ghost into_iter_gives = { λ s it. (it ≡ s.cells) × (length it < 2 ^ 63) };
 
     fn into_iter(self) -> PiecesIter<'a, A, P, D> {
-        let walk = Walk::new(self.raw_dim(), Order::RowMajor);
-        PiecesIter { pieces: self, walk }
+        PiecesIter {
+            storage: self.storage,
+            places: RowPlaces::new(self.positions, Order::RowMajor),
+            dim: self.dim,
+            strides: self.strides,
+        }
+    }
+}
+
+/// The piece that begins at a place.
+#[inline(always)]
+pub(crate) fn piece_at<'a, A, D: Lengths>(
+    storage: ViewRepr<'a, A>,
+    start: usize,
+    dim: &D,
+    strides: &D,
+) -> ArrayView<'a, A, D>
+    requires { Reaches ⊥ (seen_at storage) (D.numbers dim.now) start (D.numbers strides.now) }
+    ensures { result ≡ grid_at (seen_at storage.entry) (D.numbers dim.now) start (D.numbers strides.now) }
+{
+    ArrayBase {
+        storage,
+        layout: Layout {
+            start,
+            dim: dim.copied(),
+            strides: strides.copied(),
+        },
     }
 }
 
 /// The pieces that are still to come.
 #[derive(Drop)]
 pub struct PiecesIter<'a, A, P: Lengths, D: Lengths> {
-    pieces: Pieces<'a, A, P, D>,
-    walk: Walk<P>,
+    storage: ViewRepr<'a, A>,
+    // where each piece begins
+    places: RowPlaces<P>,
+    // the lengths and the strides of each piece
+    dim: D,
+    strides: D,
 }
 
 impl<'a, A, P: Lengths, D: Lengths> Model for PiecesIter<'a, A, P, D> {
-    ghost use Rattle.std.specs.Prelude.{List, filter_map};
-    ghost use Rattle.ndarray.specs.Grid.{Grid, HasCells, cell};
+    ghost use Rattle.std.specs.Prelude.{List, map, All};
+    ghost use Rattle.ndarray.specs.Grid.{Grid};
+    ghost use Rattle.ndarray.specs.base.Storage.{seen_at};
+    ghost use Rattle.ndarray.specs.base.Places.{Reaches, grid_at};
 
     ghost Value = { List (Grid A) };
 
-    ghost view = { λ s. filter_map (cell s.pieces) s.walk };
+    ghost view = { λ s. map (λ p. grid_at (seen_at s.storage) (D.numbers s.dim) p (D.numbers s.strides)) s.places };
 
-    ghost invariant = { λ s. HasCells s.pieces s.walk };
+    ghost invariant = { λ s. All (λ p. Reaches ⊥ (seen_at s.storage) (D.numbers s.dim) p (D.numbers s.strides)) s.places };
 }
 
 impl<'a, A, P: Lengths, D: Lengths> PiecesIter<'a, A, P, D> {
@@ -150,7 +168,7 @@ impl<'a, A, P: Lengths, D: Lengths> PiecesIter<'a, A, P, D> {
         ensures value { result ≡ length self.now }
         ensures fits { result < 2 ^ 63 }
     {
-        self.walk.bounded_len()
+        self.places.len()
     }
 }
 
@@ -163,10 +181,10 @@ impl<'a, A, P: Lengths, D: Lengths> Iterator for PiecesIter<'a, A, P, D> {
 
     #[inline(always)]
     fn next(&mut self) -> Option<ArrayView<'a, A, D>> {
-        let Some(position) = self.walk.next() else {
+        let Some(start) = self.places.next() else {
             return None;
         };
-        Some(self.pieces.item(&position))
+        Some(piece_at(self.storage, start, &self.dim, &self.strides))
     }
 
     fn size_hint(&self) -> (usize, Option<usize>)
@@ -180,7 +198,7 @@ impl<'a, A, P: Lengths, D: Lengths> Iterator for PiecesIter<'a, A, P, D> {
 
 impl<'a, A, P: Lengths, D: Lengths> ExactSizeIterator for PiecesIter<'a, A, P, D> {
     fn len(&self) -> usize {
-        self.walk.len()
+        self.places.len()
     }
 }
 
@@ -188,10 +206,10 @@ impl<'a, A, D: Lengths> DoubleEndedIterator for PiecesIter<'a, A, Ix1, D> {
     ghost next_back_gives = { YieldsLast (λ rest. rest) };
 
     fn next_back(&mut self) -> Option<ArrayView<'a, A, D>> {
-        let Some(position) = self.walk.next_back() else {
+        let Some(start) = self.places.next_back() else {
             return None;
         };
-        Some(self.pieces.item(&position))
+        Some(piece_at(self.storage, start, &self.dim, &self.strides))
     }
 }
 
@@ -202,8 +220,10 @@ impl<'a, A, P: Lengths, D: Lengths> Clone for PiecesIter<'a, A, P, D> {
 
     fn clone(&self) -> Result<PiecesIter<'a, A, P, D>, AllocError> {
         Ok(PiecesIter {
-            pieces: self.pieces.again(),
-            walk: self.walk.clone()?,
+            storage: self.storage,
+            places: self.places.again(),
+            dim: self.dim.copied(),
+            strides: self.strides.copied(),
         })
     }
 }
@@ -216,8 +236,10 @@ impl<'a, A, D: Lengths> PiecesIter<'a, A, Ix1, D> {
         ensures rest { self.new ≡ drop count self.old }
     {
         PiecesIter {
-            pieces: self.pieces.again(),
-            walk: self.walk.take_first(count),
+            storage: self.storage,
+            places: self.places.take_first(count),
+            dim: self.dim.copied(),
+            strides: self.strides.copied(),
         }
     }
 }

@@ -1,6 +1,6 @@
-use Rattle.std.proofs.Common.{sym, ap, ◌∙◌, length}
-use Rattle.ndarray.proofs.cells.Cells.{length-along}
+use Rattle.std.proofs.Common.{ap, length, sym, ◌∙◌}
+use Rattle.std.proofs.lemmas.List.{length-map}
 use Rattle.ndarray.proofs.subviews.pieces.PiecesIter.bounded_len.Goals as goal
 
 pub returns-clause-value : goal.returns-clause-value
-returns-clause-value g c = c.bounded_len.ensures.value ∙ (sym (length-along _ c.self.invariant.whole _ c.self.invariant.within) ∙ ap length c.self.view_is)
+returns-clause-value g c = c.len.ensures.value ∙ (sym (length-map _ _) ∙ ap length c.self.view_is)
