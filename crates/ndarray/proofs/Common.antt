@@ -52,7 +52,7 @@ pub use Rattle.ndarray.proofs.boxes.Sizes.{length-fits}
 pub use Rattle.ndarray.proofs.boxes.ProductShapes.{inner-matrices}
 pub use Rattle.ndarray.proofs.boxes.Walks.{rank_in-one}
 pub use Rattle.ndarray.proofs.callers.Broadcasting.{AreColumnAndRow, axis_inserted-cell, axis_inserted-whole, broadcast_index-inside, broadcast_index-own, broadcast_index-row, broadcast_to-cell, broadcast_to-own, broadcast_to-row, broadcast_to-whole, broadcasts-itself, broadcasts-row, can-combine-where, cells-meet, column-lengths, combine-follows-where, combined-where, lengths-exchanged, lengths-stretched, outer-cells, outer-lengths, outer-shapes, together-exchanged, together-stretched}
-pub use Rattle.ndarray.proofs.callers.Cells.{HasCells-first, along-first, array_by-cell, array_by-whole, beside-at, cell-Some, cell-inside, cells_in-HasInOrder, item-whole, literal-is, same_grid, tabulate-cell, tabulate-is, tabulate-whole, transpose-cell, transpose_of-transpose_of, transpose_of-whole}
+pub use Rattle.ndarray.proofs.callers.Cells.{HasCells-first, along-first, array_by-cell, array_by-whole, beside-at, cell-Some, cell-inside, cells_in-HasInOrder, item-whole, same_grid, tabulate-cell, tabulate-is, tabulate-whole, transpose-cell, transpose_of-transpose_of, transpose_of-whole}
 pub use Rattle.ndarray.proofs.callers.Collecting.{All-middle, array_by-at, collect-each, collect-follows, if_ok-both, if_some-both, lanes_of-some, may-gather}
 pub use Rattle.ndarray.proofs.callers.ColumnOrder.{cells-transposed}
 pub use Rattle.ndarray.proofs.callers.Convolving.{double-sum, filters-same, full-list, full-made, positive-one, single-sum, valid-list, valid-made, valid-one, values-list}
@@ -70,7 +70,7 @@ pub use Rattle.ndarray.proofs.callers.Mapping.{maps-follow, maps-follow-twice}
 pub use Rattle.ndarray.proofs.callers.MatrixPowers.{identity-neutral, made-first, made-sum, power, power-columns, power-rows, power-same, powers-add, powers-multiply, total-single}
 pub use Rattle.ndarray.proofs.callers.MatrixSums.{general-matrix, multiple-matrix, scaled_sum-matrix, sum-matrix}
 pub use Rattle.ndarray.proofs.callers.Maxima.{greatest-bounds, greatest-reached}
-pub use Rattle.ndarray.proofs.callers.NamedCells.{named-more, named-most}
+pub use Rattle.ndarray.proofs.callers.NamedCells.{HasNamedSums, named-all, named-more, named-none, named-room, sum-of_ones}
 pub use Rattle.ndarray.proofs.callers.PartialFolds.{folded-value, sums-by_parts}
 pub use Rattle.ndarray.proofs.callers.Parts.{first-cells, length-cells, part-cells, part-lengths, rest-cells}
 pub use Rattle.ndarray.proofs.callers.ProductChains.{gram, product-of_left, product-on_left, product-on_right, products-same, transpose-multiplies, transpose-product, transpose-symmetric}
@@ -89,9 +89,10 @@ pub use Rattle.ndarray.proofs.callers.Totals.{axis_sums, total-append, total-in_
 pub use Rattle.ndarray.proofs.callers.TriangleParts.{parts-combine, parts-same}
 pub use Rattle.ndarray.proofs.callers.Triangles.{cleared-cell, int_le-false, int_le-true, kept-cell}
 pub use Rattle.ndarray.proofs.callers.Updating.{update-follows}
-pub use Rattle.ndarray.proofs.callers.Views.{views-collected, views-gather, views-made}
+pub use Rattle.ndarray.proofs.callers.Views.{views-compute, views-gather}
 pub use Rattle.ndarray.proofs.callers.Windows.{window-whole, window_count-valid}
 pub use Rattle.ndarray.proofs.callers.Writing.{refitted-whole, with_cell-elsewhere, with_cell-here, with_cell-own, with_cell-whole}
+pub use Rattle.ndarray.proofs.callers.Zipped.{length-zip, zip-next, zip-over}
 pub use Rattle.ndarray.proofs.cells.Cells.{cell-within}
 pub use Rattle.ndarray.proofs.cells.Differences.{order-at_most}
 pub use Rattle.ndarray.proofs.convolution.Filters.{slice_get-later}

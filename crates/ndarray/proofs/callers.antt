@@ -41,3 +41,4 @@ pub mod Updating
 pub mod Views
 pub mod Windows
 pub mod Writing
+pub mod Zipped

@@ -1,11 +1,11 @@
 //! Functions that a user would write with the calls of a closure that has no state, each with what it computes as its contract.
-//! All but the last two take no proof.
+//! All but the last three take no proof.
 
-ghost use Rattle.std.specs.Prelude.{◌≡◌, ◌↔◌, ◌<◌, ◌/◌, ◌+◌, ◌∷◌, [], IfOk, IsOk, IsTrue, bit_xor, length, max, nat_lt, remove, slice_index};
+ghost use Rattle.std.specs.Prelude.{◌≡◌, ◌↔◌, ◌<◌, ◌≤◌, ◌/◌, ◌+◌, ◌∷◌, [], ℕ, List, Some, IfOk, IsOk, IsTrue, bit_xor, length, max, nat_lt, remove, slice_index};
 ghost use Rattle.std.specs.List.{fold};
 ghost use Rattle.ndarray.specs.Elementwise.{CanMap};
 ghost use Rattle.ndarray.specs.Everyday.{combined, mapped};
-ghost use Rattle.ndarray.specs.Grid.{array_by};
+ghost use Rattle.ndarray.specs.Grid.{array_by, cell};
 ghost use Rattle.ndarray.specs.Index.{size};
 ghost use Rattle.ndarray.specs.Limits.{IsWithinLimit};
 ghost use Rattle.ndarray.specs.Subviews.{lane};
@@ -126,6 +126,24 @@ pub fn greatest_along<S: Data<Elem = u64>, D: Dimension>(
     ensures empty { size (remove a.now.lengths axis.0) ≡ 0 → IsOk result }
 {
     a.fold_axis(alloc, axis, 0, |most, x| (*most).max(*x))
+}
+
+/// The peak of each lane along an axis, as of each channel of a recording, and 0 of a lane without cells: no cell is above the peak of its lane.
+///
+/// Requires an axis of the array. The error is allocation failure.
+pub fn peaks<S: Data<Elem = u64>, D: Dimension>(
+    alloc: Global,
+    a: &ArrayBase<S, D>,
+    axis: Axis,
+) -> Result<Array<u64, D::Smaller>, AllocError>
+    requires { axis.0 < length a.now.lengths }
+    ensures maxima { IfOk result (λ peaks. peaks ≡ array_by (remove a.now.lengths axis.0) (λ js. fold max 0 (lane a.now axis.0 js).cells)) }
+    ensures bounds { IfOk result (λ peaks. (is : List ℕ) (x peak : ℕ) → cell a.now is ≡ Some x → cell peaks (remove is axis.0) ≡ Some peak → x ≤ peak) }
+    ensures empty { size (remove a.now.lengths axis.0) ≡ 0 → IsOk result }
+{
+    let _lengths = a.raw_dim();
+    let peaks = greatest_along(alloc, a, axis)?;
+    Ok(peaks)
 }
 
 /// The exclusive or of the cells of each lane along an axis.

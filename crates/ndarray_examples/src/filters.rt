@@ -2,8 +2,9 @@
 //! windows; and full convolutions of two signals and of three. A contract without a clause `when` or `error` does not say when the result is
 //! `None`.
 
-ghost use Rattle.std.specs.Prelude.{◌≡◌, ◌≤◌, ◌↔◌, ◌+ℤ◌, ◌∷◌, [], ℤ, FitsSigned, length, slice_index, IfErr, IfOk, IfSome, IsSome, IsTrue};
+ghost use Rattle.std.specs.Prelude.{◌≡◌, ◌≤◌, ◌↔◌, ◌+ℤ◌, ◌∷◌, [], ℤ, FitsSigned, int_lt, length, slice_index, IfErr, IfOk, IfSome, IsSome, IsTrue};
 ghost use Rattle.std.specs.Int.{w64};
+ghost use Rattle.std.specs.List.{count_by};
 ghost use Rattle.ndarray.specs.Convolution.{CanPad, HasFullMagnitudesInRange, HasValidMagnitudesInRange, filtered, full_convolution, valid_convolution_by, valid_counts};
 ghost use Rattle.ndarray.specs.FilterLaws.{IsColumnTimesRow, filtered_at};
 ghost use Rattle.ndarray.specs.Grid.{Grid, IsGrid, array_by, one_axis};
@@ -12,8 +13,8 @@ ghost use Rattle.ndarray.specs.Subviews.{ArePositive, window, window_counts};
 ghost use Rattle.ndarray.specs.Sums.{IsSummable, total};
 ghost use Rattle.ndarray_examples.specs.Filters.{AreLocalMaxima, AreZeroTests, IsZero, convolved_residues, filtered_residues};
 
-use crate::maximum_filter;
 use crate::range_tests::Checked;
+use crate::{count_above, maximum_filter};
 use ndarray::conv::{conv_full, conv_full_ok, conv_valid, conv_valid_ok, full_fits, valid_fits};
 use ndarray::laws::{conv_assoc, conv_commutes, conv_filters, filters_add, filters_compose};
 use ndarray::{Array, ArrayBase, ArrayView, Data, Dimension, Ix1, Ix2, Lengths, Zip};
@@ -91,6 +92,20 @@ pub fn local_maxima<S: Data<Elem = u64>>(
     }
     let maxima = maximum_filter(alloc, table)?;
     Ok(Some(maxima))
+}
+
+/// How many cells of each square of two by two cells of a table are above a bound; there is no square where a side of the table is shorter.
+///
+/// The error is allocation failure.
+pub fn counts_above<S: Data<Elem = i64>>(
+    alloc: Global,
+    table: &ArrayBase<S, Ix2>,
+    bound: i64,
+) -> Result<Array<usize, Ix2>, AllocError>
+    ensures { IfOk result (λ counts. counts ≡ array_by (window_counts table.now.lengths (2 ∷ 2 ∷ []) (1 ∷ 1 ∷ [])) (λ is. count_by (λ x. int_lt bound x) (window table.now (2 ∷ 2 ∷ []) (1 ∷ 1 ∷ []) is).cells)) }
+{
+    let _axes = table.ndim();
+    Zip::from(table.windows((2, 2))).map_collect(alloc, |square| count_above(&square, bound))
 }
 
 /// Whether all cells are zero.

@@ -1,7 +1,7 @@
 //! Functions of the rows, the columns and the ends of a table, and of cells in brackets. Of `clear_row`, `clear_column` and `has_zero`, and of
 //! what `are_within` answers where the limits broadcast, nothing is said but that they end and read nothing outside the array.
 
-ghost use Rattle.std.specs.Prelude.{◌≡◌, ◌↔◌, ◌<◌, ◌+◌, ◌-◌, ◌^◌, ◌∷◌, [], ℕ, Some, FitsSigned, IfSome, IsSome, IsTrue, MatchOption, length, slice_get, slice_index};
+ghost use Rattle.std.specs.Prelude.{◌≡◌, ◌↔◌, ◌<◌, ◌+◌, ◌-◌, ◌*◌, ◌^◌, ◌∷◌, [], ℕ, Some, FitsSigned, IfOk, IfSome, IsSome, IsTrue, MatchOption, drop, length, slice_get, slice_index, take};
 ghost use Rattle.std.specs.Int.{w64};
 ghost use Rattle.ndarray.specs.Broadcast.{BroadcastTogether, BroadcastsTo, broadcast_lengths};
 ghost use Rattle.ndarray.specs.Grid.{cell};
@@ -11,7 +11,8 @@ ghost use Rattle.ndarray.specs.Sums.{IsSummable, total};
 ghost use Rattle.ndarray.specs.Views.{axis_item};
 ghost use Rattle.ndarray.specs.Writes.{with_cell};
 
-use ndarray::{ArrayBase, Data, DataMut, DimMax, FoldWhile, Ix2, Lengths, Zip};
+use ndarray::{ArrayBase, ArrayView1, Data, DataMut, DimMax, FoldWhile, Ix2, Lengths, Zip};
+use std::alloc::{AllocError, Global};
 
 /// The sum of a row of a table, or `None` where there is no such row, or some of its numbers add up to no `i64`.
 pub fn sum_of_row<S: Data<Elem = i64>>(table: &ArrayBase<S, Ix2>, row: usize) -> Option<i64>
@@ -33,6 +34,28 @@ pub fn sum_of_column<S: Data<Elem = i64>>(table: &ArrayBase<S, Ix2>, column: usi
         return None;
     }
     table.column(column).checked_sum()
+}
+
+/// The numbers of a row of a table in a vector: those from the first of the row on, as many as there are columns.
+///
+/// Requires that there is such a row. The error is allocation failure.
+pub fn list_row<S: Data<Elem = i64>>(
+    alloc: Global,
+    table: &ArrayBase<S, Ix2>,
+    row: usize,
+) -> Result<Vec<i64>, AllocError>
+    requires { row < slice_index table.now.lengths 0 }
+    ensures { let columns = slice_index table.now.lengths 1 in IfOk result (λ numbers. numbers.items ≡ take columns (drop (row * columns) table.now.cells)) }
+{
+    let _whole = table.raw_dim();
+    numbers_of(alloc, &table.row(row))
+}
+
+/// The numbers of a view in a vector.
+fn numbers_of(alloc: Global, view: &ArrayView1<'_, i64>) -> Result<Vec<i64>, AllocError>
+    ensures { IfOk result (λ numbers. numbers.items ≡ view.now.cells) }
+{
+    view.iter().copied().collect(alloc)
 }
 
 /// Clears a row of a table, if there is one of that index.

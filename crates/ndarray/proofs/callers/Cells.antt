@@ -13,10 +13,10 @@ pub use Rattle.ndarray.proofs.cells.CellsInOrder.{transpose_of-transpose_of, tra
 pub use Rattle.ndarray.proofs.cells.Cells.{HasCells-first, along-first, cells_in-HasInOrder}
 -- the element beside the k-th of index lists that increase is the k-th
 pub use Rattle.ndarray.proofs.lists.CellLookup.{beside-at}
-use Rattle.std.proofs.Common.{◌≡◌, ◌∙◌, ℕ, List, ap, arith, length, reverse, take}
-use Rattle.std.proofs.lemmas.List.{reverse-reverse, take_all}
-use Rattle.ndarray.specs.Grid.{Grid, IsGrid, cell, grid}
-use Rattle.ndarray.specs.Index.{InBox, size}
+use Rattle.std.proofs.Common.{◌≡◌, ◌∙◌, ℕ, List, ap, reverse}
+use Rattle.std.proofs.lemmas.List.{reverse-reverse}
+use Rattle.ndarray.specs.Grid.{Grid, IsGrid, cell}
+use Rattle.ndarray.specs.Index.{InBox}
 use Rattle.ndarray.specs.Views.{transpose_of}
 use Rattle.ndarray.proofs.boxes.Boxes.{InBox-reverse}
 
@@ -24,9 +24,3 @@ use Rattle.ndarray.proofs.boxes.Boxes.{InBox-reverse}
 pub transpose-cell : {A : Type 0} (g : Grid A) (is : List ℕ) → IsGrid (transpose_of g) → InBox g.lengths is → cell (transpose_of g) (reverse is) ≡ cell g is
 transpose-cell g is whole inside =
     tabulate-cell (reverse g.lengths) (λ js. cell g (reverse js)) (reverse is) whole (InBox-reverse g.lengths is inside) ∙ ap (cell g) (reverse-reverse is)
-
--- an array of a list that is written out, in row order: as of `from_shape`, by its clauses `lengths` and `row_major`
-pub literal-is : {A : Type 0} (v : Grid A) (ns : List ℕ) (xs : List A) → v.lengths ≡ ns → v.cells ≡ take (size v.lengths) xs → length xs ≡ size ns → v ≡ grid ns xs
-literal-is v ns xs lengths cells many =
-    let all : take (size v.lengths) xs ≡ xs = take_all (size v.lengths) xs (let s = ap size lengths in omega (arith, s, many)) in
-    ap (λ ys. grid v.lengths ys) (cells ∙ all) ∙ ap (λ ms. grid ms xs) lengths

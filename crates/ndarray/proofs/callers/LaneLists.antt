@@ -1,17 +1,20 @@
--- A lane as a list: each cell is in its lane, and a row of a table is a part of the list of its cells.
+-- Lanes and rows as lists: each cell is in its lane, and a row of a table is a part of the list of the table's cells.
 use Rattle.std.proofs.Common.{◌≡◌, ◌∙◌, ◌+◌, ◌*◌, ◌<◌, ◌≤◌, ℕ, List, suc, Some, [], ◌∷◌, ap, arith, drop, get_or, inl, inr, length, remove, subst, sym, take}
 use Rattle.std.specs.Prelude.{Contains, slice_get}
 use Rattle.std.proofs.lemmas.Bool.{cases_eq}
 use Rattle.std.proofs.lemmas.Nat.{mul-le}
-use Rattle.std.proofs.lemmas.List.{length-drop, length-take-le, nil_from_length, set-get_or}
+use Rattle.std.proofs.lemmas.List.{length-drop, length-take-le, set-get_or}
 use Rattle.std.proofs.lemmas.Option.{get_or_from_slice_get, slice_get_within}
 use Rattle.ndarray.specs.Grid.{Grid, IsGrid, cell}
 use Rattle.ndarray.specs.Index.{InBox, size}
 use Rattle.ndarray.specs.Subviews.{lane}
+use Rattle.ndarray.specs.Views.{axis_item}
 use Rattle.ndarray.specs.base.Ranks.{rank}
 use Rattle.ndarray.proofs.boxes.Boxes.{InBox-get}
+use Rattle.ndarray.proofs.callers.TableRows.{row-is}
 use Rattle.ndarray.proofs.cells.Cells.{cell-inside, cell-within}
 use Rattle.ndarray.proofs.cells.LaneCells.{lane-cell, lane-length, no-lane}
+use Rattle.ndarray.proofs.cells.Matrices.{two-lengths}
 use Rattle.ndarray.proofs.lists.Elements.{same_from_slice_get}
 use Rattle.ndarray.proofs.runs.OneAxisProducers.{slice_get-part}
 
@@ -30,9 +33,8 @@ ranked : (n m i j : ℕ) → rank (n ∷ m ∷ []) (i ∷ j ∷ []) ≡ i * m + 
 unfolding rank
 ranked n m i j = omega arith
 
--- row i of a table: the cells from the first of the row on, as many as there are columns
-pub row-list : {A : Type 0} (g : Grid A) (n m i : ℕ) → IsGrid g → g.lengths ≡ n ∷ m ∷ [] → i < n → (lane g 1 (i ∷ [])).cells ≡ take m (drop (i * m) g.cells)
-row-list g n m i whole lengths below =
+lane-list : {A : Type 0} (g : Grid A) (n m i : ℕ) → IsGrid g → g.lengths ≡ n ∷ m ∷ [] → i < n → (lane g 1 (i ∷ [])).cells ≡ take m (drop (i * m) g.cells)
+lane-list g n m i whole lengths below =
     elim (cases_eq m 0) [
       | inl none ↦ no-lane g 1 (i ∷ []) (ap (λ ns. get_or ns 1 0) lengths ∙ none) ∙ sym (ap (λ c. take c (drop (i * m) g.cells)) none)
       | inr some ↦
@@ -51,3 +53,7 @@ row-list g n m i whole lengths below =
           ∙ (ap (slice_get g.cells) (ap (λ ns. rank ns (i ∷ j ∷ [])) lengths ∙ ranked n m i j)
           ∙ sym (slice_get-part g.cells m (i * m) j here (omega (arith, many, fits))))))
     ]
+
+-- row i of a table: the cells from the first of the row on, as many as there are columns
+pub row-list : {A : Type 0} (g : Grid A) → IsGrid g → length g.lengths ≡ 2 → (i : ℕ) → i < get_or g.lengths 0 0 → (axis_item g 0 i).cells ≡ take (get_or g.lengths 1 0) (drop (i * get_or g.lengths 1 0) g.cells)
+row-list g whole two i below = ap (λ r. r.cells) (row-is g two i) ∙ lane-list g (get_or g.lengths 0 0) (get_or g.lengths 1 0) i whole (two-lengths g.lengths two) below

@@ -1,5 +1,5 @@
 -- The rows of a table: items along its first axis, and lanes along its second.
-use Rattle.std.proofs.Common.{◌≡◌, ◌∙◌, ◌<◌, ℕ, List, [], ◌∷◌, Some, length, get_or, refl, ap, sym, subst, arith, remove, insert}
+use Rattle.std.proofs.Common.{◌≡◌, ◌∙◌, ◌<◌, ℕ, List, [], ◌∷◌, length, get_or, refl, ap, sym, subst, arith, remove, insert}
 use Rattle.ndarray.specs.Elementwise.{CanMap}
 use Rattle.ndarray.specs.Grid.{Grid, array_by, cell}
 use Rattle.ndarray.specs.Index.{InBox}
@@ -9,7 +9,8 @@ use Rattle.ndarray.proofs.callers.Collecting.{array_by-at, lanes_of-some}
 use Rattle.ndarray.proofs.cells.Cells.{cell-inside, tabulate-same}
 use Rattle.ndarray.proofs.cells.Matrices.{two-lengths}
 
-row-is : {A : Type 0} (g : Grid A) → length g.lengths ≡ 2 → (i : ℕ) → axis_item g 0 i ≡ lane g 1 (i ∷ [])
+-- a row is the lane there
+pub row-is : {A : Type 0} (g : Grid A) → length g.lengths ≡ 2 → (i : ℕ) → axis_item g 0 i ≡ lane g 1 (i ∷ [])
 row-is g two i =
     tabulate-same (remove g.lengths 0) (get_or g.lengths 1 0 ∷ []) (λ is. cell g (insert is 0 i)) (λ is. cell g (insert (i ∷ []) 1 (get_or is 0 0))) (ap (λ ns. remove ns 0) (two-lengths g.lengths two))
     (λ is b. one is (subst (λ ns. InBox (remove ns 0) is) (two-lengths g.lengths two) b))

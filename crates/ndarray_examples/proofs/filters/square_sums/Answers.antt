@@ -1,4 +1,4 @@
-use Rattle.ndarray.proofs.Common.{rules, ◌≡◌, ◌∙◌, ◌∷◌, [], FitsSigned, int_sums, refl, sym, total, w64, window, window_counts, windows_of, views-gather, views-made, window-summable}
+use Rattle.ndarray.proofs.Common.{rules, ◌≡◌, ◌∙◌, ◌∷◌, [], FitsSigned, ap, int_sums, refl, sym, total, w64, window, window_counts, windows_of, views-compute, views-gather, window-summable}
 use Rattle.ndarray.specs.Sums.{IsSummable}
 use Rattle.ndarray_examples.proofs.filters.square_sums.Goals as goal
 
@@ -19,8 +19,6 @@ map_collect-requires g c =
 pub returns-clause-sums : goal.returns-clause-sums
 returns-clause-sums g c =
     let table = c.args.table.now in
-    let sides = 2 ∷ 2 ∷ [] in
-    let steps = 1 ∷ 1 ∷ [] in
-    let windows : c.windows.result ≡ windows_of table sides steps = search rules in
-    views-made _ _ c.from.result.nested (window_counts table.lengths sides steps) (window table sides steps) (c.from.ensures ∙ windows) (λ v. total int_sums v.cells) (λ x r k call. (search (rules, call), search (rules, call)))
-    c.in_ok-sums.sums c.in_ok-sums.ensures.ran c.in_ok-sums.ensures.whole
+    let squares : c.from.result.nested ≡ windows_of table (2 ∷ 2 ∷ []) (1 ∷ 1 ∷ []) = search rules in
+    c.in_ok-sums.ensures.follows _ _ (ap (λ w. w.lengths) squares)
+    (views-compute _ (window table (2 ∷ 2 ∷ []) (1 ∷ 1 ∷ [])) squares (λ square. total int_sums square.cells) (λ x r k call. (search (rules, call), search (rules, call))))
