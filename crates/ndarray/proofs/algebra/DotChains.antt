@@ -1,10 +1,9 @@
 -- Products of three arrays of any number of axes.
-use Rattle.std.proofs.Common.{◌≡◌, ◌∙◌, ◌+◌, ◌-◌, ◌<◌, ◌≤◌, ◌⊎◌, ℕ, zero, suc, List, [], ◌∷◌, ◌++◌, Some, ap, append-nil, append_assoc, arith, drop, get_or, inl, inr, insert, length, length-append, map, refl, remove, subst, sym, take, take-append-drop}
+use Rattle.std.proofs.Common.{◌≡◌, ◌∙◌, ◌-◌, ◌<◌, ◌≤◌, ◌⊎◌, ℕ, zero, suc, List, [], ◌∷◌, ◌++◌, ap, append-nil, append_assoc, arith, drop, get_or, inl, inr, insert, length, length-append, map, refl, remove, subst, sym, take, take-append-drop}
 use Rattle.std.proofs.lemmas.List.{length-drop, length-take-le, nil_from_length}
 use Rattle.std.proofs.Math.Seq.{drop-append_seam, take-append_seam}
-use Rattle.ndarray.specs.Algebra.{CommutativeMonoid}
-use Rattle.ndarray.specs.DotLaws.{DotAssociates, DotsAssociate, MeetInTurn}
-use Rattle.ndarray.specs.Grid.{Grid, IsGrid, cell}
+use Rattle.ndarray.specs.DotLaws.{DotAssociates, DotsAssociate}
+use Rattle.ndarray.specs.Grid.{Grid, IsGrid}
 use Rattle.ndarray.specs.Index.{InBox}
 use Rattle.ndarray.specs.Matrices.{Matrix, values_below}
 use Rattle.ndarray.specs.MatrixLaws.{ProductsAssociate}

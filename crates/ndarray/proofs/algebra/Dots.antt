@@ -3,21 +3,20 @@ use Rattle.std.proofs.Common.{◌≡◌, ◌∙◌, ◌+◌, ◌-◌, ◌<◌, �
 use Rattle.std.specs.Prelude.{◌↔◌, ◌==◌, if◌then◌else◌}
 use Rattle.std.proofs.lemmas.List.{get_or-drop}
 use Rattle.std.proofs.lemmas.List.Edits.{length-remove}
-use Rattle.ndarray.specs.Chains.{HasMatrix}
 use Rattle.ndarray.specs.DotLaws.{DefinitionsOfDotAgree, DotAgrees, DotIsMatrixProduct, HasOneOrTwoAxes, LaneSumsAreMatrixSums, MeetAsMatrices, MultiplyAsMatrices, ShapesMultiplyAsMatrices, left_matrix, product_entries, right_matrix}
-use Rattle.ndarray.specs.Grid.{Grid, IsGrid, cell}
+use Rattle.ndarray.specs.Grid.{Grid, IsGrid}
 use Rattle.ndarray.specs.Index.{InBox}
 use Rattle.ndarray.specs.Matrices.{Matrix, inner_products, values_below}
-use Rattle.ndarray.specs.Products.{HasLaneSumsInRange, HasSumsInRange, HasValues, ShapesMultiply, column_of, dot_entries, lane_products, matrix_entries, matrix_of, product_lengths, product_of, row_of, value_at, value_or}
+use Rattle.ndarray.specs.Products.{HasLaneSumsInRange, HasSumsInRange, HasValues, ShapesMultiply, column_of, dot_entries, lane_products, matrix_of, product_lengths, product_of, row_of, value_at}
 use Rattle.ndarray.specs.Subviews.{lane}
 use Rattle.ndarray.specs.Sums.{IsSummable, total}
 use Rattle.ndarray.specs.declared.elements.Valued.{Ghosts as ValuedGhosts}
 use Rattle.ndarray.proofs.boxes.ProductShapes.{lengths-one_one, lengths-one_two, lengths-two_one, lengths-two_two, matrix-shapes}
 use Rattle.ndarray.proofs.callers.SameMatrices.{two-indices}
-use Rattle.ndarray.proofs.cells.Cells.{cell-inside, tabulate-cell}
+use Rattle.ndarray.proofs.cells.Cells.{cell-inside}
 use Rattle.ndarray.proofs.boxes.JoinedBoxes.{InBox-cut}
 use Rattle.ndarray.proofs.cells.LaneSums.{lane-values}
-use Rattle.ndarray.proofs.cells.Matrices.{below-same, one-length, two-lengths, vector-values}
+use Rattle.ndarray.proofs.cells.Matrices.{below-same, one-length, two-lengths}
 use Rattle.ndarray.proofs.sums.InnerSums.{lists-meet}
 
 some-axes : (ks : List ℕ) → HasOneOrTwoAxes ks → 1 ≤ length ks

@@ -1,5 +1,5 @@
 -- What the calls of a `Zip` give where no call changes the closure, and each returns what a function gives at the index list.
-use Rattle.std.proofs.Common.{◌≡◌, ◌∙◌, ℕ, List, [], ◌∷◌, ◌++◌, Bool, true, false, Result, IfOk, All, ap, subst, sym, inl, inr}
+use Rattle.std.proofs.Common.{◌≡◌, ◌∙◌, ℕ, List, [], ◌∷◌, ◌++◌, Bool, true, false, Result, IfOk, All, subst, sym, inl, inr}
 use Rattle.std.proofs.Math.Bool.{not}
 use Rattle.std.specs.List.{AllByRecursion, FoldsTo, fold, list_all, list_any}
 use Rattle.ndarray.specs.Grid.{Grid, IsGrid, array_by}

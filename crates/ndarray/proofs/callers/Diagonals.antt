@@ -1,11 +1,10 @@
 -- Triangles keep the diagonal: `triu` up to k = 0 and `tril` from k = 0 on.
-use Rattle.std.proofs.Common.{◌≡◌, ◌∙◌, ◌-◌, ◌<◌, ◌≤◌, ◌-ℤ◌, ℕ, ℤ, List, [], ◌∷◌, Bool, Some, true, length, pos, get_or, ap, arith, if◌then◌else◌, replicate, sym, subst}
+use Rattle.std.proofs.Common.{◌≡◌, ◌∙◌, ◌-◌, ◌<◌, ◌≤◌, ◌-ℤ◌, ℕ, ℤ, [], ◌∷◌, Bool, Some, true, length, pos, get_or, ap, arith, if◌then◌else◌, replicate, subst}
 use Rattle.std.proofs.lemmas.Bool.{le-ltb}
 use Rattle.std.proofs.lemmas.Int.{ints}
 use Rattle.std.proofs.lemmas.List.{length-replicate}
 use Rattle.ndarray.specs.Diagonals.{diagonal_of, shortest}
 use Rattle.ndarray.specs.Grid.{Grid, IsGrid, cell, tabulate}
-use Rattle.ndarray.specs.Index.{InBox}
 use Rattle.ndarray.specs.Triangles.{column_minus_row, diagonals_kept}
 use Rattle.ndarray.proofs.boxes.Boxes.{InBox-get}
 use Rattle.ndarray.proofs.callers.Triangles.{kept-cell}

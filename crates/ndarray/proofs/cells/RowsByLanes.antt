@@ -1,5 +1,5 @@
 -- The sums of a vector with the columns of a matrix, as sums of lanes.
-use Rattle.std.proofs.Common.{◌≡◌, ◌∙◌, ◌-◌, ◌<◌, ◌≤◌, ℕ, List, [], ◌∷◌, All, ap, arith, get_or, length, map, refl, remove, subst, sym}
+use Rattle.std.proofs.Common.{◌≡◌, ◌∙◌, ◌-◌, ◌<◌, ◌≤◌, ℕ, [], ◌∷◌, All, ap, arith, get_or, length, map, refl, remove, subst, sym}
 use Rattle.std.proofs.lemmas.List.Elements.{All-contains, All-map}
 use Rattle.std.proofs.lemmas.Simd.{map-map}
 use Rattle.ndarray.specs.Grid.{Grid, IsGrid}
@@ -7,7 +7,7 @@ use Rattle.ndarray.specs.Index.{InBox, row_order}
 use Rattle.ndarray.specs.Matrices.{inner_products}
 use Rattle.ndarray.specs.linalg.LaneSums.{CanSumLanes, lane_sum}
 use Rattle.ndarray.specs.linalg.RowSums.{CanSumRow, row_sums}
-use Rattle.ndarray.specs.Products.{ShapesMultiply, matrix_of, products_of, row_of}
+use Rattle.ndarray.specs.Products.{matrix_of, products_of, row_of}
 use Rattle.ndarray.specs.Subviews.{lane, lanes_of}
 use Rattle.ndarray.specs.Sums.{IsSummable, total}
 use Rattle.ndarray.specs.declared.elements.Valued.{Ghosts as ValuedGhosts}

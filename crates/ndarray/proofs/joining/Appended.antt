@@ -1,5 +1,5 @@
 -- Two arrays joined along an axis: with that axis exchanged with the first one, the cells of one array behind those of the other.
-use Rattle.std.proofs.Common.{◌≡◌, ◌∙◌, ℕ, ◌+◌, ◌-◌, ◌*◌, ◌^◌, ◌<◌, ◌≤◌, ◌≢◌, true, if◌then◌else◌, inl, inr, List, [], ◌∷◌, ◌++◌, length, set, get_or, swap, remove, Option, None, ap, append-nil, sym, refl, arith, subst, get_or-set_other}
+use Rattle.std.proofs.Common.{◌≡◌, ◌∙◌, ℕ, ◌+◌, ◌-◌, ◌*◌, ◌^◌, ◌<◌, ◌≢◌, true, if◌then◌else◌, inl, inr, List, [], ◌∷◌, ◌++◌, length, set, get_or, swap, remove, Option, None, ap, append-nil, sym, refl, arith, subst, get_or-set_other}
 use Rattle.std.specs.Prelude.{nat_lt, not, slice_get, ◌&&◌}
 use Rattle.std.specs.List.{list_all}
 use Rattle.std.proofs.lemmas.Bool.{cases_eq, cases_lt, le-ltb, lt-ltb, not_from_true}

@@ -12,11 +12,9 @@ use Rattle.ndarray.specs.places.ElementPlaces.{places_along, AreDistinctPlaces, 
 use Rattle.ndarray.specs.declared.base.shape.Order.{Order}
 use Rattle.ndarray.proofs.boxes.Boxes.{InBox-length}
 use Rattle.ndarray.proofs.boxes.Rows.{rows-joined, rows-within}
-use Rattle.ndarray.proofs.lists.Elements.{filter_map-same, map-same}
+use Rattle.ndarray.proofs.lists.Elements.{map-same}
 use Rattle.ndarray.proofs.moving.BorrowedCells.{AreDistinctPlaces-all, found-some}
 use Rattle.ndarray.proofs.moving.SomePlaces.{found-moved}
-use Rattle.ndarray.proofs.strides.ContiguousCells.{filter_map-map}
-use Rattle.ndarray.proofs.strides.Reach.{cell-at}
 use Rattle.ndarray.proofs.strides.Rows.{row-first}
 
 -- the index lists of all rows of a box have as many indices as it has axes

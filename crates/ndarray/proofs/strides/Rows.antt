@@ -8,13 +8,12 @@ use Rattle.std.proofs.lemmas.List.Elements.{All-cons, All-head, All-tail, All-ta
 use Rattle.std.proofs.Math.Nat.{mod-add-mod, add-mod-mod}
 use Rattle.std.proofs.lemmas.Bool.{cases_lt}
 use Rattle.ndarray.specs.Index.{InBox}
-use Rattle.ndarray.specs.Grid.{Grid, HasCells, cell}
+use Rattle.ndarray.specs.Grid.{cell}
 use Rattle.ndarray.specs.base.Ranks.{row_from}
 use Rattle.ndarray.specs.order.Walks.{TakesRow}
 use Rattle.ndarray.specs.base.Places.{dot, place, Reaches, grid_at}
 use Rattle.ndarray.specs.base.Strided.{places_from, HaveElements}
 use Rattle.ndarray.specs.places.ElementPlaces.{places_along, with_places}
-use Rattle.ndarray.proofs.cells.Cells.{length-along}
 use Rattle.ndarray.proofs.lists.Elements.{length-filter_map_all, some-of, get_or-append-last}
 use Rattle.ndarray.proofs.strides.Reach.{cell-at, dot-set}
 
@@ -194,23 +193,3 @@ module _ (start : ℕ) (bs : List ℕ) where
         let a = length-append (row_from is axis count) zs in
         let r = length-row_from is axis count in
         omega arith
-
--- a row is taken of the index lists that are still to come
-module _ {A : Type 0} (g : Grid A) (ys zs : List (List ℕ)) (is : List ℕ) (axis count : ℕ) (h : HasCells g ys) (t : TakesRow ys zs is axis count) where
-  pub row-within : All (InBox g.lengths) (row_from is axis count)
-  row-within = subst (All (InBox g.lengths)) t.row (All-take (InBox g.lengths) count ys h.within)
-
-  pub HasCells-row : HasCells g zs
-  HasCells-row = record { whole = h.whole; within = subst (All (InBox g.lengths)) (sym t.rest) (All-drop (InBox g.lengths) count ys h.within) }
-
-  parts : ys ≡ row_from is axis count ++ zs
-  parts = taken-parts ys zs is axis count t
-
-  pub row-split : filter_map (cell g) ys ≡ filter_map (cell g) (row_from is axis count) ++ filter_map (cell g) zs
-  row-split = ap (filter_map (cell g)) parts ∙ filter_map-append (cell g) (row_from is axis count) zs
-
-  pub row-length : length (filter_map (cell g) (row_from is axis count)) ≡ count
-  row-length = length-along g h.whole (row_from is axis count) row-within ∙ length-row_from is axis count
-
-  pub row-count : count + length zs ≡ length ys
-  row-count = let e = ap length parts in let a = length-append (row_from is axis count) zs in let r = length-row_from is axis count in omega arith

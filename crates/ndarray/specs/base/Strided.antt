@@ -1,7 +1,6 @@
 -- Places that lie a step apart, modulo 2 ^ 64: for `base`, `places` and `iter`.
-use Rattle.std.specs.Prelude.{◌≡◌, ℕ, zero, suc, ◌+◌, ◌%◌, ◌^◌, ◌<◌, List, [], ◌∷◌, ◌++◌, Option, IsTrue, All, length, map, filter_map}
+use Rattle.std.specs.Prelude.{◌≡◌, ℕ, zero, suc, ◌+◌, ◌%◌, ◌^◌, List, [], ◌∷◌, Option, IsTrue, All, map}
 use Rattle.std.specs.Option.{is_some}
-use Rattle.ndarray.specs.Grid.{Grid, HasCells, cell}
 use Rattle.ndarray.specs.Index.{size}
 use Rattle.ndarray.specs.Orders.{box_in}
 use Rattle.ndarray.specs.base.Places.{place}
@@ -19,10 +18,3 @@ LieSideBySide o ns start bs = map (place start bs) (box_in o ns) ≡ places_from
 -- each of the places has an element
 abbrev pub HaveElements : {A : Type 0} → (ℕ → Option A) → List ℕ → Type 0
 HaveElements at ps = All (λ p. IsTrue (is_some (at p))) ps
-
--- of the cells along ys, those of `row` come first, and then those along zs
-pub record SplitsOffRow {A : Type 0} (g : Grid A) (ys : List (List ℕ)) (row : List A) (zs : List (List ℕ)) : Type 0 where
-  pub rest : HasCells g zs
-  pub some : 0 < length row
-  pub split : filter_map (cell g) ys ≡ row ++ filter_map (cell g) zs
-  pub count : length row + length zs ≡ length ys

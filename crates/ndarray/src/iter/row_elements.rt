@@ -83,12 +83,7 @@ impl<'a, A, D: Lengths> RowElements<'a, A, D> {
         let Some(row) = self.places.take_row() else {
             return None;
         };
-        Some(Strided::at(
-            self.storage,
-            row.place,
-            row.stride,
-            row.left,
-        ))
+        Some(Strided::at(self.storage, row.place, row.stride, row.left))
     }
 
     /// The next cell.

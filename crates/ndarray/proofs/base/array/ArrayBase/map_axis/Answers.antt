@@ -1,8 +1,8 @@
-use Rattle.std.proofs.Common.{◌≡◌, ◌∙◌, ap, arith, refl, remove, subst, sym}
+use Rattle.std.proofs.Common.{◌≡◌, ◌∙◌, ap, arith, refl, subst, sym}
 use Rattle.std.proofs.lemmas.Result.{IfOk-weaker}
-use Rattle.ndarray.specs.Grid.{array_by, cell}
+use Rattle.ndarray.specs.Grid.{cell}
 use Rattle.ndarray.specs.Index.{size}
-use Rattle.ndarray.specs.Subviews.{lane, lanes_of}
+use Rattle.ndarray.specs.Subviews.{lanes_of}
 use Rattle.ndarray.specs.contracts.base.array.ArrayBase.map_axis.F-Fn.{words}
 use Rattle.ndarray.specs.declared.base.shape.Order.TheVariants.{RowMajor, ColumnMajor}
 use Rattle.ndarray.proofs.callers.Collecting.{if_ok-both, lanes_of-some, may-gather}

@@ -1,4 +1,4 @@
-use Rattle.std.proofs.Common.{◌≡◌, ◌∙◌, ◌++◌, ◌<◌, ℕ, List, [], ◌∷◌, None, Err, IfErr, Ok, Result, ap, arith, get_or, length, subst, swap, sym}
+use Rattle.std.proofs.Common.{◌≡◌, ◌∙◌, ◌++◌, ℕ, List, [], ◌∷◌, None, Err, IfErr, Ok, Result, ap, arith, subst, swap, sym}
 use Rattle.ndarray.specs.Grid.{Grid, IsGrid, grid}
 use Rattle.ndarray.specs.Index.{size}
 use Rattle.ndarray.specs.Joining.{concatenate_error, concatenation, concatenation_lengths}

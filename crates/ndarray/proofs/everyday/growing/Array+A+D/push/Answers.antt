@@ -1,5 +1,5 @@
-use Rattle.std.proofs.Common.{◌≡◌, ◌∙◌, ◌↔◌, ◌+◌, ◌++◌, ◌-◌, ◌<◌, ◌≢◌, ℕ, List, [], ◌∷◌, Err, None, Option, Result, Some, ap, arith, drop, false, get_or, insert, length, min, refl, set, subst, sym, take, true}
-use Rattle.std.specs.Prelude.{IfOk, ◌&&◌}
+use Rattle.std.proofs.Common.{◌≡◌, ◌∙◌, ◌↔◌, ◌+◌, ◌++◌, ◌-◌, ◌<◌, ◌≢◌, ℕ, List, [], ◌∷◌, Err, Option, Result, Some, ap, arith, drop, false, get_or, insert, length, refl, set, subst, sym, take, true}
+use Rattle.std.specs.Prelude.{◌&&◌}
 use Rattle.std.proofs.lemmas.List.{length-append, length-drop, length-set, length-take}
 use Rattle.std.proofs.lemmas.Result.{IfOk-weaker}
 use Rattle.ndarray.specs.Errors.{shape_error}

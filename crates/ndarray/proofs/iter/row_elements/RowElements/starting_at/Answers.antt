@@ -8,7 +8,6 @@ use Rattle.ndarray.specs.base.Ranks.{rank}
 use Rattle.ndarray.specs.base.Storage.{seen_at}
 use Rattle.ndarray.specs.base.Strided.{HaveElements}
 use Rattle.ndarray.specs.order.Walks.{walk_rest, WalksFrom}
-use Rattle.ndarray.specs.places.ElementPlaces.{places_along}
 use Rattle.ndarray.specs.declared.base.shape.Order.TheVariants.{RowMajor}
 use Rattle.ndarray.proofs.boxes.Boxes.{InBox-length}
 use Rattle.ndarray.proofs.boxes.Orders.{length-row_order}

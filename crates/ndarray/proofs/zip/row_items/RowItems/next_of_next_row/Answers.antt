@@ -1,4 +1,4 @@
-use Rattle.std.proofs.Common.{◌≡◌, ◌+◌, ◌-◌, ap, arith, length}
+use Rattle.std.proofs.Common.{ap, arith, length}
 use Rattle.ndarray.proofs.runs.RowItems.{item-of_next, item-there, row-form}
 use Rattle.ndarray.proofs.zip.row_items.RowItems.next_of_next_row.Goals as goal
 

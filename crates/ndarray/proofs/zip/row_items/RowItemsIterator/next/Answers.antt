@@ -1,4 +1,4 @@
-use Rattle.std.proofs.Common.{◌≡◌, ◌+◌, ◌-◌, Some, ap, arith, length, subst}
+use Rattle.std.proofs.Common.{Some, ap, arith, length, subst}
 use Rattle.ndarray.specs.zip.RowItems.{HoldsItems}
 use Rattle.ndarray.proofs.runs.RowItems.{counts-down, item-of_row, row-ended}
 use Rattle.ndarray.proofs.zip.row_items.RowItemsIterator.next.Goals as goal

@@ -1,4 +1,4 @@
-use Rattle.std.proofs.Common.{◌∙◌, ap, arith, replicate, sym}
+use Rattle.std.proofs.Common.{◌∙◌, arith, sym}
 use Rattle.ndarray.proofs.strides.SamePlaces.{replicate-some}
 use Rattle.ndarray.proofs.zip.views.SameCellsIterator.next.Goals as goal
 
