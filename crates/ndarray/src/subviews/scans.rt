@@ -15,6 +15,7 @@ use crate::base::storage::DataMut;
 use crate::order::{Order, Walk};
 use crate::places::place_rows::PlaceRow;
 use crate::subviews::lane_tiles::{are_tiles_faster, scan_by_tiles};
+use core::mem::replace_with;
 use std::mem::size_of_val;
 
 impl<A: Copy, S: DataMut<Elem = A>, D: Lengths> ArrayBase<S, D> {
@@ -36,14 +37,37 @@ impl<A: Copy, S: DataMut<Elem = A>, D: Lengths> ArrayBase<S, D> {
         requires callable { MayScanLanes (step_gives F.Fn f) (can_step F.Fn f) axis.0 init self.old }
         ensures { ScansLanes (step_gives F.Fn f) axis.0 init self.old self.new }
     {
-        if self.ndim() == 0 {
-            scan_cell(self, axis, init, &f);
-        } else if size_of_val(&init) <= 32 && are_tiles_faster(self, axis.0) {
-            scan_by_tiles(self, axis, init, &f);
-        } else {
-            scan_axis(self, axis, init, &f);
-        }
+        replace_with(self, Scan { axis, init, f }, scan_taken)
     }
+}
+
+/// A scan: the axis of its lanes, the value at the first cell of each, and the closure of its steps.
+#[derive(Drop)]
+struct Scan<B, F> {
+    axis: Axis,
+    init: B,
+    f: F,
+}
+
+/// The same for an array that is taken by value, so that no write to a cell can change where its elements are.
+fn scan_taken<A: Copy, S: DataMut<Elem = A>, D: Lengths, B: Copy, F: Fn(B, A) -> (B, A)>(
+    array: ArrayBase<S, D>,
+    scan: Scan<B, F>,
+) -> (ArrayBase<S, D>, ())
+    requires lane { (array.lengths ≡ []) ⊎ (scan.axis.0 < length array.lengths) }
+    requires callable { MayScanLanes (step_gives F.Fn scan.f) (can_step F.Fn scan.f) scan.axis.0 scan.init array }
+    ensures { ScansLanes (step_gives F.Fn scan.f) scan.axis.0 scan.init array result.0 }
+{
+    let mut array = array;
+    let Scan { axis, init, f } = scan;
+    if array.ndim() == 0 {
+        scan_cell(&mut array, axis, init, &f);
+    } else if size_of_val(&init) <= 32 && are_tiles_faster(&array, axis.0) {
+        scan_by_tiles(&mut array, axis, init, &f);
+    } else {
+        scan_axis(&mut array, axis, init, &f);
+    }
+    (array, ())
 }
 
 /// The same for an array of no axes.
@@ -62,6 +86,7 @@ fn scan_cell<A: Copy, S: DataMut<Elem = A>, D: Lengths, B: Copy, F: Fn(B, A) -> 
 }
 
 /// The same for an array that has the axis, lane by lane.
+#[inline(always)]
 fn scan_axis<A: Copy, S: DataMut<Elem = A>, D: Lengths, B: Copy, F: Fn(B, A) -> (B, A)>(
     array: &mut ArrayBase<S, D>,
     axis: Axis,
@@ -83,6 +108,7 @@ fn scan_axis<A: Copy, S: DataMut<Elem = A>, D: Lengths, B: Copy, F: Fn(B, A) -> 
 }
 
 /// The same along one lane, from the index list of its first cell on.
+#[inline(always)]
 fn scan_lane<A: Copy, S: DataMut<Elem = A>, D: Lengths, B: Copy, F: Fn(B, A) -> (B, A)>(
     array: &mut ArrayBase<S, D>,
     axis: usize,
