@@ -39,7 +39,6 @@ pub(crate) fn collect_items<P: NdProducer, R: Drop, C: ItemCall<P::Item, Out = R
 }
 
 /// The same for a closure that may fail: the array if it returns `Ok` at each item, else its first error.
-#[inline(always)]
 pub(crate) fn try_collect_items<
     P: NdProducer,
     R: Drop,

@@ -30,9 +30,6 @@ pub(crate) trait RepeatsItems: NdProducer {
     // Whether a row is one item again and again.
     ghost is_same: { Self.Row → Type 0 };
 
-    /// Whether all items lie side by side in row order. No contract speaks of it.
-    fn is_row_major(&self) -> bool;
-
     /// Whether each row in an order has more than one item, and is one item again and again. No contract speaks of it.
     fn repeats_in(&self, order: Order) -> bool;
 
@@ -143,44 +140,17 @@ where
     ensures whole { IfOk result IsGrid }
     ensures empty { size (P.lengths first) ≡ 0 → IsOk result }
 {
-    if first.is_row_major() && second.is_row_major() {
-        return try_collect_pair(alloc, first, second, Order::RowMajor, f);
-    }
     let items = Pair { first, second };
     let order = preferred_order(&items);
     let Pair { first, second } = items;
     if second.repeats_in(order) {
         let second = Repeated(second);
-        return try_collect_pair(alloc, first, second, order, f);
+        return try_collect_items(alloc, Pair { first, second }, order, f);
     }
     if first.repeats_in(order) {
         let first = Repeated(first);
-        return try_collect_pair(alloc, first, second, order, f);
+        return try_collect_items(alloc, Pair { first, second }, order, f);
     }
-    try_collect_pair(alloc, first, second, order, f)
-}
-
-/// The same in an order.
-#[inline(always)]
-fn try_collect_pair<P, Q, R, C>(
-    alloc: Global,
-    first: P,
-    second: Q,
-    order: Order,
-    f: C,
-) -> Result<Array<R, P::Dim>, AllocError>
-where
-    P: NdProducer,
-    Q: NdProducer,
-    R: Drop,
-    C: ItemCall<(P::Item, Q::Item), Out = Result<R, AllocError>>,
-    requires same { P.lengths first ≡ Q.lengths second }
-    requires callable { MayGather (both (P.yields_at first) (Q.yields_at second)) (answers C.call_gives) C.can_call (box_in order (P.lengths first)) f }
-    ensures ran { IfOk result (λ g. Collects (both (P.yields_at first) (Q.yields_at second)) (answers C.call_gives) order (P.lengths first) f g) }
-    ensures axes { IfOk result (λ g. P.Dim.has_axes (length g.lengths)) }
-    ensures whole { IfOk result IsGrid }
-    ensures empty { size (P.lengths first) ≡ 0 → IsOk result }
-{
     try_collect_items(alloc, Pair { first, second }, order, f)
 }
 
@@ -200,9 +170,6 @@ where
     ensures ran { (o : Order) × UpdatesUntil (is_cell_beside array.old (P.yields_at other)) C.call_gives o f array.old result array.new }
     ensures whole { IsGrid array.new }
 {
-    if other.is_row_major() && array.is_row_major() {
-        return try_update_in(array, other, Order::RowMajor, f);
-    }
     let order = assigning_order(&other, array);
     if other.repeats_in(order) {
         return try_update_in(array, Repeated(other), order, f);

@@ -71,7 +71,6 @@ pub(crate) fn try_update<P: NdProducer, A: Drop, S: DataMut<Elem = A>, C: CellCa
 }
 
 /// The same in an order.
-#[inline(always)]
 pub(crate) fn try_update_in<P, A, S, C>(
     array: &mut ArrayBase<S, P::Dim>,
     other: P,
@@ -109,7 +108,6 @@ struct Updates<P, C> {
 }
 
 /// Leaves in the element at each place what the call returns at it and the item next to it, up to the first error.
-#[inline(always)]
 fn update_elements<
     X,
     P: NdProducer<Item = (X, usize)>,
@@ -131,7 +129,6 @@ fn update_elements<
 }
 
 /// The same over the places of an array's cells and a producer next to them.
-#[inline(always)]
 fn update_beside<P: NdProducer, A: Drop, S: DataMut<Elem = A>, C: CellCall<A, P::Item>>(
     storage: S,
     updates: Updates<Pair<P, LayoutPlaces<P::Dim>>, C>,

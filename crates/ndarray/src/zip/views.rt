@@ -109,10 +109,6 @@ impl<'a, A, D: Lengths> RepeatsItems for ArrayView<'a, A, D> {
 
     ghost is_same = { λ r. IsRepeated (row_cells r) };
 
-    fn is_row_major(&self) -> bool {
-        self.is_row_major()
-    }
-
     fn repeats_in(&self, order: Order) -> bool {
         self.layout.is_still_in(order)
     }

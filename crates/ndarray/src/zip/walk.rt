@@ -31,7 +31,6 @@ pub(crate) trait Turn<X>: Sized {
 }
 
 /// Has all items of a producer accepted in an order, one after another.
-#[inline(always)]
 pub(crate) fn walk_items<P: NdProducer, T: Turn<P::Item>>(
     p: P,
     order: Order,
