@@ -59,7 +59,7 @@ pub use Rattle.ndarray.proofs.callers.Convolving.{double-sum, filters-same, full
 pub use Rattle.ndarray.proofs.callers.Diagonals.{kept-diagonal}
 pub use Rattle.ndarray.proofs.callers.Differences.{differ-once, differ-without_cells, differed-once, difference-length, neighbours-at, next-difference}
 pub use Rattle.ndarray.proofs.callers.EachCell.{at-each-cell, each-cell, some-cell}
-pub use Rattle.ndarray.proofs.callers.Elementwise.{array_by-follows, assign_row-follows, can-assign-row, can-combine, combine-follows, combined-cells, lengths-same}
+pub use Rattle.ndarray.proofs.callers.Elementwise.{array_by-follows, assign_row-follows, can-assign-row, can-combine, combine-follows, combined-cells, combines-combined, lengths-same}
 pub use Rattle.ndarray.proofs.callers.EqualSlices.{equal-slices}
 pub use Rattle.ndarray.proofs.callers.Folding.{Follows, fold-follows, may-by, may-follow, turns-by}
 pub use Rattle.ndarray.proofs.callers.IndexLists.{InBox-get, InBox-length, InBox-set_both, IsBefore-not_itself, box_in-at, box_in-is, box_in-within, length-box_in, rank_in-lt}
@@ -81,15 +81,15 @@ pub use Rattle.ndarray.proofs.callers.RowsBelow.{first-and-rest, row-below}
 pub use Rattle.ndarray.proofs.callers.RunningTotals.{scan-leaves, totals-made}
 pub use Rattle.ndarray.proofs.callers.SameMatrices.{block-products-same, column-as, kronecker-same, lengths-reversed, made-as, made-column, made-matrix, made-same, magnitudes-same, matrix-by, own-matrix, product-same, same-back, same-self, same-then, sums-same, transpose-matrix, two-indices}
 pub use Rattle.ndarray.proofs.callers.Scanning.{StaysInRange, SumFits, may-scan-sums, may-scan_lanes, scan-folds, scan-folds-in-range, scan-follows, scan-sums}
-pub use Rattle.ndarray.proofs.callers.Stacking.{stack-by_joining}
-pub use Rattle.ndarray.proofs.callers.SummableParts.{axis_item-summable, axis_part-summable, window-summable}
-pub use Rattle.ndarray.proofs.callers.TableRows.{row-lanes}
+pub use Rattle.ndarray.proofs.callers.Stacking.{items-stack, stack-by_joining}
+pub use Rattle.ndarray.proofs.callers.SummableParts.{axis_item-summable, axis_part-summable, items-summable, window-summable}
+pub use Rattle.ndarray.proofs.callers.TableRows.{row-lanes, rows-mapped}
 pub use Rattle.ndarray.proofs.callers.Testing.{HoldsAt, HoldsOf, all-decides, all-holds, all_or_any, any-decides, may-decide, may-test, test-follows, tested-cells, tested-holds, tested-pairs}
 pub use Rattle.ndarray.proofs.callers.Totals.{axis_sums, total-append, total-in_range, total-plus, total-swap}
 pub use Rattle.ndarray.proofs.callers.TriangleParts.{parts-combine, parts-same}
 pub use Rattle.ndarray.proofs.callers.Triangles.{cleared-cell, int_le-false, int_le-true, kept-cell}
 pub use Rattle.ndarray.proofs.callers.Updating.{update-follows}
-pub use Rattle.ndarray.proofs.callers.Views.{views-compute, views-gather}
+pub use Rattle.ndarray.proofs.callers.Views.{views-compute, views-compute-where, views-gather}
 pub use Rattle.ndarray.proofs.callers.Windows.{window-whole, window_count-valid}
 pub use Rattle.ndarray.proofs.callers.Writing.{refitted-whole, with_cell-elsewhere, with_cell-here, with_cell-own, with_cell-whole}
 pub use Rattle.ndarray.proofs.callers.Zipped.{length-zip, zip-next, zip-over}
