@@ -4,7 +4,7 @@ pub use Rattle.std.proofs.Common.{All, Bool, Contains, Err, FitsSigned, IfOk, Li
 pub use Rattle.std.proofs.Math.Nat.{add-mod, add-mod-mod, mod-add-mod, mod-lt}
 pub use Rattle.std.proofs.lemmas.Bool.{cases_eq, cases_lt, eq-eqb, eqb-false, eqb-true, false≢true, le-ltb, lt-ltb, ltb-false, ltb-true, ne_eqb}
 pub use Rattle.std.proofs.lemmas.Bool.Decides.{Decides-int_eq, nat_tests, not_from_Decides}
-pub use Rattle.std.proofs.lemmas.Int.{clamps, fold-int_min_bounds, fold-int_min_reached, ints, to_z-of_z}
+pub use Rattle.std.proofs.lemmas.Int.{clamps, fold-int_max_bounds, fold-int_max_reached, fold-int_min_bounds, fold-int_min_reached, ints, to_z-of_z}
 pub use Rattle.std.proofs.lemmas.Iterator.{YieldsList}
 pub use Rattle.std.proofs.lemmas.Iterator.Consumers.{YieldsList-at, YieldsList-from_shown, count_from_yields_List}
 pub use Rattle.std.proofs.lemmas.List.{length-drop, length-map, map-append, nil_from_length, take_rest}
@@ -14,9 +14,9 @@ pub use Rattle.std.proofs.lemmas.List.Sorted.{sum_by-IsPermutation}
 pub use Rattle.std.proofs.lemmas.List.Sums.{sum_by-append, sum_by-cons}
 pub use Rattle.std.proofs.lemmas.Nat.{div-add-mod'}
 pub use Rattle.std.proofs.lemmas.Option.{slice_get_within}
-pub use Rattle.std.specs.Int.{int_min, int_shr}
+pub use Rattle.std.specs.Int.{int_max, int_min, int_shr}
 pub use Rattle.std.specs.Iterator.{AlwaysYields, Yields}
-pub use Rattle.std.specs.List.{concat, filter, fold, list_all, list_any, slice_split, sum_by, zip}
+pub use Rattle.std.specs.List.{AllByRecursion, concat, filter, fold, list_all, list_any, slice_split, sum_by, zip}
 pub use Rattle.std.specs.Ordering.{int_eq}
 pub use Rattle.std.specs.Prelude.{IfErr, IfSome, IsSome, IsTrue, decimal, flat_map, int_le, slice_get, slice_index, string_bytes, ◌&&◌}
 pub use Rattle.std.specs.Result.{IsErrAnd}
@@ -24,26 +24,28 @@ pub use Rattle.ndarray.specs.AlongAxis.{IsSummableArray, IsTotalOf}
 pub use Rattle.ndarray.specs.Broadcast.{BroadcastTogether, broadcast_lengths}
 pub use Rattle.ndarray.specs.Chains.{HasColumn, HasMatrix}
 pub use Rattle.ndarray.specs.Convolution.{CanPad, HasFullMagnitudesInRange, HasValidMagnitudesInRange, full_convolution, valid_counts, valid_length, valid_products}
+pub use Rattle.ndarray.specs.Diagonals.{diagonal_of}
 pub use Rattle.ndarray.specs.Elementwise.{CanCombine, CanMap, Combines, Maps}
 pub use Rattle.ndarray.specs.Errors.{shape_error}
-pub use Rattle.ndarray.specs.Grid.{Grid, IsGrid, array_by, cell, grid, one_axis}
+pub use Rattle.ndarray.specs.Everyday.{combined, lanes_mapped, mapped, same_arrays}
+pub use Rattle.ndarray.specs.Grid.{Grid, IsGrid, array_by, cell, grid, one_axis, tabulate}
 pub use Rattle.ndarray.specs.Index.{InBox, column_order, row_order, size}
 pub use Rattle.ndarray.specs.Integers.{int_products, int_sums}
-pub use Rattle.ndarray.specs.Joining.{concatenate_error, concatenation, shapes_of, stack_of}
+pub use Rattle.ndarray.specs.Joining.{concatenate_error, concatenation, shapes_of, stack_error, stack_of}
 pub use Rattle.ndarray.specs.Laws.{ArePartsOf}
-pub use Rattle.ndarray.specs.Limits.{IsWithinLimit}
+pub use Rattle.ndarray.specs.Limits.{IsWithinLimit, nonzero_size}
 pub use Rattle.ndarray.specs.Matrices.{IsSameMatrix, Matrix, transpose, values_below}
 pub use Rattle.ndarray.specs.MatrixLaws.{ProductsAssociate}
 pub use Rattle.ndarray.specs.MatrixPowers.{IdentityIsNeutral, identity_matrix}
 pub use Rattle.ndarray.specs.MatrixSums.{matrix_sum}
 pub use Rattle.ndarray.specs.Orders.{HasInOrder, IsBoxIn, box_in}
 pub use Rattle.ndarray.specs.Products.{HasValues, ShapesMultiply, column_of, dot_entries, matrix_of, product_lengths, product_of, products_of, value_at, value_or}
-pub use Rattle.ndarray.specs.Subviews.{lane, lanes_of, window, window_counts, windows_of}
+pub use Rattle.ndarray.specs.Subviews.{axis_items, lane, lanes_of, window, window_counts, windows_of}
 pub use Rattle.ndarray.specs.ScanLaws.{HasRunningTotals, rectangle}
 pub use Rattle.ndarray.specs.SumLaws.{AddsUp}
-pub use Rattle.ndarray.specs.Sums.{total}
+pub use Rattle.ndarray.specs.Sums.{IsSummable, IsSummableBy, total, total_by}
 pub use Rattle.ndarray.specs.Triangles.{column_minus_row, lower_triangle, upper_triangle}
-pub use Rattle.ndarray.specs.Views.{axis_inserted, axis_part, broadcast_to}
+pub use Rattle.ndarray.specs.Views.{axis_inserted, axis_item, axis_part, broadcast_to, transpose_of}
 pub use Rattle.ndarray.specs.WholeValues.{HasMagnitudesInRange}
 pub use Rattle.ndarray.specs.base.Ranks.{rank}
 pub use Rattle.ndarray.proofs.algebra.Totals.{op_unit}
@@ -59,7 +61,7 @@ pub use Rattle.ndarray.proofs.callers.Convolving.{double-sum, filters-same, full
 pub use Rattle.ndarray.proofs.callers.Diagonals.{kept-diagonal}
 pub use Rattle.ndarray.proofs.callers.Differences.{differ-once, differ-without_cells, differed-once, difference-length, neighbours-at, next-difference}
 pub use Rattle.ndarray.proofs.callers.EachCell.{at-each-cell, each-cell, some-cell}
-pub use Rattle.ndarray.proofs.callers.Elementwise.{array_by-follows, assign_row-follows, can-assign-row, can-combine, combine-follows, combined-cells, lengths-same}
+pub use Rattle.ndarray.proofs.callers.Elementwise.{array_by-follows, assign_row-follows, can-assign-row, can-combine, combine-follows, combined-cells, combines-combined, lengths-same}
 pub use Rattle.ndarray.proofs.callers.EqualSlices.{equal-slices}
 pub use Rattle.ndarray.proofs.callers.Folding.{Follows, fold-follows, may-by, may-follow, turns-by}
 pub use Rattle.ndarray.proofs.callers.IndexLists.{InBox-get, InBox-length, InBox-set_both, IsBefore-not_itself, box_in-at, box_in-is, box_in-within, length-box_in, rank_in-lt}
@@ -81,15 +83,15 @@ pub use Rattle.ndarray.proofs.callers.RowsBelow.{first-and-rest, row-below}
 pub use Rattle.ndarray.proofs.callers.RunningTotals.{scan-leaves, totals-made}
 pub use Rattle.ndarray.proofs.callers.SameMatrices.{block-products-same, column-as, kronecker-same, lengths-reversed, made-as, made-column, made-matrix, made-same, magnitudes-same, matrix-by, own-matrix, product-same, same-back, same-self, same-then, sums-same, transpose-matrix, two-indices}
 pub use Rattle.ndarray.proofs.callers.Scanning.{StaysInRange, SumFits, may-scan-sums, may-scan_lanes, scan-folds, scan-folds-in-range, scan-follows, scan-sums}
-pub use Rattle.ndarray.proofs.callers.Stacking.{stack-by_joining}
-pub use Rattle.ndarray.proofs.callers.SummableParts.{axis_item-summable, axis_part-summable, window-summable}
-pub use Rattle.ndarray.proofs.callers.TableRows.{row-lanes}
+pub use Rattle.ndarray.proofs.callers.Stacking.{items-stack, stack-by_joining}
+pub use Rattle.ndarray.proofs.callers.SummableParts.{axis_item-summable, axis_part-summable, items-summable, window-summable}
+pub use Rattle.ndarray.proofs.callers.TableRows.{row-is, row-lanes, rows-mapped}
 pub use Rattle.ndarray.proofs.callers.Testing.{HoldsAt, HoldsOf, all-decides, all-holds, all_or_any, any-decides, may-decide, may-test, test-follows, tested-cells, tested-holds, tested-pairs}
 pub use Rattle.ndarray.proofs.callers.Totals.{axis_sums, total-append, total-in_range, total-plus, total-swap}
 pub use Rattle.ndarray.proofs.callers.TriangleParts.{parts-combine, parts-same}
 pub use Rattle.ndarray.proofs.callers.Triangles.{cleared-cell, int_le-false, int_le-true, kept-cell}
 pub use Rattle.ndarray.proofs.callers.Updating.{update-follows}
-pub use Rattle.ndarray.proofs.callers.Views.{views-compute, views-gather}
+pub use Rattle.ndarray.proofs.callers.Views.{views-compute, views-compute-where, views-gather}
 pub use Rattle.ndarray.proofs.callers.Windows.{window-whole, window_count-valid}
 pub use Rattle.ndarray.proofs.callers.Writing.{refitted-whole, with_cell-elsewhere, with_cell-here, with_cell-own, with_cell-whole}
 pub use Rattle.ndarray.proofs.callers.Zipped.{length-zip, zip-next, zip-over}

@@ -1,10 +1,13 @@
--- What the functions of src/lib.rt compute.
-use Rattle.std.specs.Prelude.{ℕ, ℤ, pos, ◌-◌, ◌+ℤ◌, ◌/◌, ◌==◌, if◌then◌else◌, Bool, false, List, [], ◌∷◌, Option, Some, None, drop, max, slice_index}
+-- What the functions of src/lib.rt and src/tables.rt compute.
+use Rattle.std.specs.Prelude.{ℕ, ℤ, pos, ◌-◌, ◌+ℤ◌, ◌/◌, ◌==◌, if◌then◌else◌, Bool, false, FitsSigned, List, [], ◌∷◌, Option, Some, None, drop, max, slice_index}
+use Rattle.std.specs.Int.{w64}
 use Rattle.std.specs.List.{fold}
 use Rattle.ndarray.specs.Grid.{Grid, cell}
+use Rattle.ndarray.specs.Integers.{int_sums}
 use Rattle.ndarray.specs.Matrices.{Matrix}
 use Rattle.ndarray.specs.Products.{matrix_entries}
 use Rattle.ndarray.specs.Subviews.{window}
+use Rattle.ndarray.specs.Sums.{IsSummable, total}
 use Rattle.ndarray.specs.Views.{broadcast_to}
 use Rattle.ndarray_examples.specs.PairedProducts.{number}
 use Rattle.residue.specs.Residue.{Below, modulus_pos, residue_products, residue_sums}
@@ -59,3 +62,11 @@ multiple_added factor table row is = (residue_sums 5 (modulus_pos 5)).op (residu
 -- the cell of a table of residues modulo 5 at an index list, and the value of a matrix there, added
 abbrev pub product_added : Matrix (Below 5) → Grid (Below 5) → List ℕ → Below 5
 product_added product table is = (residue_sums 5 (modulus_pos 5)).op (residue (cell table is)) (matrix_entries product is)
+
+-- the sum of all cells
+abbrev pub sum_of : Grid ℤ → ℤ
+sum_of g = total int_sums g.cells
+
+-- the sum of every selection of the cells is an i64
+abbrev pub AreSumsInRange : Grid ℤ → Type 0
+AreSumsInRange g = IsSummable int_sums (FitsSigned w64) g.cells

@@ -5,6 +5,7 @@ ghost use Rattle.std.specs.Int.{w64};
 ghost use Rattle.ndarray.specs.Broadcast.{broadcast_lengths};
 ghost use Rattle.ndarray.specs.Chains.{HasColumn};
 ghost use Rattle.ndarray.specs.Elementwise.{Assigns, CanAssign, CanCombine, CanMap, Combines, Maps};
+ghost use Rattle.ndarray.specs.Everyday.{CanMapTwo, combined};
 ghost use Rattle.ndarray.specs.Grid.{array_by};
 ghost use Rattle.ndarray.specs.Index.{size};
 ghost use Rattle.ndarray.specs.Integers.{int_products, int_sums, magnitude_product};
@@ -58,6 +59,23 @@ pub fn sums_in_range<S: Data<Elem = i64>, T: Data<Elem = i64>, D: DimMax<E>, E: 
     }
     let copy = a.to_owned(alloc)?;
     let sums = (copy + b)?;
+    Ok(Some(sums))
+}
+
+/// The sums of the cells of two arrays of one shape, or `None` where a sum is no `i64`.
+pub fn sums_of_same_shape<S: Data<Elem = i64>, D: DimMax<D>>(
+    a: &Array<i64, D>,
+    b: &ArrayBase<S, D>,
+) -> Checked<i64, <D as DimMax<D>>::Output>
+    requires { a.now.lengths ≡ b.now.lengths }
+    ensures when { IfOk result (λ made. IsSome made ↔ CanMapTwo (λ x y. FitsSigned w64 (x +ℤ y)) a.now b.now) }
+    ensures sums { IfOk result (λ made. IfSome made (λ c. c ≡ combined (λ x y. x +ℤ y) a.now b.now)) }
+{
+    let _lengths = (a.raw_dim(), b.raw_dim());
+    if !a.add_fits(b) {
+        return Ok(None);
+    }
+    let sums = (a + b)?;
     Ok(Some(sums))
 }
 

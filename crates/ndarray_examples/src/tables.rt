@@ -1,17 +1,24 @@
 //! Functions of the rows, the columns and the ends of a table, and of cells in brackets. Of `clear_row`, `clear_column` and `has_zero`, and of
 //! what `are_within` answers where the limits broadcast, nothing is said but that they end and read nothing outside the array.
 
-ghost use Rattle.std.specs.Prelude.{◌≡◌, ◌↔◌, ◌<◌, ◌+◌, ◌-◌, ◌*◌, ◌^◌, ◌∷◌, [], ℕ, Some, FitsSigned, IfOk, IfSome, IsSome, IsTrue, MatchOption, drop, length, slice_get, slice_index, take};
+ghost use Rattle.std.specs.Prelude.{◌≡◌, ◌↔◌, ◌<◌, ◌≤◌, ◌+◌, ◌-◌, ◌*◌, ◌^◌, ◌∷◌, [], ℕ, Some, FitsSigned, IfOk, IfSome, IsSome, IsTrue, MatchOption, drop, length, map, slice_get, slice_index, take};
 ghost use Rattle.std.specs.Int.{w64};
 ghost use Rattle.ndarray.specs.Broadcast.{BroadcastTogether, BroadcastsTo, broadcast_lengths};
 ghost use Rattle.ndarray.specs.Grid.{cell};
 ghost use Rattle.ndarray.specs.Index.{InBox, size};
 ghost use Rattle.ndarray.specs.Integers.{int_sums};
+ghost use Rattle.ndarray.specs.Joining.{stack_of};
+ghost use Rattle.ndarray.specs.Subviews.{axis_items};
 ghost use Rattle.ndarray.specs.Sums.{IsSummable, total};
 ghost use Rattle.ndarray.specs.Views.{axis_item};
 ghost use Rattle.ndarray.specs.Writes.{with_cell};
+ghost use Rattle.ndarray_examples.specs.Callers.{AreSumsInRange, sum_of};
 
-use ndarray::{ArrayBase, ArrayView1, Data, DataMut, DimMax, FoldWhile, Ix2, Lengths, Zip};
+use crate::range_tests::Checked;
+use ndarray::{
+    ArrayBase, ArrayView1, Axis, Data, DataMut, DimMax, FoldWhile, Ix2, Lengths, StackError, Zip,
+    stack,
+};
 use std::alloc::{AllocError, Global};
 
 /// The sum of a row of a table, or `None` where there is no such row, or some of its numbers add up to no `i64`.
@@ -56,6 +63,52 @@ fn numbers_of(alloc: Global, view: &ArrayView1<'_, i64>) -> Result<Vec<i64>, All
     ensures { IfOk result (λ numbers. numbers.items ≡ view.now.cells) }
 {
     view.iter().copied().collect(alloc)
+}
+
+/// The sums of the rows of a table in a vector, or `None` where some of its numbers add up to no `i64`.
+pub fn list_row_sums<S: Data<Elem = i64>>(
+    alloc: Global,
+    table: &ArrayBase<S, Ix2>,
+) -> Result<Option<Vec<i64>>, AllocError>
+    ensures when { IfOk result (λ made. IsSome made ↔ AreSumsInRange table.now) }
+    ensures sums { IfOk result (λ made. IfSome made (λ sums. sums.items ≡ map sum_of (axis_items table.now 0))) }
+{
+    let _lengths = table.raw_dim();
+    if !table.sums_fit() {
+        return Ok(None);
+    }
+    let mut sums = Vec::new(alloc);
+    for row in table.outer_iter() {
+        sums.push(row.sum())?;
+    }
+    Ok(Some(sums))
+}
+
+/// Two rows of a table, one above the other, or `None` where there is no such row.
+///
+/// Requires that the table has two rows or more. The error is allocation failure.
+pub fn stack_rows<S: Data<Elem = i64>>(
+    alloc: Global,
+    table: &ArrayBase<S, Ix2>,
+    first: usize,
+    second: usize,
+) -> Checked<i64, Ix2>
+    requires { 2 ≤ slice_index table.now.lengths 0 }
+    ensures when { IfOk result (λ made. IsSome made ↔ ((first < slice_index table.now.lengths 0) × (second < slice_index table.now.lengths 0))) }
+    ensures rows { IfOk result (λ made. IfSome made (λ r. r ≡ stack_of 0 (axis_item table.now 0 first ∷ axis_item table.now 0 second ∷ []))) }
+{
+    let _lengths = table.raw_dim();
+    if first >= table.nrows() {
+        return Ok(None);
+    }
+    if second >= table.nrows() {
+        return Ok(None);
+    }
+    match stack(alloc, Axis(0), &[table.row(first), table.row(second)]) {
+        Ok(rows) => Ok(Some(rows)),
+        Err(StackError::Memory(error)) => Err(error),
+        Err(StackError::Shape(_)) => unreachable!(),
+    }
 }
 
 /// Clears a row of a table, if there is one of that index.

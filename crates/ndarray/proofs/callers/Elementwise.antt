@@ -2,12 +2,14 @@
 use Rattle.std.proofs.Common.{◌≡◌, ◌∙◌, ℕ, List, [], ◌∷◌, Some, ap, subst, sym}
 use Rattle.ndarray.specs.Broadcast.{BroadcastsTo, broadcast_lengths}
 use Rattle.ndarray.specs.Elementwise.{Assigns, CanAssign, CanCombine, Combines}
+use Rattle.ndarray.specs.Everyday.{combined}
 use Rattle.ndarray.specs.Grid.{Grid, IsGrid, array_by, cell}
 use Rattle.ndarray.specs.Index.{InBox}
 use Rattle.ndarray.specs.Limits.{IsWithinLimit}
 use Rattle.ndarray.specs.Updates.{is_pair_of_cells}
 use Rattle.ndarray.specs.Views.{broadcast_to}
 use Rattle.ndarray.proofs.cells.Cells.{array_by-cell, array_by-whole, cell-inside, cell-Some, same_grid}
+use Rattle.ndarray.proofs.cells.Mapped.{maps-combined}
 use Rattle.ndarray.proofs.views.BroadcastLengths.{broadcasts-itself, lengths-stretched, together-stretched}
 use Rattle.ndarray.proofs.views.OwnLengths.{broadcast_to-own, broadcast_to-row, broadcasts-row}
 
@@ -50,6 +52,17 @@ module _ {A B : Type 0} (g : Grid A) (h : Grid B) (left_whole : IsGrid g) (right
       (λ is z there.
       let (x, y, at, given) = c.cells is z there in
       each is x y z (sym (left-own is) ∙ at.left) (sym (right-own is) ∙ at.right) given)
+
+  -- and is what a function of two cells gives, where the operation computes that
+  pub combines-combined : {C : Type 0} (gives : A → B → C → Type 0) (r : Grid C) (f : A → B → C) → ((x : A) (y : B) (z : C) → gives x y z → z ≡ f x y) → Combines g h gives r → r ≡ combined f g h
+  combines-combined gives r f each c =
+      maps-combined g h r gives f left_whole right_whole (sym same) each (record {
+        lengths = c.lengths ∙ lengths-same;
+        whole = c.whole;
+        cells = λ is z there.
+            let (x, y, at, given) = c.cells is z there in
+            (x, y, sym (left-own is) ∙ at.left, sym (right-own is) ∙ at.right, given);
+      })
 
 -- An array, and a row: one that has its lengths without the first.
 module _ {A B : Type 0} (g : Grid A) (h : Grid B) (whole : IsGrid h) (n : ℕ) (long : g.lengths ≡ n ∷ h.lengths) where

@@ -14,9 +14,9 @@ use Rattle.ndarray.proofs.cells.Cells.{cell-inside}
 use Rattle.ndarray.proofs.convolution.WholeWindows.{products-backwards}
 
 -- the window at a position has the array's lengths, and the products may be summed
-pub window-summable : {A C : Type 0} (plus times : CommutativeMonoid C) (P : C → Type 0) (value : A → C) (g m k x : Grid A) (ps : List ℕ)
+pub window_products-summable : {A C : Type 0} (plus times : CommutativeMonoid C) (P : C → Type 0) (value : A → C) (g m k x : Grid A) (ps : List ℕ)
     → k ≡ m → IsSummable plus P (window_products times value g m ps) → x ≡ window g m.lengths (single_steps g.lengths) ps → (x.lengths ≡ k.lengths) × IsSummable plus P (products_of times value x.cells k.cells)
-window-summable plus times P value g m k x ps e sums at = (
+window_products-summable plus times P value g m k x ps e sums at = (
   ap (λ w. w.lengths) at ∙ sym (ap (λ w. w.lengths) e),
   subst (λ w. IsSummable plus P (products_of times value x.cells w.cells)) (sym e) (subst (λ w. IsSummable plus P (products_of times value w.cells m.cells)) (sym at) sums),
 )

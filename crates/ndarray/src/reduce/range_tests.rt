@@ -1,13 +1,14 @@
 //! Tests whether the sums and the products of an array's cells are in the range of their integer type.
 
 ghost use Rattle.std.specs.Prelude.{◌≡◌, ◌↔◌, ◌+ℤ◌, ◌*ℤ◌, ◌<ℤ◌, ◌≤ℤ◌, ◌+◌, ◌<◌, ◌++◌, ◌∷◌, [], ℕ, ℤ, List, IfSome, IsSome, IsTrue, MatchOption, drop, length, map, pos, unsigned_abs};
+ghost use Rattle.std.specs.List.{AllByRecursion};
 ghost use Rattle.num_traits.specs.Laws.{Checks};
 ghost use Rattle.ndarray.specs.AlongAxis.{IsSummableArray};
 ghost use Rattle.ndarray.specs.Elementwise.{CanMap};
 ghost use Rattle.ndarray.specs.Products.{magnitude_sum, products_of};
 ghost use Rattle.ndarray.specs.reduce.NonzeroProducts.{MultipliedSoFar};
 ghost use Rattle.ndarray.specs.reduce.SignedSums.{AddedApart, ProductsApart};
-ghost use Rattle.ndarray.specs.Subviews.{lanes_of};
+ghost use Rattle.ndarray.specs.Subviews.{axis_items, lanes_of};
 ghost use Rattle.ndarray.specs.Sums.{IsSummable, IsSummableBy, total, total_by};
 ghost use Rattle.ndarray.specs.Integers.{int_products, int_sums, magnitude_product, negative_sum, nonzero_magnitude, positive_sum};
 
@@ -27,7 +28,8 @@ impl<A: Zero + CheckedAdd, S: Data<Elem = A>, D: Lengths> ArrayBase<S, D> {
     /// Whether every selection of the cells has its sum in the type's range, as [`sum`](Self::sum) requires.
     ///
     /// This holds exactly if the positive cells add up to at most the type's greatest number and the negative cells to at least its least.
-    /// Then [`sum_axis`](Self::sum_axis) may be called too, along any axis. Requires nothing, and the test allocates nothing.
+    /// Then [`sum_axis`](Self::sum_axis) may be called too, along any axis, and [`sum`](Self::sum) of each item along any axis, as
+    /// [`outer_iter`](Self::outer_iter) yields them along the first. Requires nothing, and the test allocates nothing.
     ///
     /// ```
     /// assert!(ArrayView::from_shape(2, &[127i8, -128])?.sums_fit());
@@ -38,6 +40,7 @@ impl<A: Zero + CheckedAdd, S: Data<Elem = A>, D: Lengths> ArrayBase<S, D> {
         ensures bounds { IsTrue result ↔ (A.fits (positive_sum (map A.value self.now.cells))
             × A.fits (negative_sum (map A.value self.now.cells))) }
         ensures lanes { IsTrue result → (axis : ℕ) → axis < length self.now.lengths → CanMap (IsSummableArray int_sums A.fits A.value) (lanes_of self.now axis) }
+        ensures items { IsTrue result → (axis : ℕ) → axis < length self.now.lengths → AllByRecursion (IsSummableArray int_sums A.fits A.value) (axis_items self.now axis) }
     {
         signed_sums(&self.view()).is_some()
     }
@@ -67,7 +70,7 @@ impl<A: Zero + CheckedAdd, S: Data<Elem = A>, D: Lengths> ArrayBase<S, D> {
 impl<A: IntegerElem, S: Data<Elem = A>, D: Lengths> ArrayBase<S, D> {
     /// Whether the absolute values of the nonzero cells multiply to at most the type's greatest number. Then every selection of the cells
     /// has its product in the type's range, as [`product`](Self::product) requires, and [`product_axis`](Self::product_axis) may be called
-    /// too, along any axis.
+    /// too, along any axis, and `product` of each item along any axis, as [`outer_iter`](Self::outer_iter) yields them along the first.
     ///
     /// Requires nothing, and the test allocates nothing. It may return `false` although `product` may be called, as for the least number of
     /// a signed type alone.
@@ -80,6 +83,7 @@ impl<A: IntegerElem, S: Data<Elem = A>, D: Lengths> ArrayBase<S, D> {
         ensures magnitudes { IsTrue result ↔ A.fits (pos (magnitude_product (map A.value self.now.cells))) }
         ensures selections { IsTrue result → IsSummableBy int_products A.fits A.value self.now.cells }
         ensures lanes { IsTrue result → (axis : ℕ) → axis < length self.now.lengths → CanMap (IsSummableArray int_products A.fits A.value) (lanes_of self.now axis) }
+        ensures items { IsTrue result → (axis : ℕ) → axis < length self.now.lengths → AllByRecursion (IsSummableArray int_products A.fits A.value) (axis_items self.now axis) }
     {
         magnitudes_multiplied(&self.view()).is_some()
     }

@@ -9,7 +9,7 @@ use Rattle.ndarray.specs.declared.base.shape.Order.TheVariants.{RowMajor, Column
 use Rattle.ndarray.proofs.callers.Collecting.{array_by-at, if_ok-both, may-gather}
 use Rattle.ndarray.proofs.cells.Cells.{cell-inside}
 use Rattle.ndarray.proofs.cells.CollectedCells.{Collects-at}
-use Rattle.ndarray.proofs.convolution.WindowSums.{window-summable}
+use Rattle.ndarray.proofs.convolution.WindowSums.{window_products-summable}
 use Rattle.ndarray.proofs.conv.over_rows.Goals as goal
 use Rattle.ndarray.proofs.conv.over_rows.Goals.{After-view}
 
@@ -30,7 +30,7 @@ module _ (g : _) (c : After-view g) where
   can_sum i x b s =
       let v = g.A.Valued in
       let inside : InBox (valid_counts a.lengths m.lengths) i = subst (λ w. InBox w.lengths i) windows b in
-      window-summable v.addition v.multiplication v.InRange v.meaning a m c.view.result x i c.view.ensures.same (c.requires.can.sums i inside)
+      window_products-summable v.addition v.multiplication v.InRange v.meaning a m c.view.result x i c.view.ensures.same (c.requires.can.sums i inside)
       (array_by-at _ (window a m.lengths (single_steps a.lengths)) c.windows-windows.result i x windows b s)
 
 pub collect_in_either_order-requires-clause-by_rows : goal.collect_in_either_order-requires-clause-by_rows

@@ -1,11 +1,13 @@
 use Rattle.std.proofs.Common.{◌↔◌, ◌<◌, [], length, map, refl, subst, sym}
 use Rattle.std.specs.Prelude.{IsTrue, pos}
+use Rattle.std.specs.List.{AllByRecursion}
 use Rattle.ndarray.specs.AlongAxis.{IsSummableArray}
 use Rattle.ndarray.specs.Elementwise.{CanMap}
 use Rattle.ndarray.specs.Integers.{int_products, magnitude_product}
-use Rattle.ndarray.specs.Subviews.{lanes_of}
+use Rattle.ndarray.specs.Subviews.{axis_items, lanes_of}
 use Rattle.ndarray.specs.Sums.{IsSummableBy}
 use Rattle.ndarray.proofs.callers.Lanes.{lanes-summable}
+use Rattle.ndarray.proofs.callers.SummableParts.{items-summable}
 use Rattle.ndarray.proofs.lists.Decisions.{from_some, says_some}
 use Rattle.ndarray.proofs.sums.NonzeroProducts.{multiplied-end, products-summable}
 use Rattle.ndarray.proofs.sums.Selections.{IsSummableBy-map}
@@ -41,3 +43,10 @@ returns-clause-lanes g c =
     λ yes axis below. subst (λ a. CanMap (IsSummableArray int_products g.A.Number.fits g.A.Number.value) (lanes_of a axis)) same
     (lanes-summable c.view.result c.view.ensures.whole axis (subst (λ a. axis < length a.lengths) (sym same) below) int_products g.A.Number.fits g.A.Number.value
     (subst (λ a. IsSummableBy int_products g.A.Number.fits g.A.Number.value a.cells) (sym same) (returns-clause-selections g c yes)))
+
+pub returns-clause-items : goal.returns-clause-items
+returns-clause-items g c =
+    let same = c.view.ensures.same in
+    λ yes axis below. subst (λ a. AllByRecursion (IsSummableArray int_products g.A.Number.fits g.A.Number.value) (axis_items a axis)) same
+    (items-summable int_products g.A.Number.fits g.A.Number.value c.view.result c.view.ensures.whole (subst (λ a. IsSummableBy int_products g.A.Number.fits g.A.Number.value a.cells) (sym same) (returns-clause-selections g c yes)) axis
+    (subst (λ a. axis < length a.lengths) (sym same) below))

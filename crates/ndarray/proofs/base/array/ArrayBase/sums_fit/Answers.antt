@@ -1,11 +1,13 @@
 use Rattle.std.proofs.Common.{◌↔◌, ◌<◌, [], length, map, refl, subst, sym}
 use Rattle.std.specs.Prelude.{IsTrue}
+use Rattle.std.specs.List.{AllByRecursion}
 use Rattle.ndarray.specs.AlongAxis.{IsSummableArray}
 use Rattle.ndarray.specs.Elementwise.{CanMap}
 use Rattle.ndarray.specs.Integers.{int_sums, negative_sum, positive_sum}
-use Rattle.ndarray.specs.Subviews.{lanes_of}
+use Rattle.ndarray.specs.Subviews.{axis_items, lanes_of}
 use Rattle.ndarray.specs.Sums.{IsSummableBy}
 use Rattle.ndarray.proofs.callers.Lanes.{lanes-summable}
+use Rattle.ndarray.proofs.callers.SummableParts.{items-summable}
 use Rattle.ndarray.proofs.lists.Decisions.{says_some}
 use Rattle.ndarray.proofs.sums.IntegerSelections.{tells_summable_by}
 use Rattle.ndarray.proofs.sums.SignedSums.{AddedApart-end}
@@ -28,3 +30,10 @@ returns-clause-lanes g c =
     λ yes axis below. subst (λ a. CanMap (IsSummableArray int_sums g.A.Number.fits g.A.Number.value) (lanes_of a axis)) same
     (lanes-summable c.view.result c.view.ensures.whole axis (subst (λ a. axis < length a.lengths) (sym same) below) int_sums g.A.Number.fits g.A.Number.value
     (subst (λ a. IsSummableBy int_sums g.A.Number.fits g.A.Number.value a.cells) (sym same) ((returns-clause-selections g c).0 yes)))
+
+pub returns-clause-items : goal.returns-clause-items
+returns-clause-items g c =
+    let same = c.view.ensures.same in
+    λ yes axis below. subst (λ a. AllByRecursion (IsSummableArray int_sums g.A.Number.fits g.A.Number.value) (axis_items a axis)) same
+    (items-summable int_sums g.A.Number.fits g.A.Number.value c.view.result c.view.ensures.whole (subst (λ a. IsSummableBy int_sums g.A.Number.fits g.A.Number.value a.cells) (sym same) ((returns-clause-selections g c).0 yes)) axis
+    (subst (λ a. axis < length a.lengths) (sym same) below))
