@@ -66,7 +66,7 @@ pub use Rattle.ndarray.proofs.callers.IndexLists.{InBox-get, InBox-length, InBox
 pub use Rattle.ndarray.proofs.callers.Joining.{concatenation-cells, if_ok-unless, one_axis-is, only-memory, two-joined, vectors-join}
 pub use Rattle.ndarray.proofs.callers.LaneLists.{cell-in_lane, row-list}
 pub use Rattle.ndarray.proofs.callers.Lanes.{at_front, cumulate-always, lane-maps, lanes-follow, lanes-summable, select-none}
-pub use Rattle.ndarray.proofs.callers.Mapping.{maps-follow, maps-follow-twice}
+pub use Rattle.ndarray.proofs.callers.Mapping.{mapped-array_by, mapped-at, maps-follow, maps-follow-twice}
 pub use Rattle.ndarray.proofs.callers.MatrixPowers.{identity-neutral, made-first, made-sum, power, power-columns, power-rows, power-same, powers-add, powers-multiply, total-single}
 pub use Rattle.ndarray.proofs.callers.MatrixSums.{general-matrix, multiple-matrix, scaled_sum-matrix, sum-matrix}
 pub use Rattle.ndarray.proofs.callers.Maxima.{greatest-bounds, greatest-reached}
