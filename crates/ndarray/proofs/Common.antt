@@ -84,7 +84,7 @@ pub use Rattle.ndarray.proofs.callers.Scanning.{StaysInRange, SumFits, may-scan-
 pub use Rattle.ndarray.proofs.callers.Stacking.{stack-by_joining}
 pub use Rattle.ndarray.proofs.callers.SummableParts.{axis_item-summable, axis_part-summable, window-summable}
 pub use Rattle.ndarray.proofs.callers.TableRows.{row-lanes}
-pub use Rattle.ndarray.proofs.callers.Testing.{HoldsAt, HoldsOf, all-decides, all-holds, all_or_any, any-decides, may-decide, may-test, test-follows, tested-cells, tested-holds, tested-pairs}
+pub use Rattle.ndarray.proofs.callers.Testing.{HoldsAt, HoldsOf, all-decides, all-holds, all_or_any, any-decides, list_all-at, list_all-each, may-decide, may-test, test-follows, tested-cells, tested-holds, tested-pairs}
 pub use Rattle.ndarray.proofs.callers.Totals.{axis_sums, total-append, total-in_range, total-plus, total-swap}
 pub use Rattle.ndarray.proofs.callers.TriangleParts.{parts-combine, parts-same}
 pub use Rattle.ndarray.proofs.callers.Triangles.{cleared-cell, int_le-false, int_le-true, kept-cell}
