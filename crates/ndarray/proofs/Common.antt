@@ -53,13 +53,13 @@ pub use Rattle.ndarray.proofs.boxes.ProductShapes.{inner-matrices}
 pub use Rattle.ndarray.proofs.boxes.Walks.{rank_in-one}
 pub use Rattle.ndarray.proofs.callers.Broadcasting.{AreColumnAndRow, axis_inserted-cell, axis_inserted-whole, broadcast_index-inside, broadcast_index-own, broadcast_index-row, broadcast_to-cell, broadcast_to-own, broadcast_to-row, broadcast_to-whole, broadcasts-itself, broadcasts-row, can-combine-where, cells-meet, column-lengths, combine-follows-where, combined-where, lengths-exchanged, lengths-stretched, outer-cells, outer-lengths, outer-shapes, together-exchanged, together-stretched}
 pub use Rattle.ndarray.proofs.callers.Cells.{HasCells-first, along-first, array_by-cell, array_by-whole, beside-at, cell-Some, cell-inside, cells_in-HasInOrder, item-whole, same_grid, tabulate-cell, tabulate-is, tabulate-whole, transpose-cell, transpose_of-transpose_of, transpose_of-whole}
-pub use Rattle.ndarray.proofs.callers.Collecting.{All-middle, array_by-at, collect-each, collect-follows, if_ok-both, if_some-both, lanes_of-some, may-gather}
+pub use Rattle.ndarray.proofs.callers.Collecting.{All-middle, collect-each, collect-follows, if_ok-both, if_some-both, lanes_of-some, may-gather}
 pub use Rattle.ndarray.proofs.callers.ColumnOrder.{cells-transposed}
 pub use Rattle.ndarray.proofs.callers.Convolving.{double-sum, filters-same, full-list, full-made, positive-one, single-sum, valid-list, valid-made, valid-one, values-list}
 pub use Rattle.ndarray.proofs.callers.Diagonals.{kept-diagonal}
 pub use Rattle.ndarray.proofs.callers.Differences.{differ-once, differ-without_cells, differed-once, difference-length, neighbours-at, next-difference}
 pub use Rattle.ndarray.proofs.callers.EachCell.{at-each-cell, each-cell, some-cell}
-pub use Rattle.ndarray.proofs.callers.Elementwise.{array_by-follows, assign_row-follows, can-assign-row, can-combine, combine-follows, combined-cells, lengths-same}
+pub use Rattle.ndarray.proofs.callers.Elementwise.{array_by-at, array_by-follows, assign_row-by, assign_row-follows, can-assign-row, can-assign-row-by, can-combine, combine-follows, combined-cells, first-and-rest, lengths-same}
 pub use Rattle.ndarray.proofs.callers.EqualSlices.{equal-slices}
 pub use Rattle.ndarray.proofs.callers.Folding.{Follows, fold-follows, may-by, may-follow, turns-by}
 pub use Rattle.ndarray.proofs.callers.IndexLists.{InBox-get, InBox-length, InBox-set_both, IsBefore-not_itself, box_in-at, box_in-is, box_in-within, length-box_in, rank_in-lt}
@@ -77,7 +77,7 @@ pub use Rattle.ndarray.proofs.callers.ProductChains.{gram, product-of_left, prod
 pub use Rattle.ndarray.proofs.callers.Products.{below-same, column-cells, entry-product, entry-summable, matrix-by_vector, matrix-cells, matrix-shapes, one-length, product-last, row-product, rows-summable, two-lengths, vector-shapes}
 pub use Rattle.ndarray.proofs.callers.Rectangles.{part-whole, rectangle-in_range, window-rectangle}
 pub use Rattle.ndarray.proofs.callers.RowOrder.{box_in-rearranges, fold-cells, fold-in_row_order, fold-over-cells, fold-rearranged, in_row, list_all-cells, list_all-in_row_order, list_any-cells, list_any-in_row_order, turns-over-cells}
-pub use Rattle.ndarray.proofs.callers.RowsBelow.{first-and-rest, row-below}
+pub use Rattle.ndarray.proofs.callers.RowsBelow.{row-below}
 pub use Rattle.ndarray.proofs.callers.RunningTotals.{scan-leaves, totals-made}
 pub use Rattle.ndarray.proofs.callers.SameMatrices.{block-products-same, column-as, kronecker-same, lengths-reversed, made-as, made-column, made-matrix, made-same, magnitudes-same, matrix-by, own-matrix, product-same, same-back, same-self, same-then, sums-same, transpose-matrix, two-indices}
 pub use Rattle.ndarray.proofs.callers.Scanning.{StaysInRange, SumFits, may-scan-sums, may-scan_lanes, scan-folds, scan-folds-in-range, scan-follows, scan-sums}
