@@ -79,7 +79,7 @@ pub use Rattle.ndarray.proofs.callers.Rectangles.{part-whole, rectangle-in_range
 pub use Rattle.ndarray.proofs.callers.RowOrder.{box_in-rearranges, fold-cells, fold-in_row_order, fold-over-cells, fold-rearranged, in_row, list_all-cells, list_all-in_row_order, list_any-cells, list_any-in_row_order, turns-over-cells}
 pub use Rattle.ndarray.proofs.callers.RowsBelow.{row-below}
 pub use Rattle.ndarray.proofs.callers.RunningTotals.{scan-leaves, totals-made}
-pub use Rattle.ndarray.proofs.callers.SameMatrices.{block-products-same, column-as, kronecker-same, lengths-reversed, made-as, made-column, made-matrix, made-same, magnitudes-same, matrix-by, own-matrix, product-same, same-back, same-self, same-then, sums-same, transpose-matrix, two-indices}
+pub use Rattle.ndarray.proofs.callers.SameMatrices.{below-two, block-products-same, column-as, kronecker-same, lengths-reversed, made-as, made-column, made-matrix, made-same, magnitudes-same, matrix-by, own-matrix, product-same, same-back, same-self, same-then, sums-same, transpose-matrix, two-indices}
 pub use Rattle.ndarray.proofs.callers.Scanning.{StaysInRange, SumFits, may-scan-sums, may-scan_lanes, scan-folds, scan-folds-in-range, scan-follows, scan-sums}
 pub use Rattle.ndarray.proofs.callers.Stacking.{stack-by_joining}
 pub use Rattle.ndarray.proofs.callers.SummableParts.{axis_item-summable, axis_part-summable, window-summable}
