@@ -32,19 +32,19 @@ pub use Rattle.ndarray.specs.Integers.{int_products, int_sums}
 pub use Rattle.ndarray.specs.Joining.{concatenate_error, concatenation, shapes_of, stack_of}
 pub use Rattle.ndarray.specs.Laws.{ArePartsOf}
 pub use Rattle.ndarray.specs.Limits.{IsWithinLimit}
-pub use Rattle.ndarray.specs.Matrices.{IsSameMatrix, Matrix, transpose, values_below}
+pub use Rattle.ndarray.specs.Matrices.{IsSameMatrix, Matrix, inner_products, transpose, values_below}
 pub use Rattle.ndarray.specs.MatrixLaws.{ProductsAssociate}
 pub use Rattle.ndarray.specs.MatrixPowers.{IdentityIsNeutral, identity_matrix}
 pub use Rattle.ndarray.specs.MatrixSums.{matrix_sum}
 pub use Rattle.ndarray.specs.Orders.{HasInOrder, IsBoxIn, box_in}
-pub use Rattle.ndarray.specs.Products.{HasValues, ShapesMultiply, column_of, dot_entries, matrix_of, product_lengths, product_of, products_of, value_at, value_or}
+pub use Rattle.ndarray.specs.Products.{HasValues, ShapesMultiply, column_of, dot_entries, magnitude_sum, matrix_of, product_lengths, product_of, products_of, value_at, value_or}
 pub use Rattle.ndarray.specs.Subviews.{lane, lanes_of, window, window_counts, windows_of}
 pub use Rattle.ndarray.specs.ScanLaws.{HasRunningTotals, rectangle}
 pub use Rattle.ndarray.specs.SumLaws.{AddsUp}
 pub use Rattle.ndarray.specs.Sums.{total}
 pub use Rattle.ndarray.specs.Triangles.{column_minus_row, lower_triangle, upper_triangle}
 pub use Rattle.ndarray.specs.Views.{axis_inserted, axis_part, broadcast_to}
-pub use Rattle.ndarray.specs.WholeValues.{HasMagnitudesInRange}
+pub use Rattle.ndarray.specs.WholeValues.{HasMagnitudesInRange, i64_values, whole_numbers}
 pub use Rattle.ndarray.specs.base.Ranks.{rank}
 pub use Rattle.ndarray.proofs.algebra.Totals.{op_unit}
 pub use Rattle.ndarray.proofs.boxes.Orders.{length-row_order}
