@@ -34,19 +34,19 @@ pub use Rattle.ndarray.specs.Integers.{int_products, int_sums}
 pub use Rattle.ndarray.specs.Joining.{concatenate_error, concatenation, shapes_of, stack_error, stack_of}
 pub use Rattle.ndarray.specs.Laws.{ArePartsOf}
 pub use Rattle.ndarray.specs.Limits.{IsWithinLimit, nonzero_size}
-pub use Rattle.ndarray.specs.Matrices.{IsSameMatrix, Matrix, transpose, values_below}
+pub use Rattle.ndarray.specs.Matrices.{IsSameMatrix, Matrix, inner_products, transpose, values_below}
 pub use Rattle.ndarray.specs.MatrixLaws.{ProductsAssociate}
 pub use Rattle.ndarray.specs.MatrixPowers.{IdentityIsNeutral, identity_matrix}
 pub use Rattle.ndarray.specs.MatrixSums.{matrix_sum}
 pub use Rattle.ndarray.specs.Orders.{HasInOrder, IsBoxIn, box_in}
-pub use Rattle.ndarray.specs.Products.{HasValues, ShapesMultiply, column_of, dot_entries, matrix_of, product_lengths, product_of, products_of, value_at, value_or}
+pub use Rattle.ndarray.specs.Products.{HasValues, ShapesMultiply, column_of, dot_entries, magnitude_sum, matrix_of, product_lengths, product_of, products_of, value_at, value_or}
 pub use Rattle.ndarray.specs.Subviews.{axis_items, lane, lanes_of, window, window_counts, windows_of}
 pub use Rattle.ndarray.specs.ScanLaws.{HasRunningTotals, rectangle}
 pub use Rattle.ndarray.specs.SumLaws.{AddsUp}
 pub use Rattle.ndarray.specs.Sums.{IsSummable, IsSummableBy, total, total_by}
 pub use Rattle.ndarray.specs.Triangles.{column_minus_row, lower_triangle, upper_triangle}
 pub use Rattle.ndarray.specs.Views.{axis_inserted, axis_item, axis_part, broadcast_to, transpose_of}
-pub use Rattle.ndarray.specs.WholeValues.{HasMagnitudesInRange}
+pub use Rattle.ndarray.specs.WholeValues.{HasMagnitudesInRange, i64_values, whole_numbers}
 pub use Rattle.ndarray.specs.base.Ranks.{rank}
 pub use Rattle.ndarray.proofs.algebra.Totals.{op_unit}
 pub use Rattle.ndarray.proofs.boxes.Orders.{length-row_order}
@@ -55,20 +55,20 @@ pub use Rattle.ndarray.proofs.boxes.ProductShapes.{inner-matrices}
 pub use Rattle.ndarray.proofs.boxes.Walks.{rank_in-one}
 pub use Rattle.ndarray.proofs.callers.Broadcasting.{AreColumnAndRow, axis_inserted-cell, axis_inserted-whole, broadcast_index-inside, broadcast_index-own, broadcast_index-row, broadcast_to-cell, broadcast_to-own, broadcast_to-row, broadcast_to-whole, broadcasts-itself, broadcasts-row, can-combine-where, cells-meet, column-lengths, combine-follows-where, combined-where, lengths-exchanged, lengths-stretched, outer-cells, outer-lengths, outer-shapes, together-exchanged, together-stretched}
 pub use Rattle.ndarray.proofs.callers.Cells.{HasCells-first, along-first, array_by-cell, array_by-whole, beside-at, cell-Some, cell-inside, cells_in-HasInOrder, item-whole, same_grid, tabulate-cell, tabulate-is, tabulate-whole, transpose-cell, transpose_of-transpose_of, transpose_of-whole}
-pub use Rattle.ndarray.proofs.callers.Collecting.{All-middle, array_by-at, collect-each, collect-follows, if_ok-both, if_some-both, lanes_of-some, may-gather}
+pub use Rattle.ndarray.proofs.callers.Collecting.{All-middle, collect-each, collect-follows, if_ok-both, if_some-both, lanes_of-some, may-gather}
 pub use Rattle.ndarray.proofs.callers.ColumnOrder.{cells-transposed}
 pub use Rattle.ndarray.proofs.callers.Convolving.{double-sum, filters-same, full-list, full-made, positive-one, single-sum, valid-list, valid-made, valid-one, values-list}
 pub use Rattle.ndarray.proofs.callers.Diagonals.{kept-diagonal}
 pub use Rattle.ndarray.proofs.callers.Differences.{differ-once, differ-without_cells, differed-once, difference-length, neighbours-at, next-difference}
 pub use Rattle.ndarray.proofs.callers.EachCell.{at-each-cell, each-cell, some-cell}
-pub use Rattle.ndarray.proofs.callers.Elementwise.{array_by-follows, assign_row-follows, can-assign-row, can-combine, combine-follows, combined-cells, combines-combined, lengths-same}
+pub use Rattle.ndarray.proofs.callers.Elementwise.{array_by-at, array_by-follows, assign_row-by, assign_row-follows, can-assign-row, can-assign-row-by, can-combine, combine-follows, combined-cells, combines-combined, first-and-rest, lengths-same}
 pub use Rattle.ndarray.proofs.callers.EqualSlices.{equal-slices}
 pub use Rattle.ndarray.proofs.callers.Folding.{Follows, fold-follows, may-by, may-follow, turns-by}
 pub use Rattle.ndarray.proofs.callers.IndexLists.{InBox-get, InBox-length, InBox-set_both, IsBefore-not_itself, box_in-at, box_in-is, box_in-within, length-box_in, rank_in-lt}
 pub use Rattle.ndarray.proofs.callers.Joining.{concatenation-cells, if_ok-unless, one_axis-is, only-memory, two-joined, vectors-join}
 pub use Rattle.ndarray.proofs.callers.LaneLists.{cell-in_lane, row-list}
 pub use Rattle.ndarray.proofs.callers.Lanes.{at_front, cumulate-always, lane-maps, lanes-follow, lanes-summable, select-none}
-pub use Rattle.ndarray.proofs.callers.Mapping.{maps-follow, maps-follow-twice}
+pub use Rattle.ndarray.proofs.callers.Mapping.{mapped-array_by, mapped-at, maps-follow, maps-follow-twice}
 pub use Rattle.ndarray.proofs.callers.MatrixPowers.{identity-neutral, made-first, made-sum, power, power-columns, power-rows, power-same, powers-add, powers-multiply, total-single}
 pub use Rattle.ndarray.proofs.callers.MatrixSums.{general-matrix, multiple-matrix, scaled_sum-matrix, sum-matrix}
 pub use Rattle.ndarray.proofs.callers.Maxima.{greatest-bounds, greatest-reached}
@@ -79,14 +79,14 @@ pub use Rattle.ndarray.proofs.callers.ProductChains.{gram, product-of_left, prod
 pub use Rattle.ndarray.proofs.callers.Products.{below-same, column-cells, entry-product, entry-summable, matrix-by_vector, matrix-cells, matrix-shapes, one-length, product-last, row-product, rows-summable, two-lengths, vector-shapes}
 pub use Rattle.ndarray.proofs.callers.Rectangles.{part-whole, rectangle-in_range, window-rectangle}
 pub use Rattle.ndarray.proofs.callers.RowOrder.{box_in-rearranges, fold-cells, fold-in_row_order, fold-over-cells, fold-rearranged, in_row, list_all-cells, list_all-in_row_order, list_any-cells, list_any-in_row_order, turns-over-cells}
-pub use Rattle.ndarray.proofs.callers.RowsBelow.{first-and-rest, row-below}
+pub use Rattle.ndarray.proofs.callers.RowsBelow.{row-below}
 pub use Rattle.ndarray.proofs.callers.RunningTotals.{scan-leaves, totals-made}
-pub use Rattle.ndarray.proofs.callers.SameMatrices.{block-products-same, column-as, kronecker-same, lengths-reversed, made-as, made-column, made-matrix, made-same, magnitudes-same, matrix-by, own-matrix, product-same, same-back, same-self, same-then, sums-same, transpose-matrix, two-indices}
+pub use Rattle.ndarray.proofs.callers.SameMatrices.{below-two, block-products-same, column-as, kronecker-same, lengths-reversed, made-as, made-column, made-matrix, made-same, magnitudes-same, matrix-by, own-matrix, product-same, same-back, same-self, same-then, sums-same, transpose-matrix, two-indices}
 pub use Rattle.ndarray.proofs.callers.Scanning.{StaysInRange, SumFits, may-scan-sums, may-scan_lanes, scan-folds, scan-folds-in-range, scan-follows, scan-sums}
 pub use Rattle.ndarray.proofs.callers.Stacking.{items-stack, stack-by_joining}
 pub use Rattle.ndarray.proofs.callers.SummableParts.{axis_item-summable, axis_part-summable, items-summable, window-summable}
 pub use Rattle.ndarray.proofs.callers.TableRows.{row-is, row-lanes, rows-mapped}
-pub use Rattle.ndarray.proofs.callers.Testing.{HoldsAt, HoldsOf, all-decides, all-holds, all_or_any, any-decides, may-decide, may-test, test-follows, tested-cells, tested-holds, tested-pairs}
+pub use Rattle.ndarray.proofs.callers.Testing.{HoldsAt, HoldsOf, all-decides, all-holds, all_or_any, any-decides, list_all-at, list_all-each, may-decide, may-test, test-follows, tested-cells, tested-holds, tested-pairs}
 pub use Rattle.ndarray.proofs.callers.Totals.{axis_sums, total-append, total-in_range, total-plus, total-swap}
 pub use Rattle.ndarray.proofs.callers.TriangleParts.{parts-combine, parts-same}
 pub use Rattle.ndarray.proofs.callers.Triangles.{cleared-cell, int_le-false, int_le-true, kept-cell}

@@ -1,5 +1,6 @@
 -- Elements whose values are whole numbers, and the products of arrays of them.
-use Rattle.std.specs.Prelude.{◌≡◌, ◌↔◌, ℕ, ℤ, pos, ◌+ℤ◌, ◌*ℤ◌, ◌<◌}
+use Rattle.std.specs.Prelude.{◌≡◌, ◌↔◌, ℕ, ℤ, pos, ◌+ℤ◌, ◌*ℤ◌, ◌<◌, FitsSigned}
+use Rattle.std.specs.Int.{w64}
 use Rattle.ndarray.specs.Integers.{int_products, int_sums}
 use Rattle.ndarray.specs.Matrices.{Matrix, inner_products}
 use Rattle.ndarray.specs.Products.{magnitude_sum}
@@ -18,6 +19,10 @@ pub record HasWholeValues {A : Type 0} (e : ValuedGhosts A) (number : A → ℤ)
 -- whole numbers as the values of elements
 abbrev pub whole_numbers : {A : Type 0} → (A → ℤ) → (ℤ → Type 0) → ValuedGhosts A
 whole_numbers number fits = record { Carrier = ℤ; addition = int_sums; multiplication = int_products; meaning = number; InRange = fits }
+
+-- whole numbers as the values of `i64`
+abbrev pub i64_values : ValuedGhosts ℤ
+i64_values = whole_numbers (λ x. x) (FitsSigned w64)
 
 -- the absolute values of the products of each inner sum add up to a number that fits
 abbrev pub HasMagnitudesInRange : (ℤ → Type 0) → Matrix ℤ → Matrix ℤ → Type 0

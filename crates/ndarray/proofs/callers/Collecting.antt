@@ -1,5 +1,5 @@
 -- `map_collect`, and arrays made in that way.
-use Rattle.std.proofs.Common.{◌≡◌, ℕ, List, [], ◌∷◌, ◌++◌, Option, Some, None, Ok, Err, length, remove, arith, ◌<◌, refl, subst, sym, ap, All}
+use Rattle.std.proofs.Common.{◌≡◌, ℕ, List, [], ◌∷◌, ◌++◌, Option, Some, None, Ok, Err, length, remove, arith, ◌<◌, refl, subst, sym, All}
 use Rattle.std.specs.Prelude.{Result, IfOk, IfSome}
 use Rattle.std.specs.List.{AllByRecursion}
 use Rattle.ndarray.specs.Index.{InBox}
@@ -9,9 +9,10 @@ use Rattle.ndarray.specs.Subviews.{lane, lanes_along}
 use Rattle.ndarray.specs.Runs.{Collects, MayGather, TurnAt, TakesAt, GatherTurn}
 use Rattle.ndarray.specs.declared.base.shape.Order.{Order}
 use Rattle.ndarray.proofs.boxes.Orders.{box_in-within}
+pub use Rattle.ndarray.proofs.callers.Elementwise.{array_by-at}
 use Rattle.ndarray.proofs.callers.Elementwise.{array_by-follows}
 use Rattle.ndarray.proofs.callers.Folding.{may-by}
-use Rattle.ndarray.proofs.cells.Cells.{array_by-cell, cell-inside}
+use Rattle.ndarray.proofs.cells.Cells.{cell-inside}
 use Rattle.ndarray.proofs.cells.CollectedCells.{Collects-at}
 use Rattle.ndarray.proofs.lists.Elements.{All-to_recursion}
 
@@ -60,10 +61,3 @@ if_some-both None P Q W to p q = p
 pub lanes_of-some : {A : Type 0} (ns : List ℕ) (g : Grid A) (k : ℕ) → 0 < length ns → lanes_along ns g k ≡ array_by (remove ns k) (lane g k)
 lanes_of-some [] g k h = absurd (omega arith)
 lanes_of-some (n ∷ ns) g k h = refl
-
--- the cell of an array made by a function of the index list
-pub array_by-at : {B : Type 0} (ns : List ℕ) (f : List ℕ → B) (w : Grid B) (i : List ℕ) (x : B) → w ≡ array_by ns f → InBox w.lengths i → cell w i ≡ Some x → x ≡ f i
-array_by-at ns f w i x e b s =
-    let at = array_by-cell ns f i (subst (λ v. InBox v.lengths i) e b) in
-    let k : cell w i ≡ cell (array_by ns f) i = ap (λ v. cell v i) e in
-    cc

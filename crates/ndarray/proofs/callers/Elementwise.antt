@@ -1,5 +1,6 @@
 -- Operators between arrays of the same lengths, and between an array and a row.
-use Rattle.std.proofs.Common.{◌≡◌, ◌∙◌, ℕ, List, [], ◌∷◌, Some, ap, subst, sym}
+use Rattle.std.proofs.Common.{◌≡◌, ◌∙◌, ◌<◌, ℕ, List, [], ◌∷◌, Some, ap, arith, length, refl, remove, subst, sym}
+use Rattle.std.specs.Prelude.{slice_index}
 use Rattle.ndarray.specs.Broadcast.{BroadcastsTo, broadcast_lengths}
 use Rattle.ndarray.specs.Elementwise.{Assigns, CanAssign, CanCombine, Combines}
 use Rattle.ndarray.specs.Everyday.{combined}
@@ -20,6 +21,13 @@ array_by-follows r ns f whole e at =
     (λ is b.
     let (z, there) = cell-Some r whole is b in
     there ∙ (ap (λ v. Some v) (at is z there) ∙ sym (array_by-cell ns f is (subst (λ ms. InBox ms is) e b))))
+
+-- the cell of an array made by a function of the index list
+pub array_by-at : {B : Type 0} (ns : List ℕ) (f : List ℕ → B) (w : Grid B) (i : List ℕ) (x : B) → w ≡ array_by ns f → InBox w.lengths i → cell w i ≡ Some x → x ≡ f i
+array_by-at ns f w i x e b s =
+    let at = array_by-cell ns f i (subst (λ v. InBox v.lengths i) e b) in
+    let k : cell w i ≡ cell (array_by ns f) i = ap (λ v. cell v i) e in
+    cc
 
 -- Two arrays of the same lengths.
 module _ {A B : Type 0} (g : Grid A) (h : Grid B) (left_whole : IsGrid g) (right_whole : IsGrid h) (same : g.lengths ≡ h.lengths) where
@@ -95,3 +103,28 @@ module _ {A B : Type 0} (g : Grid A) (h : Grid B) (whole : IsGrid h) (n : ℕ) (
       (λ is z there.
       let (x, y, at, given) = c.cells is z there in
       given-below gives f each is x y z at given)
+
+pub first-and-rest : (ns : List ℕ) → 0 < length ns → ns ≡ slice_index ns 0 ∷ remove ns 0
+first-and-rest [] some = absurd (omega arith)
+first-and-rest (n ∷ ns) some = refl
+
+-- The same of a row that is known, by what it has at each index list.
+module _ {A B : Type 0} (g : Grid A) (h : Grid B) (m : List ℕ → B) (some : 0 < length g.lengths) (made : h ≡ array_by (remove g.lengths 0) m) where
+  made-whole : IsGrid h
+  made-whole = subst IsGrid (sym made) (array_by-whole (remove g.lengths 0) m)
+
+  made-long : g.lengths ≡ slice_index g.lengths 0 ∷ h.lengths
+  made-long = first-and-rest g.lengths some ∙ ap (λ v. slice_index g.lengths 0 ∷ v.lengths) (sym made)
+
+  made-at : (js : List ℕ) (y : B) → cell h js ≡ Some y → y ≡ m js
+  made-at js y below = array_by-at (remove g.lengths 0) m h js y made (cell-inside h js y below) below
+
+  pub can-assign-row-by : (can : A → B → Type 0) → ((i : ℕ) (js : List ℕ) (x : A) → cell g (i ∷ js) ≡ Some x → can x (m js)) → CanAssign can g h
+  can-assign-row-by can each =
+      can-assign-row g h made-whole (slice_index g.lengths 0) made-long can (λ i js x y above below. subst (can x) (sym (made-at js y below)) (each i js x above))
+
+  pub assign_row-by : (gives : A → B → A → Type 0) (new : Grid A) (f : List ℕ → A) → ((i : ℕ) (js : List ℕ) (x z : A) → cell g (i ∷ js) ≡ Some x → gives x (m js) z → z ≡ f (i ∷ js))
+      → Assigns gives g h new → new ≡ array_by g.lengths f
+  assign_row-by gives new f each =
+      assign_row-follows g h made-whole (slice_index g.lengths 0) made-long gives new f
+      (λ i js x y z above below given. each i js x z above (subst (λ w. gives x w z) (made-at js y below) given))

@@ -1,5 +1,5 @@
 -- A row put under a table: the table joined along the first axis with the row as a table of one row.
-use Rattle.std.proofs.Common.{◌≡◌, ◌∙◌, ◌+◌, ◌-◌, ◌<◌, ℕ, Bool, true, false, if◌then◌else◌, List, [], ◌∷◌, Option, Some, None, ap, arith, drop, length, refl, remove, subst, sym}
+use Rattle.std.proofs.Common.{◌≡◌, ◌∙◌, ◌+◌, ◌-◌, ◌<◌, ℕ, Bool, true, false, if◌then◌else◌, List, [], ◌∷◌, Option, Some, None, ap, arith, drop, refl, subst, sym}
 use Rattle.std.specs.Prelude.{nat_lt, slice_index}
 use Rattle.std.proofs.lemmas.Bool.{ltb-false}
 use Rattle.ndarray.specs.Grid.{Grid, IsGrid, array_by, cell}
@@ -9,10 +9,6 @@ use Rattle.ndarray.specs.Views.{axis_inserted}
 use Rattle.ndarray.proofs.callers.Broadcasting.{axis_inserted-cell}
 use Rattle.ndarray.proofs.callers.Elementwise.{array_by-follows}
 use Rattle.ndarray.proofs.cells.Cells.{cell-inside, tabulate-cell}
-
-pub first-and-rest : (ns : List ℕ) → 0 < length ns → ns ≡ slice_index ns 0 ∷ remove ns 0
-first-and-rest [] some = absurd (omega arith)
-first-and-rest (n ∷ ns) some = refl
 
 module _ {A : Type 0} (g row : Grid A) (n : ℕ) (whole : IsGrid row) (long : g.lengths ≡ n ∷ row.lengths) where
   inserted : (js : List ℕ) → InBox row.lengths js → cell (axis_inserted row 0) (0 ∷ js) ≡ cell row js

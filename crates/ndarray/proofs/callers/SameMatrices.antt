@@ -41,6 +41,16 @@ two-indices n m (i ∷ []) b = absurd b.1
 two-indices n m (i ∷ j ∷ []) b = (i, j, refl, b.0, b.1.0)
 two-indices n m (i ∷ j ∷ k ∷ is) b = absurd b.1.1
 
+-- what holds at each row and column of two by two holds at all
+pub below-two : (P : ℕ → ℕ → Type 0) → P 0 0 → P 0 1 → P 1 0 → P 1 1 → (i j : ℕ) → i < 2 → j < 2 → P i j
+below-two P a b c d zero zero l m = a
+below-two P a b c d zero (suc zero) l m = b
+below-two P a b c d (suc zero) zero l m = c
+below-two P a b c d (suc zero) (suc zero) l m = d
+below-two P a b c d (suc (suc i)) j l m = absurd (omega (arith, l))
+below-two P a b c d zero (suc (suc j)) l m = absurd (omega (arith, m))
+below-two P a b c d (suc zero) (suc (suc j)) l m = absurd (omega (arith, m))
+
 -- an index list of a box of one length
 one-index : (n : ℕ) (is : List ℕ) → InBox (n ∷ []) is → (i : ℕ) × (is ≡ i ∷ []) × (i < n)
 one-index n [] b = absurd b

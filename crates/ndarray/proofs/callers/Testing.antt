@@ -3,13 +3,15 @@ use Rattle.std.proofs.Common.{◌≡◌, ℕ, List, [], ◌∷◌, ◌++◌, Boo
 use Rattle.std.proofs.Math.Bool.{not}
 use Rattle.std.specs.Prelude.{All, IsTrue, ◌↔◌, ⊤}
 use Rattle.std.specs.List.{AllByRecursion, FoldsTo, list_all, list_any}
-use Rattle.std.proofs.lemmas.List.Elements.{All-contains}
+use Rattle.std.proofs.lemmas.List.Elements.{All-contains, All-weaker}
+use Rattle.std.proofs.lemmas.List.Sums.{AllPass-from_list_all, list_all-from_AllPass}
 use Rattle.ndarray.specs.Elementwise.{CanMap}
 use Rattle.ndarray.specs.Grid.{Grid, cell}
-use Rattle.ndarray.specs.Index.{InBox}
+use Rattle.ndarray.specs.Index.{InBox, row_order}
 use Rattle.ndarray.specs.Orders.{box_in}
 use Rattle.ndarray.specs.Runs.{AnswerTurn, MayTest, RunsUntil, TakesAt, TurnAt}
 use Rattle.ndarray.specs.declared.base.shape.Order.{Order}
+use Rattle.ndarray.specs.declared.base.shape.Order.TheVariants.{RowMajor}
 use Rattle.ndarray.proofs.boxes.Orders.{box-contains, box_in-within}
 use Rattle.ndarray.proofs.callers.Collecting.{All-middle}
 use Rattle.ndarray.proofs.callers.Folding.{may-by}
@@ -111,6 +113,14 @@ module _ {F : Type 0} (goes : F → List ℕ → F → Type 0) (stops : F → Li
         | inl h ↦ everywhere P done h.0 w.0
         | inr h ↦ let off : r ≡ false = stop _ _ h.3 in absurd (cc)
       ]
+
+-- A test of all index lists of a box in row order says yes exactly where the test does at each.
+module _ (t : List ℕ → Bool) (ns : List ℕ) where
+  pub list_all-at : list_all t (row_order ns) ≡ true → (is : List ℕ) → InBox ns is → t is ≡ true
+  list_all-at all is inside = All-contains (λ js. t js ≡ true) (row_order ns) is (AllPass-from_list_all t (row_order ns) all) (box-contains RowMajor ns is inside)
+
+  pub list_all-each : ((is : List ℕ) → InBox ns is → t is ≡ true) → list_all t (row_order ns) ≡ true
+  list_all-each each = list_all-from_AllPass t (row_order ns) (All-weaker (InBox ns) (λ js. t js ≡ true) each (row_order ns) (box_in-within RowMajor ns))
 
 -- P holds of the cell at an index list; of the cells of two arrays there
 abbrev pub HoldsAt : {A : Type 0} → (A → Type 0) → Grid A → List ℕ → Type 0

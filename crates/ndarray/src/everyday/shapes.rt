@@ -1,6 +1,6 @@
 //! The lengths of arrays, the rows and columns of matrices, and the first and last cell.
 
-ghost use Rattle.std.specs.Prelude.{◌≡◌, ◌↔◌, ◌<◌, ◌-◌, IsTrue, length, slice_get, slice_index};
+ghost use Rattle.std.specs.Prelude.{◌≡◌, ◌↔◌, ◌<◌, ◌-◌, ◌^◌, IsTrue, length, slice_get, slice_index};
 ghost use Rattle.std.specs.Option.{option_copied};
 ghost use Rattle.ndarray.specs.Grid.{IsGrid};
 ghost use Rattle.ndarray.specs.Index.{size};
@@ -76,9 +76,11 @@ impl<S: Data> ArrayBase<S, Ix2> {
     /// assert_eq!(a.nrows(), 2);
     /// ```
     pub fn nrows(&self) -> usize
-        ensures { result ≡ slice_index self.now.lengths 0 }
+        ensures value { result ≡ slice_index self.now.lengths 0 }
+        ensures fits { result < 2 ^ 63 }
     {
-        self.shape()[0]
+        let _axes = self.ndim();
+        self.len_of(Axis(0))
     }
 
     /// The number of columns, which is the length of axis 1.
@@ -88,9 +90,11 @@ impl<S: Data> ArrayBase<S, Ix2> {
     /// assert_eq!(a.ncols(), 3);
     /// ```
     pub fn ncols(&self) -> usize
-        ensures { result ≡ slice_index self.now.lengths 1 }
+        ensures value { result ≡ slice_index self.now.lengths 1 }
+        ensures fits { result < 2 ^ 63 }
     {
-        self.shape()[1]
+        let _axes = self.ndim();
+        self.len_of(Axis(1))
     }
 
     /// Row `index`, which is item `index` along axis 0.
