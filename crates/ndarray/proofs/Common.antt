@@ -28,8 +28,10 @@ pub use Rattle.ndarray.specs.Diagonals.{diagonal_of}
 pub use Rattle.ndarray.specs.Elementwise.{CanCombine, CanMap, Combines, Maps}
 pub use Rattle.ndarray.specs.Errors.{shape_error}
 pub use Rattle.ndarray.specs.Everyday.{combined, lanes_mapped, mapped, same_arrays}
-pub use Rattle.ndarray.specs.Grid.{Grid, IsGrid, array_by, cell, grid, one_axis, tabulate}
-pub use Rattle.ndarray.specs.Index.{InBox, column_order, row_order, size}
+unfoldable pub use Rattle.ndarray.specs.Grid.{cell}
+pub use Rattle.ndarray.specs.Grid.{Grid, IsGrid, array_by, grid, one_axis, tabulate}
+unfoldable pub use Rattle.ndarray.specs.Index.{row_order}
+pub use Rattle.ndarray.specs.Index.{InBox, column_order, size}
 pub use Rattle.ndarray.specs.Integers.{int_products, int_sums}
 pub use Rattle.ndarray.specs.Joining.{concatenate_error, concatenation, shapes_of, stack_error, stack_of}
 pub use Rattle.ndarray.specs.Laws.{ArePartsOf}

@@ -1,21 +1,20 @@
 -- Products of three arrays of numbers, of any number of axes.
-use Rattle.ndarray.proofs.Common.{◌≡◌, ◌∙◌, ◌↔◌, ◌-◌, ◌≤◌, FitsSigned, ℤ, Option, None, Some, ap, arith, get_or, inl, length, refl, subst, sym, w64, IfSome, IsSome, Grid, HasValues, IsGrid, ShapesMultiply, array_by-at, array_by-follows, array_by-whole, cell-inside, dot_entries, product-last, product_lengths}
+use Rattle.ndarray.proofs.Common.{◌≡◌, ◌∙◌, ◌↔◌, ◌-◌, ◌≤◌, FitsSigned, ℤ, Option, None, Some, ap, arith, get_or, inl, length, refl, subst, sym, w64, IfSome, IsSome, Grid, HasValues, IsGrid, ShapesMultiply, array_by-at, array_by-follows, array_by-whole, cell-inside, dot_entries, product-last, product_lengths, i64_values}
 use Rattle.ndarray.specs.DotLaws.{DotsAssociate}
 use Rattle.ndarray.specs.DotRanges.{HasLaneMagnitudesInRange}
 use Rattle.ndarray_examples.specs.Dots.{CanMultiply, CanMultiplyInTurn, dot_of}
-use Rattle.ndarray_examples.specs.RangeTests.{whole_i64}
 
-made-is : (a b r : Grid ℤ) → HasValues whole_i64 (product_lengths a.lengths b.lengths) (dot_entries whole_i64 a b) r → r ≡ dot_of a b
-made-is a b r h = array_by-follows r (product_lengths a.lengths b.lengths) (dot_entries whole_i64 a b) h.whole h.lengths h.cells
+made-is : (a b r : Grid ℤ) → HasValues i64_values (product_lengths a.lengths b.lengths) (dot_entries i64_values a b) r → r ≡ dot_of a b
+made-is a b r h = array_by-follows r (product_lengths a.lengths b.lengths) (dot_entries i64_values a b) h.whole h.lengths h.cells
 
-has-values : (a b : Grid ℤ) → HasValues whole_i64 (product_lengths a.lengths b.lengths) (dot_entries whole_i64 a b) (dot_of a b)
+has-values : (a b : Grid ℤ) → HasValues i64_values (product_lengths a.lengths b.lengths) (dot_entries i64_values a b) (dot_of a b)
 has-values a b = record {
   lengths = refl;
-  whole = array_by-whole (product_lengths a.lengths b.lengths) (dot_entries whole_i64 a b);
-  cells = λ is z here. array_by-at (product_lengths a.lengths b.lengths) (dot_entries whole_i64 a b) (dot_of a b) is z refl (cell-inside (dot_of a b) is z here) here;
+  whole = array_by-whole (product_lengths a.lengths b.lengths) (dot_entries i64_values a b);
+  cells = λ is z here. array_by-at (product_lengths a.lengths b.lengths) (dot_entries i64_values a b) (dot_of a b) is z refl (cell-inside (dot_of a b) is z here) here;
 }
 
-in-either_turn : DotsAssociate whole_i64 → (a b c : Grid ℤ) → IsGrid a → IsGrid b → IsGrid c → 2 ≤ length b.lengths → length c.lengths ≡ 2 → ShapesMultiply a.lengths b.lengths → ShapesMultiply (dot_of a b).lengths c.lengths
+in-either_turn : DotsAssociate i64_values → (a b c : Grid ℤ) → IsGrid a → IsGrid b → IsGrid c → 2 ≤ length b.lengths → length c.lengths ≡ 2 → ShapesMultiply a.lengths b.lengths → ShapesMultiply (dot_of a b).lengths c.lengths
     → dot_of (dot_of a b) c ≡ dot_of a (dot_of b c)
 in-either_turn associates a b c whole_a whole_b whole_c middle right first second =
     let associate = associates a b c (dot_of a b) (dot_of b c) record {
@@ -27,17 +26,17 @@ in-either_turn associates a b c whole_a whole_b whole_c middle right first secon
       left_inner = first.inner;
       right_inner = sym (product-last a.lengths b.lengths first.left middle) ∙ (second.inner ∙ ap (λ n. get_or c.lengths (n - 2) 0) right);
     } (has-values a b) (has-values b c) in
-    array_by-follows (dot_of (dot_of a b) c) (product_lengths a.lengths (dot_of b c).lengths) (dot_entries whole_i64 a (dot_of b c)) (array_by-whole (product_lengths (dot_of a b).lengths c.lengths) (dot_entries whole_i64 (dot_of a b) c)) associate.lengths
+    array_by-follows (dot_of (dot_of a b) c) (product_lengths a.lengths (dot_of b c).lengths) (dot_entries i64_values a (dot_of b c)) (array_by-whole (product_lengths (dot_of a b).lengths c.lengths) (dot_entries i64_values (dot_of a b) c)) associate.lengths
     (λ is z here.
     let inside = cell-inside (dot_of (dot_of a b) c) is z here in
-    array_by-at (product_lengths (dot_of a b).lengths c.lengths) (dot_entries whole_i64 (dot_of a b) c) (dot_of (dot_of a b) c) is z refl inside here ∙ associate.entries is inside)
+    array_by-at (product_lengths (dot_of a b).lengths c.lengths) (dot_entries i64_values (dot_of a b) c) (dot_of (dot_of a b) c) is z refl inside here ∙ associate.entries is inside)
 
 -- what `checked_dynamic_product` says of two arrays and what it gives
 abbrev Fits : Grid ℤ → Grid ℤ → Type 0
 Fits a b = ShapesMultiply a.lengths b.lengths × HasLaneMagnitudesInRange (λ x. x) (FitsSigned w64) a b
 
 abbrev HasProduct : Grid ℤ → Grid ℤ → Grid ℤ → Type 0
-HasProduct a b = HasValues whole_i64 (product_lengths a.lengths b.lengths) (dot_entries whole_i64 a b)
+HasProduct a b = HasValues i64_values (product_lengths a.lengths b.lengths) (dot_entries i64_values a b)
 
 -- the product of the first two was made
 pub record FirstMade (a b first : Grid ℤ) : Type 0 where
@@ -64,7 +63,7 @@ module _ (a b c first : Grid ℤ) (one : FirstMade a b first) (middle : 2 ≤ le
       left None h = h
       left (Some r) h = made-is first c r h ∙ ap (λ w. dot_of w c) one.is
 
-  pub from-right : DotsAssociate whole_i64 → IsGrid a → IsGrid b → IsGrid c → IfSome o (HasProduct first c) → IfSome o (λ r. r ≡ dot_of a (dot_of b c))
+  pub from-right : DotsAssociate i64_values → IsGrid a → IsGrid b → IsGrid c → IfSome o (HasProduct first c) → IfSome o (λ r. r ≡ dot_of a (dot_of b c))
   from-right associates whole_a whole_b whole_c product = turned o when (from-left product)
     where
       turned : (w : Option (Grid ℤ)) → (IsSome w ↔ Fits first c) → IfSome w (λ r. r ≡ dot_of (dot_of a b) c) → IfSome w (λ r. r ≡ dot_of a (dot_of b c))

@@ -4,11 +4,11 @@ use Rattle.std.specs.Int.{w64}
 use Rattle.ndarray.specs.DotRanges.{HasLaneMagnitudesInRange}
 use Rattle.ndarray.specs.Grid.{Grid, array_by}
 use Rattle.ndarray.specs.Products.{ShapesMultiply, dot_entries, product_lengths}
-use Rattle.ndarray_examples.specs.RangeTests.{whole_i64}
+use Rattle.ndarray.specs.WholeValues.{i64_values}
 
 -- the product of two arrays
 abbrev pub dot_of : Grid ℤ → Grid ℤ → Grid ℤ
-dot_of a b = array_by (product_lengths a.lengths b.lengths) (dot_entries whole_i64 a b)
+dot_of a b = array_by (product_lengths a.lengths b.lengths) (dot_entries i64_values a b)
 
 -- two arrays multiply, and at each index list of the product the absolute values of the products of the two lanes add up to an i64
 pub record CanMultiply (a b : Grid ℤ) : Type 0 where

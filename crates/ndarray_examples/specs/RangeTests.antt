@@ -7,8 +7,7 @@ use Rattle.ndarray.specs.Matrices.{Matrix}
 use Rattle.ndarray.specs.Products.{ShapesMultiply, column_of, matrix_of, product_of, products_of}
 use Rattle.ndarray.specs.Sums.{total}
 use Rattle.ndarray.specs.Views.{axis_item}
-use Rattle.ndarray.specs.WholeValues.{HasMagnitudesInRange, whole_numbers}
-use Rattle.ndarray.specs.declared.elements.Valued.{Ghosts as ValuedGhosts}
+use Rattle.ndarray.specs.WholeValues.{HasMagnitudesInRange, i64_values}
 use Rattle.ndarray_examples.specs.Callers.{whole_number}
 
 -- the product of the first n numbers on the diagonal of a matrix
@@ -33,25 +32,21 @@ product_of_two x y is = whole_number (cell x (slice_index is 0 ∷ [])) *ℤ who
 abbrev pub amplified_at : ℤ → ℕ → Grid ℤ → List ℕ → ℤ
 amplified_at gain bits signal is = int_shr (whole_number (cell signal is) *ℤ gain) bits
 
--- the elements of type i64, whose values are the whole numbers
-abbrev pub whole_i64 : ValuedGhosts ℤ
-whole_i64 = whole_numbers (λ x. x) (FitsSigned w64)
-
 -- the products of the numbers of a row of a table and those of a vector, added up
 abbrev pub projected_at : Grid ℤ → Grid ℤ → List ℕ → ℤ
 projected_at points direction is = total int_sums (products_of int_products (λ x. x) (axis_item points 0 (slice_index is 0)).cells direction.cells)
 
 -- a matrix times a vector
 abbrev pub applied : Grid ℤ → Grid ℤ → Matrix ℤ
-applied a x = product_of whole_i64 (matrix_of whole_i64 a) (column_of whole_i64 x)
+applied a x = product_of i64_values (matrix_of i64_values a) (column_of i64_values x)
 
 -- and the matrix times that
 abbrev pub applied_twice : Grid ℤ → Grid ℤ → Matrix ℤ
-applied_twice a x = product_of whole_i64 (matrix_of whole_i64 a) (applied a x)
+applied_twice a x = product_of i64_values (matrix_of i64_values a) (applied a x)
 
 -- a matrix is square, it and a vector multiply, and the absolute values of the products of both inner sums add up to an i64
 pub record MayApplyTwice (a x : Grid ℤ) : Type 0 where
   pub square : slice_index a.lengths 0 ≡ slice_index a.lengths 1
   pub shapes : ShapesMultiply a.lengths x.lengths
-  pub once : HasMagnitudesInRange (FitsSigned w64) (matrix_of whole_i64 a) (column_of whole_i64 x)
-  pub twice : HasMagnitudesInRange (FitsSigned w64) (matrix_of whole_i64 a) (applied a x)
+  pub once : HasMagnitudesInRange (FitsSigned w64) (matrix_of i64_values a) (column_of i64_values x)
+  pub twice : HasMagnitudesInRange (FitsSigned w64) (matrix_of i64_values a) (applied a x)

@@ -12,8 +12,8 @@ ghost use Rattle.ndarray.specs.Integers.{int_products, int_sums, magnitude_produ
 ghost use Rattle.ndarray.specs.Limits.{IsWithinLimit};
 ghost use Rattle.ndarray.specs.Products.{HasValues, ShapesMultiply, column_entries, column_of, magnitude_sum, matrix_entries, matrix_of, product_of, products_of};
 ghost use Rattle.ndarray.specs.Sums.{IsSummableBy, total, total_by};
-ghost use Rattle.ndarray.specs.WholeValues.{HasMagnitudesInRange, whole_numbers};
-ghost use Rattle.ndarray_examples.specs.RangeTests.{AreProductsInRange, HasDiagonalInRange, MayApplyTwice, amplified_at, applied_twice, diagonal_product, product_of_two, projected_at, whole_i64};
+ghost use Rattle.ndarray.specs.WholeValues.{HasMagnitudesInRange, whole_numbers, i64_values};
+ghost use Rattle.ndarray_examples.specs.RangeTests.{AreProductsInRange, HasDiagonalInRange, MayApplyTwice, amplified_at, applied_twice, diagonal_product, product_of_two, projected_at};
 
 use ndarray::linalg::entries_fit;
 use ndarray::reduce::{checked_dot, dot_fits};
@@ -256,9 +256,9 @@ pub fn projections<S: Data<Elem = i64>, T: Data<Elem = i64>>(
     points: &ArrayBase<S, Ix2>,
     direction: &ArrayBase<T, Ix1>,
 ) -> Checked<i64, Ix1>
-    ensures when { IfOk result (λ made. IsSome made ↔ (ShapesMultiply points.now.lengths direction.now.lengths × HasMagnitudesInRange (FitsSigned w64) (matrix_of whole_i64 points.now) (column_of whole_i64 direction.now))) }
+    ensures when { IfOk result (λ made. IsSome made ↔ (ShapesMultiply points.now.lengths direction.now.lengths × HasMagnitudesInRange (FitsSigned w64) (matrix_of i64_values points.now) (column_of i64_values direction.now))) }
     ensures sums { IfOk result (λ made. IfSome made (λ r. r ≡ array_by (slice_index points.now.lengths 0 ∷ []) (projected_at points.now direction.now))) }
-    ensures error { IfErr result (λ _. ShapesMultiply points.now.lengths direction.now.lengths × HasMagnitudesInRange (FitsSigned w64) (matrix_of whole_i64 points.now) (column_of whole_i64 direction.now) × (slice_index points.now.lengths 0 ≢ 0)) }
+    ensures error { IfErr result (λ _. ShapesMultiply points.now.lengths direction.now.lengths × HasMagnitudesInRange (FitsSigned w64) (matrix_of i64_values points.now) (column_of i64_values direction.now) × (slice_index points.now.lengths 0 ≢ 0)) }
 {
     let _lengths = (points.raw_dim(), direction.raw_dim());
     if !entries_fit(points, direction) {
@@ -276,7 +276,7 @@ pub fn apply_twice(
     x: &ArrayView<'_, i64, Ix1>,
 ) -> Checked<i64, Ix1>
     ensures when { IfOk result (λ made. IsSome made ↔ MayApplyTwice a.now x.now) }
-    ensures product { IfOk result (λ made. IfSome made (HasColumn whole_i64 (applied_twice a.now x.now))) }
+    ensures product { IfOk result (λ made. IfSome made (HasColumn i64_values (applied_twice a.now x.now))) }
     ensures error { IfErr result (λ _. slice_index a.now.lengths 0 ≢ 0) }
 {
     let Some(once) = checked_matrix_times_vector(alloc, a, x)? else {

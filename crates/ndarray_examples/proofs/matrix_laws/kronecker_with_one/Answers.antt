@@ -1,10 +1,9 @@
-use Rattle.ndarray.proofs.Common.{◌≡◌, subst, IfSome, HasMatrix, identity_matrix, int_products, int_sums, matrix_of, if_ok-both, if_some-both, kronecker-same, made-matrix, made-same, own-matrix, same-self, same-then}
-use Rattle.ndarray_examples.specs.RangeTests.{whole_i64}
+use Rattle.ndarray.proofs.Common.{◌≡◌, subst, IfSome, HasMatrix, identity_matrix, int_products, int_sums, matrix_of, if_ok-both, if_some-both, kronecker-same, made-matrix, made-same, own-matrix, same-self, same-then, i64_values}
 use Rattle.ndarray_examples.proofs.matrix_laws.kronecker_with_one.Goals as goal
 
 pub returns : goal.returns
 returns g c =
-    let e = whole_i64 in
+    let e = i64_values in
     let a = c.args.a.now in
     let id = identity_matrix int_sums int_products 1 in
     let one : HasMatrix e id c.in-Some.one = subst (λ o. IfSome o (HasMatrix e id)) c.in-Some.is c.in_ok-one.ensures.matrix in
