@@ -1,4 +1,5 @@
 pub mod Callers
+pub mod Centring
 pub mod Chains
 pub mod Dots
 pub mod Filters

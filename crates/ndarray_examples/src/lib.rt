@@ -3,6 +3,7 @@
 #![tactic(auto)]
 
 pub mod algebra;
+pub mod centring;
 pub mod counting;
 pub mod dots;
 pub mod everyday;
